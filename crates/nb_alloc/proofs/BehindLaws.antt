@@ -1,30 +1,7 @@
 -- A page that is written after a search for new pages: what the search leaves of it.
-use Rattle.std.proofs.Common.{◌≡◌, ◌≢◌, ◌⊎◌, inl, inr, ℕ, ◌/◌, ◌<◌, ◌≤◌, List, [], ◌∷◌, length, refl, sym, ap, subst, ◌∙◌, arith}
-use Rattle.std.specs.Prelude.{Bool, true, false, not, ◌==◌, ◌||◌, nat_lt, min, IsTrue, Option, Some, None, Result, Ok, Err, IfOk, IfSome, unwrap_or}
-use Rattle.std.proofs.lemmas.Bool.{true≢false}
-use Rattle.std.proofs.lemmas.Bool.Decides.{eqb_tells, leb_tells}
-use Rattle.nb_fields.specs.Places.{is_page_size, entries_in, scn_place, is_inventory_place, is_scn_place, is_system_place, most_pages}
-use Rattle.nb_fields.specs.Kinds.{data_kind, scn_kind}
-use Rattle.nb_host.specs.declared.faults.Fault.{Fault}
-use Rattle.nb_host.specs.declared.faults.Fault.TheVariants.{Refused, Device, Memory}
-use Rattle.nb_host.specs.declared.refusals.Refusal.{Refusal}
-use Rattle.nb_host.specs.declared.refusals.Refusal.TheVariants.{NotDatabase, Full}
-use Rattle.nb_model.specs.Causes.{first_cause, lowest_of, lowest_broken}
-use Rattle.nb_model.specs.Image.{Image, image_size}
-use Rattle.nb_model.specs.Forms.{is_kind, other_kind, has_entry, scn_page_of}
-use Rattle.nb_model.specs.Way.{IsMadeBehind, same_made, made_here, IsFreshBehind, same_fresh, fresh_here}
-use Rattle.nb_model.proofs.ReadLaws.{eq_no, eq_yes}
-use Rattle.nb_model.proofs.SoundLaws.{scn_page_there}
-use Rattle.nb_model.proofs.NewSound.{plain_place}
-use Rattle.nb_model.proofs.OnwardLaws.{kind_same}
-use Rattle.nb_model.proofs.StepLaws.{IsVisited, kind_parts}
-use Rattle.nb_alloc.specs.declared.behind.Behind.{Behind}
-use Rattle.nb_alloc.specs.Behind.{judged, entry_broken, page_in, page_if, IsKnown, EndsAlike, passed, gone}
-use Rattle.nb_alloc.specs.Find.{need_cause}
+use Rattle.std.proofs.Common.{◌≡◌, ◌≢◌, ◌⊎◌, inl, inr, ℕ, ◌/◌, ◌<◌, ◌≤◌, List, [], ◌∷◌, length, refl, sym, ap, subst, ◌∙◌, arith, Bool, true, false, not, ◌==◌, ◌||◌, nat_lt, min, IsTrue, Option, Some, None, Result, Ok, Err, IfOk, IfSome}
+use Rattle.nb_alloc.proofs.Common.{unwrap_or, true≢false, eqb_tells, leb_tells, is_page_size, entries_in, scn_place, is_inventory_place, is_scn_place, is_system_place, most_pages, data_kind, scn_kind, Fault, Refused, Device, Memory, Refusal, NotDatabase, Full, first_cause, lowest_of, lowest_broken, Image, image_size, is_kind, other_kind, has_entry, scn_page_of, IsMadeBehind, same_made, made_here, IsFreshBehind, same_fresh, fresh_here, eq_no, eq_yes, scn_page_there, plain_place, kind_same, IsVisited, kind_parts, Behind, judged, entry_broken, page_in, page_if, IsKnown, EndsAlike, passed, gone, need_cause, scn_place-some, or_false, or_true, kind_found}
 use Rattle.nb_alloc.proofs.PlaceTests.{system_second}
-use Rattle.nb_fields.proofs.PlaceLaws.{scn_place-some}
-use Rattle.nb_host.proofs.PlainLaws.{or_false, or_true}
-use Rattle.nb_model.proofs.RoundLaws.{kind_found}
 
 -- a page is of one kind
 pub one_kind : (x : Image) (a b p : ℕ) → a ≢ b → is_kind x a p ≡ true → is_kind x b p ≡ false

@@ -1,14 +1,7 @@
 -- The first of a turn's causes, and the turn that it makes.
-use Rattle.std.proofs.Common.{◌≡◌, List, [], ◌∷◌, ◌++◌, refl, sym, ap, ◌∙◌, true≢false}
-use Rattle.std.specs.Prelude.{true, false, Some, None}
-use Rattle.nb_host.specs.declared.refusals.Refusal.{Refusal}
-use Rattle.nb_model.specs.declared.reply.Reply.{Reply}
+use Rattle.std.proofs.Common.{◌≡◌, List, [], ◌∷◌, ◌++◌, refl, sym, ap, ◌∙◌, true≢false, true, false, Some, None}
+use Rattle.nb_alloc.proofs.Common.{Refusal, Reply, Stroke, Draft, Cause, first_cause, not_of_form, no_room, Seen, Outcome, says, unless, changes, has_only_told}
 use Rattle.nb_model.specs.declared.reply.Reply.TheVariants.{Refused}
-use Rattle.nb_model.specs.Strokes.{Stroke}
-use Rattle.nb_model.specs.Forms.{Draft}
-use Rattle.nb_model.specs.Causes.{Cause, first_cause, not_of_form, no_room}
-use Rattle.nb_model.specs.Outcomes.{Seen, Outcome, says, unless, changes}
-use Rattle.nb_state.specs.Does.{has_only_told}
 
 -- where there is a cause, and where there is none
 pub unless_refused : (s : Seen) (cause : Cause) (o : Outcome) (r : Refusal) → cause ≡ Some r → unless s cause o ≡ says s (Refused r) []

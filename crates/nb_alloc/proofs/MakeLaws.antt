@@ -1,50 +1,14 @@
 -- Making a page: its strokes and what they leave, and what is never refused where the inventories agree with the pages.
-use Rattle.std.proofs.Common.{◌≡◌, ◌≢◌, ℕ, ◌+◌, ◌-◌, ◌/◌, ◌<◌, ◌≤◌, List, [], ◌∷◌, ◌++◌, length, take, drop, replicate, refl, sym, ap, subst, ◌∙◌, arith}
-use Rattle.std.specs.Prelude.{Bool, true, false, not, IsTrue, None, Result, Ok, IsErr, IsErrAnd, IfErr, max}
-use Rattle.nb_fields.specs.Kinds.{inventory_kind}
-use Rattle.nb_fields.specs.Header.{size_of}
-use Rattle.nb_fields.specs.Places.{is_page_size, bits_in, entries_in, inventory_place, is_inventory_place, is_scn_place}
-use Rattle.nb_fields.specs.Payloads.{inventory_payload, scn_payload}
-use Rattle.nb_fields.proofs.SizeLaws.{SizeFacts, size_facts}
-use Rattle.nb_fields.proofs.PageLaws.{padded_whole}
-use Rattle.nb_fields.specs.Page.{kind_of, stamped, with_payload}
-use Rattle.nb_host.specs.World.{World}
-use Rattle.nb_host.specs.declared.faults.Fault.{Fault}
-use Rattle.nb_host.specs.declared.faults.Fault.TheVariants.{Device}
-use Rattle.nb_host.specs.declared.refusals.Refusal.TheVariants.{NotDatabase}
-use Rattle.nb_page.specs.Quiet.{Quiet}
-use Rattle.nb_page.proofs.StampLaws.{stamped-with_payload}
-use Rattle.nb_model.specs.Image.{Page, Image, page_at, image_size, image_scn}
-use Rattle.nb_model.specs.Account.{Base}
-use Rattle.nb_model.specs.Strokes.{Stroke, page, on_base, base_after, merged_page}
-use Rattle.nb_model.specs.Trail.{Trail}
-use Rattle.nb_model.specs.Forms.{Draft, drafted, old_page, put, inventory_of, has_entry, scn_page_of, is_kind, system_kind, system_payload, system_page}
-use Rattle.nb_model.specs.Causes.{Cause, when, not_kind}
-use Rattle.nb_model.proofs.StrokeLaws.{base_after-append, stroke_page, stroke_other}
-use Rattle.nb_model.proofs.SoundLaws.{with_page_length, inventory_there, inventory_place_some, scn_page_there}
+use Rattle.std.proofs.Common.{◌≡◌, ◌≢◌, ℕ, ◌+◌, ◌-◌, ◌/◌, ◌<◌, ◌≤◌, List, [], ◌∷◌, ◌++◌, length, take, drop, replicate, refl, sym, ap, subst, ◌∙◌, arith, Bool, true, false, not, IsTrue, None, Result, Ok, IsErr, IsErrAnd, IfErr, max}
+use Rattle.nb_alloc.proofs.Common.{inventory_kind, size_of, is_page_size, bits_in, entries_in, inventory_place, is_inventory_place, is_scn_place, inventory_payload, scn_payload, SizeFacts, size_facts, padded_whole, kind_of, stamped, with_payload, World, Fault, Device, NotDatabase, Quiet, stamped-with_payload, Page, Image, page_at, image_size, image_scn, Base, Stroke, page, on_base, base_after, merged_page, Trail, Draft, drafted, old_page, put, inventory_of, has_entry, scn_page_of, is_kind, system_kind, system_payload, system_page, Cause, when, not_kind, base_after-append, stroke_page, stroke_other, with_page_length, inventory_there, inventory_place_some, scn_page_there, inventory_before, places_apart, lt_no, kind_parts, after_strokes, IsNoRefusal, Held, IsOpen, but_pages, Makes, unless_by, makes_not, Tries, entry_cause, must_raise, raise_strokes, mark_cause, IsMap, IsWell, page_strokes, system_strokes, system_cause, first_next, scn_place-some, is_so, no_cause}
 use Rattle.nb_model.proofs.PutSound.{IsPlace}
-use Rattle.nb_model.proofs.NewSound.{inventory_before, places_apart}
-use Rattle.nb_model.proofs.ReadLaws.{lt_no}
 use Rattle.nb_model.proofs.FreshSound.{inventory_length, scn_length}
 use Rattle.nb_model.proofs.FitLaws.{IsWhole}
 use Rattle.nb_model.proofs.RoundLaws as rounds
-use Rattle.nb_model.proofs.StepLaws.{kind_parts}
-use Rattle.nb_base.specs.Takes.{after_strokes, IsNoRefusal}
-use Rattle.nb_state.specs.Open.{Held, IsOpen, but_pages}
-use Rattle.nb_state.specs.Does.{Makes, unless_by}
-use Rattle.nb_state.proofs.MakesLaws.{makes_not}
-use Rattle.nb_alloc.specs.Tries.{Tries}
-use Rattle.nb_alloc.specs.Put.{entry_cause, must_raise, raise_strokes}
-use Rattle.nb_alloc.specs.Mark.{mark_cause}
-use Rattle.nb_alloc.specs.Find.{IsMap}
-use Rattle.nb_alloc.specs.Make.{IsWell, page_strokes, system_strokes, system_cause}
 use Rattle.nb_alloc.proofs.DoesLaws.{tries_opened, tries_passed, tries_then}
 use Rattle.nb_alloc.proofs.PutLaws.{stroke_long, may_raise, raised_once, raised_not, no_entry_cause, entry_cause-is}
 use Rattle.nb_alloc.proofs.PageLaws.{makes_one}
 use Rattle.nb_alloc.proofs.TestLaws.{kind_is}
-use Rattle.nb_base.proofs.AttachLaws.{first_next}
-use Rattle.nb_fields.proofs.PlaceLaws.{scn_place-some}
-use Rattle.nb_model.proofs.TurnCases.{is_so, no_cause}
 
 -- its image as the model's laws see it
 pub well : (image : Image) → IsWell image → IsWhole image

@@ -1,24 +1,8 @@
 -- The tests of a search for new pages at one page, each as a need that is met or not.
-use Rattle.std.proofs.Common.{◌≡◌, ◌≢◌, ℕ, ◌-◌, ◌/◌, List, [], ◌∷◌, ◌++◌, length, refl, sym, ap, subst, ◌∙◌}
-use Rattle.std.specs.Prelude.{Bool, true, false, not, ◌==◌, ◌&&◌, nat_lt, IsTrue, Option, Some, None}
-use Rattle.std.proofs.lemmas.Bool.{true≢false}
-use Rattle.nb_fields.specs.Places.{is_page_size, bits_in, entries_in, is_inventory_place, is_scn_place, is_system_place, most_pages}
-use Rattle.nb_fields.specs.Kinds.{inventory_kind, scn_kind}
-use Rattle.nb_host.specs.declared.refusals.Refusal.{Refusal}
-use Rattle.nb_host.specs.declared.refusals.Refusal.TheVariants.{NotDatabase, Full}
-use Rattle.nb_model.specs.Image.{Image, image_size}
-use Rattle.nb_model.specs.Forms.{is_kind, inventory_of, scn_page_of, has_entry, free_from, system_kind, Need, first_not, entry_page, is_kept}
-use Rattle.nb_model.specs.Causes.{Cause, first_cause, when, not_kind}
-use Rattle.nb_model.proofs.ReadLaws.{eq_no, eq_yes}
-use Rattle.nb_model.proofs.NeedLaws.{first_behind, first_append, behind_none, behind_some, first_none}
-use Rattle.nb_model.proofs.SoundLaws.{inventory_there, scn_page_there}
-use Rattle.nb_model.proofs.NewSound.{plain_place, places_apart}
-use Rattle.nb_alloc.specs.Find.{need_cause}
-use Rattle.nb_model.specs.Way.{next_place, maps_up_to, maps_on, entry_on, map_entry_on, own_entry_on, needed_on, IsMadeBehind, same_made, made_here, IsFreshBehind, same_fresh, fresh_here}
-use Rattle.nb_alloc.specs.Way.{way_cause}
+use Rattle.std.proofs.Common.{◌≡◌, ◌≢◌, ℕ, ◌-◌, ◌/◌, List, [], ◌∷◌, ◌++◌, length, refl, sym, ap, subst, ◌∙◌, Bool, true, false, not, ◌==◌, ◌&&◌, nat_lt, IsTrue, Option, Some, None}
+use Rattle.nb_alloc.proofs.Common.{true≢false, is_page_size, bits_in, entries_in, is_inventory_place, is_scn_place, is_system_place, most_pages, inventory_kind, scn_kind, Refusal, NotDatabase, Full, Image, image_size, is_kind, inventory_of, scn_page_of, has_entry, free_from, system_kind, Need, first_not, entry_page, is_kept, Cause, first_cause, when, not_kind, eq_no, eq_yes, first_behind, first_append, behind_none, behind_some, first_none, inventory_there, scn_page_there, plain_place, places_apart, need_cause, next_place, maps_up_to, maps_on, entry_on, map_entry_on, own_entry_on, needed_on, IsMadeBehind, same_made, made_here, IsFreshBehind, same_fresh, fresh_here, way_cause, first_here, first_next}
 use Rattle.nb_alloc.proofs.CauseLaws.{none_behind}
 use Rattle.nb_alloc.proofs.PlaceTests.{system_second}
-use Rattle.nb_base.proofs.AttachLaws.{first_here, first_next}
 
 -- the SCN page of an entry: it is made on the way, or there is no entry, or it is tested
 pub entry_made : (x : Image) (made q : ℕ) → scn_page_of x q ≡ made → need_cause (first_not x (entry_on x made q)) ≡ None

@@ -1,26 +1,7 @@
 -- A write of a page is its SCN entry first, where that is raised, and then the page.
-use Rattle.std.proofs.Common.{◌≡◌, ◌≢◌, inl, inr, ℕ, zero, suc, ◌+◌, ◌*◌, ◌/◌, ◌<◌, ◌≤◌, List, [], ◌∷◌, ◌++◌, length, drop, refl, sym, ap, subst, ◌∙◌, arith}
-use Rattle.std.specs.Prelude.{Bool, true, false, ◌&&◌, ◌||◌, ◌==◌, not, nat_lt, Some, None}
-use Rattle.std.proofs.lemmas.Bool.{and_parts, and_left, or_left, or_right, or_from, ltb-true, lt-ltb, eq-eqb, ne_eqb}
-use Rattle.std.proofs.lemmas.Bool.Decides.{leb_tells}
-use Rattle.std.proofs.lemmas.List.{length-set}
-use Rattle.nb_fields.specs.Bytes.{bytes_of, with_part}
-use Rattle.nb_fields.specs.Places.{entries_in, scn_place, is_scn_place, most_pages}
-use Rattle.nb_fields.specs.Page.{kind_of, stamped}
-use Rattle.nb_fields.specs.Kinds.{scn_kind}
-use Rattle.nb_host.specs.declared.refusals.Refusal.{Refusal}
-use Rattle.nb_host.specs.declared.refusals.Refusal.TheVariants.{NotDatabase, Full}
-use Rattle.nb_model.specs.Image.{Page, Image, page_at, image_size, image_scn, with_page}
-use Rattle.nb_model.specs.Account.{Base}
-use Rattle.nb_model.specs.Strokes.{Stroke, page, on_base, base_after, merged_page}
-use Rattle.nb_model.specs.Forms.{Draft, drafted, old_page, wrote, written, is_kind, needs, scn_page_of, entry_number, scn_entry, has_entry, entry_written, entry_raised, raised, put}
-use Rattle.nb_model.specs.Causes.{Cause, when, not_kind, lowest_broken, not_of_form, no_room}
-use Rattle.nb_model.proofs.StrokeLaws.{stroke_page, stroke_other}
-use Rattle.nb_model.proofs.StepLaws.{kind_parts}
-use Rattle.nb_alloc.specs.Put.{entry_cause, must_raise, raise_stroke, raise_strokes, put_stroke}
+use Rattle.std.proofs.Common.{◌≡◌, ◌≢◌, inl, inr, ℕ, zero, suc, ◌+◌, ◌*◌, ◌/◌, ◌<◌, ◌≤◌, List, [], ◌∷◌, ◌++◌, length, drop, refl, sym, ap, subst, ◌∙◌, arith, Bool, true, false, ◌&&◌, ◌||◌, ◌==◌, not, nat_lt, Some, None}
+use Rattle.nb_alloc.proofs.Common.{and_parts, and_left, or_left, or_right, or_from, ltb-true, lt-ltb, eq-eqb, ne_eqb, leb_tells, length-set, bytes_of, with_part, entries_in, scn_place, is_scn_place, most_pages, kind_of, stamped, scn_kind, Refusal, NotDatabase, Full, Page, Image, page_at, image_size, image_scn, with_page, Base, Stroke, page, on_base, base_after, merged_page, Draft, drafted, old_page, wrote, written, is_kind, needs, scn_page_of, entry_number, scn_entry, has_entry, entry_written, entry_raised, raised, put, Cause, when, not_kind, lowest_broken, not_of_form, no_room, stroke_page, stroke_other, kind_parts, entry_cause, must_raise, raise_stroke, raise_strokes, put_stroke, needs_found, is_so}
 use Rattle.nb_alloc.proofs.BehindLaws.{page_alone}
-use Rattle.nb_model.proofs.RoundLaws.{needs_found}
-use Rattle.nb_model.proofs.TurnCases.{is_so}
 
 -- a page stroke below the length keeps the length
 pub length-with_page : (p : ℕ) (bytes : Page) (image : Image) → p < length image → length (with_page p bytes image) ≡ length image

@@ -1,38 +1,10 @@
 -- Where all that a new page needs of a place is of its kind, nothing is refused there, and the strokes are those of the draft.
-use Rattle.std.proofs.Common.{◌≡◌, ◌≢◌, ℕ, ◌+◌, ◌-◌, ◌/◌, ◌<◌, ◌≤◌, List, [], ◌∷◌, ◌++◌, length, replicate, refl, sym, ap, subst, ◌∙◌, arith}
-use Rattle.std.specs.Prelude.{Bool, true, false, not, IsTrue, Some, None, nat_lt, Result, Ok, Err, IfErr}
-use Rattle.std.proofs.lemmas.Bool.{true≢false}
-use Rattle.nb_fields.specs.Places.{is_page_size, bits_in, entries_in, inventory_place, is_scn_place, is_system_place}
-use Rattle.nb_fields.specs.Header.{size_of, scn_of}
-use Rattle.nb_fields.specs.Page.{stamped}
-use Rattle.nb_fields.proofs.SizeLaws.{SizeFacts, size_facts}
-use Rattle.nb_host.specs.declared.faults.Fault.{Fault}
-use Rattle.nb_host.specs.declared.faults.Fault.TheVariants.{Refused, Device, Memory}
-use Rattle.nb_host.specs.declared.refusals.Refusal.TheVariants.{NotDatabase}
-use Rattle.nb_model.specs.Image.{Page, Image, page_at, image_size, image_scn}
-use Rattle.nb_model.specs.Account.{Base}
-use Rattle.nb_model.specs.Strokes.{Stroke, page, base_after}
-use Rattle.nb_model.specs.Forms.{HasItsEntry, Draft, drafted, first_not, old_page, is_kind, inventory_of, scn_page_of, has_entry, raised, put, written, wrote, system_kind, system_payload, system_page}
-use Rattle.nb_model.specs.Causes.{Cause, when, not_kind}
-use Rattle.nb_model.specs.Way.{maps_up_to}
-use Rattle.nb_model.proofs.FirstFree.{free_from_is}
-use Rattle.nb_model.proofs.PlaceOrder.{div_rises}
-use Rattle.nb_fields.proofs.PlaceLaws.{bits-least, scn_place-some}
-use Rattle.nb_fields.specs.Kinds.{inventory_kind}
-use Rattle.nb_base.specs.Takes.{IsNoRefusal}
-use Rattle.nb_model.proofs.NewSound.{inventory_before}
-use Rattle.nb_model.proofs.SoundLaws.{scn_page_there}
-use Rattle.nb_model.proofs.StepLaws.{IsShaped, IsReady, IsPutOn, put_on, kind_moves, scn_page_moves, map_entry_before}
-use Rattle.nb_alloc.specs.Put.{entry_cause, raise_strokes}
-use Rattle.nb_alloc.specs.Mark.{mark_cause}
-use Rattle.nb_alloc.specs.Find.{need_cause, RefusedFor}
-use Rattle.nb_alloc.specs.Make.{GoesOn, page_strokes, system_strokes, system_cause, round, behind}
+use Rattle.std.proofs.Common.{◌≡◌, ◌≢◌, ℕ, ◌+◌, ◌-◌, ◌/◌, ◌<◌, ◌≤◌, List, [], ◌∷◌, ◌++◌, length, replicate, refl, sym, ap, subst, ◌∙◌, arith, Bool, true, false, not, IsTrue, Some, None, nat_lt, Result, Ok, Err, IfErr}
+use Rattle.nb_alloc.proofs.Common.{true≢false, is_page_size, bits_in, entries_in, inventory_place, is_scn_place, is_system_place, size_of, scn_of, stamped, SizeFacts, size_facts, Fault, Refused, Device, Memory, NotDatabase, Page, Image, page_at, image_size, image_scn, Base, Stroke, page, base_after, HasItsEntry, Draft, drafted, first_not, old_page, is_kind, inventory_of, scn_page_of, has_entry, raised, put, written, wrote, system_kind, system_payload, system_page, Cause, when, not_kind, maps_up_to, free_from_is, div_rises, bits-least, scn_place-some, inventory_kind, IsNoRefusal, inventory_before, scn_page_there, IsShaped, IsReady, IsPutOn, put_on, kind_moves, scn_page_moves, map_entry_before, entry_cause, raise_strokes, mark_cause, need_cause, RefusedFor, GoesOn, page_strokes, system_strokes, system_cause, round, behind, first_next, no_cause}
 use Rattle.nb_alloc.proofs.NeedReads.{all_found}
 use Rattle.nb_alloc.proofs.PutLaws.{Raises, draft_raised, raised_not, no_entry_cause, entry_cause-is, not_raised, scn_page-without}
 use Rattle.nb_alloc.proofs.MakeLaws.{RaisesAlone, raise_alone, system_there, system_put, system_made, system_unmade, system_free, system_asks, payload_whole}
 use Rattle.nb_alloc.proofs.PassLaws.{kept_there}
-use Rattle.nb_base.proofs.AttachLaws.{first_next}
-use Rattle.nb_model.proofs.TurnCases.{no_cause}
 
 -- its SCN page is of its kind
 pub entry_ready : (x : Image) (p : ℕ) → HasItsEntry x p → entry_cause x p ≡ None

@@ -1,41 +1,11 @@
 -- The tests before new pages, and what is written after them.
-use Rattle.std.proofs.Common.{◌≡◌, ℕ, ◌+◌, ◌*◌, ◌<◌, ◌≤◌, List, [], ◌∷◌, ◌++◌, length, refl, sym, ap, subst, ◌∙◌, arith}
-use Rattle.std.specs.Prelude.{drop, Bool, true, false, not, ◌||◌, nat_lt, min, Some, None, Result, Ok, Err, IfOk, OnOk, IsErr, IsErrAnd}
-use Rattle.std.proofs.lemmas.Bool.{true≢false}
-use Rattle.std.proofs.lemmas.List.{append-nil}
-use Rattle.nb_fields.specs.Bytes.{bytes_of, with_part}
-use Rattle.nb_fields.specs.Payloads.{data_payload}
-use Rattle.nb_fields.specs.Places.{most_pages}
-use Rattle.nb_fields.specs.Kinds.{data_kind, scn_kind}
-use Rattle.nb_host.specs.declared.faults.Fault.{Fault}
-use Rattle.nb_host.specs.declared.faults.Fault.TheVariants.{Refused, Device, Memory}
-use Rattle.nb_host.specs.declared.refusals.Refusal.{Refusal}
-use Rattle.nb_host.specs.declared.refusals.Refusal.TheVariants.{NotDatabase, Full}
-use Rattle.nb_change.proofs.ResultLaws.{passed_on}
-use Rattle.nb_model.specs.Image.{Image, page_at, image_scn}
-use Rattle.nb_model.specs.Forms.{Draft, drafted, is_kind, other_kind, needs, wants, has_entry, scn_page_of, scn_entry, raised, entry_raised, entry_written, put, written, wrote, new_page}
-use Rattle.nb_model.specs.Causes.{Cause, first_cause, when, lowest_of, lowest_broken, too_short, not_of_form, no_room}
-use Rattle.nb_model.specs.Chains.{Chain, Slot, owner_of, last_of, put_slot, grown}
-use Rattle.nb_model.proofs.DraftJoin.{joined, joined_new, join_new}
-use Rattle.nb_model.proofs.SearchLaws.{draft_cause, joined_cause}
-use Rattle.nb_model.proofs.StepLaws.{IsClear}
-use Rattle.nb_state.specs.Does.{Tested, WhereEnded}
-use Rattle.nb_state.proofs.MakesLaws.{where_ended}
-use Rattle.nb_alloc.specs.declared.behind.Behind.{Behind}
-use Rattle.nb_alloc.specs.Behind.{judged, entry_broken, behind_cause, page_if, IsKnown, Judges, EndsAlike}
-use Rattle.nb_alloc.specs.Data.{new_behind, second_data, unmade, unmade_behind}
-use Rattle.nb_alloc.specs.Put.{entry_cause}
-use Rattle.nb_alloc.specs.Make.{new_of}
-use Rattle.nb_alloc.specs.Search.{IsShort, Finds, EndsBy}
+use Rattle.std.proofs.Common.{◌≡◌, ℕ, ◌+◌, ◌*◌, ◌<◌, ◌≤◌, List, [], ◌∷◌, ◌++◌, length, refl, sym, ap, subst, ◌∙◌, arith, drop, Bool, true, false, not, ◌||◌, nat_lt, min, Some, None, Result, Ok, Err, IfOk, OnOk, IsErr, IsErrAnd}
+use Rattle.nb_alloc.proofs.Common.{true≢false, append-nil, bytes_of, with_part, data_payload, most_pages, data_kind, scn_kind, Fault, Refused, Device, Memory, Refusal, NotDatabase, Full, passed_on, Image, page_at, image_scn, Draft, drafted, is_kind, other_kind, needs, wants, has_entry, scn_page_of, scn_entry, raised, entry_raised, entry_written, put, written, wrote, new_page, Cause, first_cause, when, lowest_of, lowest_broken, too_short, not_of_form, no_room, Chain, Slot, owner_of, last_of, put_slot, grown, joined, joined_new, join_new, draft_cause, joined_cause, IsClear, Tested, WhereEnded, where_ended, Behind, judged, entry_broken, behind_cause, page_if, IsKnown, Judges, EndsAlike, new_behind, second_data, unmade, unmade_behind, entry_cause, new_of, IsShort, Finds, EndsBy, lt_no, lt_yes, applies, first_here, first_next, append_none, when_false}
 use Rattle.nb_alloc.proofs.BehindLaws.{other_page, lowest_min}
-use Rattle.nb_model.proofs.ReadLaws.{lt_no, lt_yes}
 use Rattle.nb_alloc.proofs.CauseLaws.{one_cause, none_behind}
 use Rattle.nb_alloc.proofs.FullLaws.{put_full}
 use Rattle.nb_alloc.proofs.PutLaws.{no_entry_cause, entry_cause-is}
-use Rattle.nb_base.proofs.AttachLaws.{applies, first_here, first_next}
-use Rattle.nb_host.proofs.PlainLaws.{append_none}
 use Rattle.nb_model.proofs.RoomThere.{other_met}
-use Rattle.nb_model.proofs.WholeLaws.{when_false}
 
 pub not_lost : (t : Bool) → (t ≡ true → ⊥) → not t ≡ true
 not_lost false never = refl

@@ -1,32 +1,12 @@
 -- The causes of a page that is tested.
-use Rattle.std.proofs.Common.{◌≡◌, ◌≢◌, inl, inr, ℕ, ◌/◌, ◌%◌, ◌<◌, ◌≤◌, List, [], ◌∷◌, ◌++◌, length, get_or, take, drop, sym, ap, ◌∙◌, subst, arith}
-use Rattle.std.specs.Prelude.{Bool, true, false, not, ◌&&◌, ◌==◌, nat_le, Some, None, Result, Ok, Err, IsOk, OnOk}
-use Rattle.std.proofs.lemmas.Bool.Decides.{leb_tells}
+use Rattle.std.proofs.Common.{◌≡◌, ◌≢◌, inl, inr, ℕ, ◌/◌, ◌%◌, ◌<◌, ◌≤◌, List, [], ◌∷◌, ◌++◌, length, get_or, take, drop, sym, ap, ◌∙◌, subst, arith, Bool, true, false, not, ◌&&◌, ◌==◌, nat_le, Some, None, Result, Ok, Err, IsOk, OnOk}
+use Rattle.nb_alloc.proofs.Common.{leb_tells, length-take, take_at, bits_in, inventory_place, kind_of, bit_of, text_length, text_of, inventory_kind, raw_kind, Refusal, NotDatabase, PageRange, NotAllocated, SystemPage, Access, TextLong, bits, get_or-bits, Page, Image, page_at, image_size, is_read_only, is_kind, is_free_page, inventory_of, bit_number, Cause, first_cause, when, read_only, too_long, past_end, not_kind, not_raw, no_text, Value, Seen, says, le_no, lt_no, lt_yes, eq_no, eq_yes, not_taken, applies, first_here, first_next, le_yes, never, no_cause, when_false}
 use Rattle.std.proofs.lemmas.Nat.Bits.{bit_at-lt}
-use Rattle.std.proofs.lemmas.List.{length-take, take_at}
-use Rattle.nb_fields.specs.Places.{bits_in, inventory_place}
-use Rattle.nb_fields.specs.Page.{kind_of}
-use Rattle.nb_fields.specs.Payloads.{bit_of, text_length, text_of}
-use Rattle.nb_fields.specs.Kinds.{inventory_kind, raw_kind}
-use Rattle.nb_host.specs.declared.refusals.Refusal.{Refusal}
-use Rattle.nb_host.specs.declared.refusals.Refusal.TheVariants.{NotDatabase, PageRange, NotAllocated, SystemPage, Access, TextLong}
 use Rattle.nb_page.specs.declared.page.PageHead.{PageHead}
 use Rattle.nb_page.specs.Head.{head_in}
-use Rattle.nb_pip.specs.Bits.{bits}
-use Rattle.nb_pip.proofs.BitLaws.{get_or-bits}
-use Rattle.nb_model.specs.Image.{Page, Image, page_at, image_size, is_read_only}
-use Rattle.nb_model.specs.Forms.{is_kind, is_free_page, inventory_of, bit_number}
-use Rattle.nb_model.specs.Causes.{Cause, first_cause, when, read_only, too_long, past_end, not_kind, not_raw, no_text}
-use Rattle.nb_model.specs.declared.reply.Reply.TheVariants.{Refused as RefusedBy, Value}
-use Rattle.nb_model.specs.Outcomes.{Seen, says}
+use Rattle.nb_model.specs.declared.reply.Reply.TheVariants.{Refused as RefusedBy}
 use Rattle.nb_model.specs.Pages.{read_turn}
-use Rattle.nb_model.proofs.ReadLaws.{le_no, lt_no, lt_yes, eq_no, eq_yes}
-use Rattle.nb_alloc.specs.Put.{not_taken}
 use Rattle.nb_alloc.proofs.CauseLaws.{first_front, first_rest, unless_refused, unless_allowed}
-use Rattle.nb_base.proofs.AttachLaws.{applies, first_here, first_next}
-use Rattle.nb_host.proofs.PlainLaws.{le_yes, never}
-use Rattle.nb_model.proofs.TurnCases.{no_cause}
-use Rattle.nb_model.proofs.WholeLaws.{when_false}
 
 pub le_from : (a b : ℕ) → true ≡ nat_le a b → a ≤ b
 le_from a b e = elim (leb_tells a b) [ inl w ↦ w.1 | inr w ↦ absurd (never (sym w.0 ∙ sym e)) ]

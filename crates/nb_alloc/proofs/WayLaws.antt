@@ -1,43 +1,11 @@
 -- The search for new pages on a database that nothing was written to yet: it is refused as the draft of the new page is.
-use Rattle.std.proofs.Common.{◌≡◌, ◌≢◌, inl, inr, ℕ, zero, suc, ◌+◌, ◌-◌, ◌/◌, ◌<◌, ◌≤◌, List, [], ◌∷◌, length, refl, sym, ap, subst, ◌∙◌, arith}
-use Rattle.std.specs.Prelude.{Bool, true, false, ◌==◌, IsTrue, Option, Some, None, Result, Ok, Err, IsErr, IsErrAnd}
-use Rattle.nb_host.specs.declared.faults.Fault.{Fault}
-use Rattle.nb_host.specs.declared.faults.Fault.TheVariants.{Refused as RefusedFault, Device, Memory}
-use Rattle.nb_change.proofs.ResultLaws.{passed_on}
-use Rattle.nb_state.specs.Does.{Tested}
-use Rattle.std.proofs.lemmas.Bool.{true≢false, eqb-true}
-use Rattle.std.proofs.lemmas.Bool.Decides.{eqb_tells, leb_tells}
-use Rattle.nb_fields.specs.Places.{is_page_size, bits_in, inventory_place, is_inventory_place, is_scn_place, is_system_place, most_pages}
-use Rattle.nb_host.specs.declared.refusals.Refusal.{Refusal}
-use Rattle.nb_host.specs.declared.refusals.Refusal.TheVariants.{NotDatabase, Full}
-use Rattle.nb_model.specs.Image.{Image, image_size}
-use Rattle.nb_model.specs.Forms.{Draft, drafted, no_page, is_kind, is_free_page, inventory_of, put, take_page, lowest_free, free_from, system_kind, first_not, maps_from, needed_at, new_within, new_page}
-use Rattle.nb_model.specs.Causes.{when, first_cause, lowest_broken}
-use Rattle.nb_fields.proofs.PlaceLaws.{bits-least}
-use Rattle.nb_fields.specs.Kinds.{inventory_kind, scn_kind}
-use Rattle.nb_model.proofs.DraftJoin.{joined_new}
-use Rattle.nb_model.proofs.NewSound.{plain_place, places_apart}
-use Rattle.nb_model.proofs.ReadLaws.{eq_yes}
-use Rattle.nb_model.proofs.FirstFree.{IsLowestFree, free_from_is, lowest_is}
-use Rattle.nb_model.proofs.PlaceOrder.{div_rises, map_place_is}
-use Rattle.nb_model.proofs.StepLaws.{IsReady, Visits, system_visits, plain_visits}
-use Rattle.nb_model.specs.Way.{next_place, needed_on, IsMadeBehind, same_made, made_here, IsFreshBehind, same_fresh, fresh_here}
-use Rattle.nb_model.proofs.OnwardLaws.{IsOnTheWay, way_begins, way_further}
-use Rattle.nb_model.proofs.SoundLaws.{inventory_place_some}
+use Rattle.std.proofs.Common.{◌≡◌, ◌≢◌, inl, inr, ℕ, zero, suc, ◌+◌, ◌-◌, ◌/◌, ◌<◌, ◌≤◌, List, [], ◌∷◌, length, refl, sym, ap, subst, ◌∙◌, arith, Bool, true, false, ◌==◌, IsTrue, Option, Some, None, Result, Ok, Err, IsErr, IsErrAnd}
+use Rattle.nb_alloc.proofs.Common.{Fault, Device, Memory, passed_on, Tested, true≢false, eqb-true, eqb_tells, leb_tells, is_page_size, bits_in, inventory_place, is_inventory_place, is_scn_place, is_system_place, most_pages, Refusal, NotDatabase, Full, Image, image_size, Draft, drafted, no_page, is_kind, is_free_page, inventory_of, put, take_page, lowest_free, free_from, system_kind, first_not, maps_from, needed_at, new_within, new_page, when, first_cause, lowest_broken, bits-least, inventory_kind, scn_kind, joined_new, plain_place, places_apart, eq_yes, IsLowestFree, free_from_is, lowest_is, div_rises, map_place_is, IsReady, Visits, system_visits, plain_visits, next_place, needed_on, IsMadeBehind, same_made, made_here, IsFreshBehind, same_fresh, fresh_here, IsOnTheWay, way_begins, way_further, inventory_place_some, first_behind, first_append, behind_none, first_none, maps_found, draft_cause, last_map, Met, met, round_at, try_stops, try_full, try_more, try_last, clear_cause, joined_cause, need_cause, way_cause, Behind, IsKnown, gone, IsSearchable, Searches, AtPlace, AtKnown, GoesTo, IsShort, Finds, Refuses, EndsBy, first_here, first_next, some_none, no_cause}
+use Rattle.nb_host.specs.declared.faults.Fault.TheVariants.{Refused as RefusedFault}
 use Rattle.nb_model.proofs.OnwardTests.{next_is, needs_same}
-use Rattle.nb_model.proofs.NeedLaws.{first_behind, first_append, behind_none, first_none, maps_found}
-use Rattle.nb_model.proofs.SearchLaws.{draft_cause, last_map, Met, met, round_at, try_stops, try_full, try_more, try_last, clear_cause, joined_cause}
-use Rattle.nb_alloc.specs.Find.{need_cause}
-use Rattle.nb_alloc.specs.Way.{way_cause}
-use Rattle.nb_alloc.specs.declared.behind.Behind.{Behind}
-use Rattle.nb_alloc.specs.Behind.{IsKnown, gone}
-use Rattle.nb_alloc.specs.Search.{IsSearchable, Searches, AtPlace, AtKnown, GoesTo, IsShort, Finds, Refuses, EndsBy}
 use Rattle.nb_alloc.proofs.BehindLaws.{known_plain, known_gone}
 use Rattle.nb_alloc.proofs.PassLaws.{place_free}
 use Rattle.nb_alloc.proofs.FullLaws.{three_apart}
-use Rattle.nb_base.proofs.AttachLaws.{first_here, first_next}
-use Rattle.nb_host.proofs.PlainLaws.{some_none}
-use Rattle.nb_model.proofs.TurnCases.{no_cause}
 
 -- the cause of a draft that ends at a page, and of one for which no page is left
 pub stopped_cause : (x : Image) (q : ℕ) → draft_cause (record (drafted x) { broken = q ∷ [] }) ≡ Some (NotDatabase q)

@@ -1,33 +1,9 @@
 -- Why a file isn't opened, and what is held of one that is.
-use Rattle.std.proofs.Common.{◌≡◌, ◌≢◌, inl, inr, ℕ, zero, suc, ◌+◌, ◌-◌, ◌*◌, ◌/◌, ◌%◌, ◌<◌, ◌≤◌, List, [], ◌∷◌, ◌++◌, length, get_or, take, drop, refl, sym, ap, subst, ◌∙◌, arith, length-append, mul-le-mul_right, suc-mul}
-use Rattle.std.specs.Prelude.{Bool, true, false, not, ◌==◌, ◌||◌, IsTrue, Option, Some, None, option_map, min, max, nat_lt, Result, Ok, Err, IsErr, IsErrAnd, IfOk, IfErr}
-use Rattle.std.proofs.Math.Nat.{div-eq_of_lt}
-use Rattle.std.proofs.lemmas.Bool.{cases_Bool}
-use Rattle.std.proofs.lemmas.Bool.Decides.{leb_tells, eqb_tells}
-use Rattle.std.proofs.lemmas.List.{get_or-append_right, get_or_append_left, take-take, take_more}
-use Rattle.nb_fields.specs.Bytes.{is_zeros, number_in}
-use Rattle.nb_fields.specs.Header.{is_header, state_of, size_of}
-use Rattle.nb_fields.specs.Places.{is_page_size, most_pages}
+use Rattle.std.proofs.Common.{◌≡◌, ◌≢◌, inl, inr, ℕ, zero, suc, ◌+◌, ◌-◌, ◌*◌, ◌/◌, ◌%◌, ◌<◌, ◌≤◌, List, [], ◌∷◌, ◌++◌, length, get_or, take, drop, refl, sym, ap, subst, ◌∙◌, arith, length-append, mul-le-mul_right, suc-mul, Bool, true, false, not, ◌==◌, ◌||◌, IsTrue, Option, Some, None, option_map, min, max, nat_lt, Result, Ok, Err, IsErr, IsErrAnd, IfOk, IfErr}
+use Rattle.nb_base.proofs.Common.{div-eq_of_lt, cases_Bool, leb_tells, eqb_tells, get_or-append_right, get_or_append_left, take-take, take_more, is_zeros, number_in, is_header, state_of, size_of, is_page_size, most_pages, number_in-take, size_facts, applying_state, File, Fault, Refused, Device, Memory, Refusal, NotDatabase, Unfinished, Image, page_at, first_page, image_size, image_in, Cause, first_cause, when, not_database, header-size, same-number, all_at, IsTrimmed, page-joined, length-joined, trimmed-drop, trimmed-zeros, IsLaid, laid, laid-front, laid-wide, some_page, Known, behind_entries, IsBlank, Tested, length_cause, start_cause, main_cause}
 use Rattle.nb_fields.proofs.HeaderLaws.{is_header-take}
-use Rattle.nb_fields.proofs.PartLaws.{number_in-take}
-use Rattle.nb_fields.proofs.SizeLaws.{size_facts}
-use Rattle.nb_fields.specs.States.{applying_state}
-use Rattle.nb_host.specs.Files.{File}
-use Rattle.nb_host.specs.declared.faults.Fault.{Fault}
-use Rattle.nb_host.specs.declared.faults.Fault.TheVariants.{Refused, Device, Memory}
-use Rattle.nb_host.specs.declared.refusals.Refusal.{Refusal}
-use Rattle.nb_host.specs.declared.refusals.Refusal.TheVariants.{NotDatabase, Unfinished}
-use Rattle.nb_model.specs.Image.{Image, page_at, first_page, image_size, image_in}
-use Rattle.nb_model.specs.Causes.{Cause, first_cause, when, not_database}
-use Rattle.nb_model.proofs.HeaderLaws.{header-size, same-number}
-use Rattle.nb_model.proofs.SoundLaws.{all_at}
-use Rattle.nb_model.proofs.ImageLaws.{IsTrimmed, page-joined, length-joined, trimmed-drop, trimmed-zeros}
-use Rattle.nb_model.proofs.MainLaws.{IsLaid, laid, laid-front, laid-wide, some_page}
 use Rattle.nb_model.proofs.ReadLaws.{lt_no, lt_yes, eq_no, eq_yes}
-use Rattle.nb_delta.specs.Known.{Known}
-use Rattle.nb_model.specs.Owner.{behind_entries}
 use Rattle.nb_base.proofs.OwnedLaws.{behind-added}
-use Rattle.nb_base.specs.Attach.{IsBlank, Tested, length_cause, start_cause, main_cause}
 use Rattle.nb_page.specs.Header.{header_in}
 use Rattle.nb_page.specs.declared.header.Header.{Header}
 use Rattle.nb_model.proofs.TurnCases.{no_cause}

@@ -1,22 +1,9 @@
 -- Page 0 with another control block: its fields, that the first 64 bytes decide it, and what is owned then.
-use Rattle.std.proofs.Common.{◌≡◌, ◌≢◌, inl, inr, ℕ, zero, suc, ◌+◌, ◌%◌, ◌^◌, ◌<◌, ◌≤◌, List, [], ◌∷◌, ◌++◌, length, take, drop, refl, sym, ap, ◌∙◌, arith, append_assoc}
-use Rattle.std.specs.Prelude.{Bool, true, false, IsTrue, ◌&&◌, ◌||◌, ◌==◌, not, nat_le, nat_lt, Option, Some, None, max}
-use Rattle.std.proofs.lemmas.Bool.Decides.{eqb_tells, leb_tells}
-use Rattle.std.proofs.lemmas.List.{take-append-le, take_at, take-append-drop, length-take-le}
-use Rattle.nb_fields.specs.Bytes.{bytes_of, number_in, with_part}
-use Rattle.nb_fields.specs.Header.{is_header, is_sound, size_of}
-use Rattle.nb_fields.specs.Places.{is_page_size}
-use Rattle.nb_fields.specs.Table.{page_in, slot_place}
+use Rattle.std.proofs.Common.{◌≡◌, ◌≢◌, inl, inr, ℕ, zero, suc, ◌+◌, ◌%◌, ◌^◌, ◌<◌, ◌≤◌, List, [], ◌∷◌, ◌++◌, length, take, drop, refl, sym, ap, ◌∙◌, arith, append_assoc, Bool, true, false, IsTrue, ◌&&◌, ◌||◌, ◌==◌, not, nat_le, nat_lt, Option, Some, None, max}
+use Rattle.nb_base.proofs.Common.{eqb_tells, leb_tells, take-append-le, take_at, take-append-drop, length-take-le, number_in, with_part, is_header, is_sound, size_of, is_page_size, page_in, slot_place, length-with_part, number_in-take, stalled_state, Page, Image, page_at, first_page, controlled, with_control, entry_for, behind_entries, main_page, owned_page, owned, header-size, main_here, main_past, owned_length, owned_at, control_length, control_header}
+use Rattle.nb_fields.specs.Bytes.{bytes_of}
 use Rattle.nb_fields.proofs.NumberLaws.{length-bytes_of}
-use Rattle.nb_fields.proofs.PartLaws.{length-with_part, number_in-take}
-use Rattle.nb_fields.specs.States.{stalled_state}
-use Rattle.nb_model.specs.Image.{Page, Image, page_at, first_page}
-use Rattle.nb_model.specs.Strokes.{controlled, with_control}
-use Rattle.nb_model.specs.Owner.{entry_for, behind_entries, slot_page, main_page, owned_page, owned}
-use Rattle.nb_model.proofs.HeaderLaws.{header-size}
-use Rattle.nb_model.proofs.OwnerLaws.{main_here, main_past}
-use Rattle.nb_model.proofs.OverLaws.{owned_length, owned_at}
-use Rattle.nb_model.proofs.ControlLaws.{control_length, control_header}
+use Rattle.nb_model.specs.Owner.{slot_page}
 use Rattle.nb_base.proofs.OwnedLaws.{is_owned, owned-entry, owned-none}
 
 -- a part within the front

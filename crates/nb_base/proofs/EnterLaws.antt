@@ -1,44 +1,13 @@
 -- Drafted entries come into the table, once their slots are written: what a crash leaves meanwhile, and that the files hold what is seen then.
-use Rattle.std.proofs.Common.{◌≡◌, inl, inr, ⊎_elim, ℕ, zero, suc, ◌<◌, ◌≤◌, List, [], ◌∷◌, ◌++◌, length, get_or, take, drop, refl, sym, ap, subst, ◌∙◌, arith, append_assoc, length-append}
-use Rattle.std.specs.Prelude.{Bool, false, Option, Some, None, Ok, max}
-use Rattle.std.proofs.lemmas.Bool.Decides.{eqb_tells, leb_tells}
-use Rattle.std.proofs.lemmas.List.{append-nil}
-use Rattle.nb_fields.specs.Header.{state_of, size_of}
-use Rattle.nb_fields.specs.Table.{page_in, slot_place}
-use Rattle.nb_fields.specs.States.{stalled_state}
-use Rattle.nb_host.specs.Files.{File, Files, bytes_of, with_file}
-use Rattle.nb_host.specs.World.{World}
-use Rattle.nb_host.specs.Crash.{Leaves, IsDurable}
-use Rattle.nb_host.specs.Calls.{IsStill}
-use Rattle.nb_host.specs.Moments.{IsTimely, Passes}
-use Rattle.nb_change.specs.Changes.{Changes, Only, Moved}
-use Rattle.nb_change.proofs.MomentLaws.{left_before}
-use Rattle.nb_change.proofs.NameLaws.{with_file-same, with_file-other}
-use Rattle.nb_change.proofs.ChangesLaws.{begun, moved_on, left_with, still_more}
-use Rattle.nb_change.proofs.SettledLaws.{durable_is}
-use Rattle.nb_delta.specs.Entries.{AreEntries}
-use Rattle.nb_delta.specs.Slots.{HasTable, slot_page}
-use Rattle.nb_delta.specs.Waiting.{Waits, Stays, Fronts, FrontStep, HasAll}
-use Rattle.nb_model.specs.Image.{Image, page_at, first_page, image_size, image_state}
-use Rattle.nb_model.specs.Account.{Base}
-use Rattle.nb_model.specs.Owner.{delta_name, entry_for, behind_entries, slot_page as owned_slot, owned, owner}
-use Rattle.nb_model.specs.Trail.{Trail, StandsIn}
-use Rattle.nb_model.specs.Behind.{IsOnTheWay, IsEntering}
-use Rattle.nb_model.proofs.BehindLaws.{way_left, enter_left}
-use Rattle.nb_model.proofs.OwnerLaws.{named}
-use Rattle.nb_model.proofs.TrailLaws.{itself_firm}
-use Rattle.nb_model.proofs.WayLaws.{same_pages}
-use Rattle.nb_model.proofs.OverLaws.{owned_length, owned_at}
-use Rattle.nb_base.specs.Open.{Held, IsOpen}
-use Rattle.nb_base.specs.Going.{StandsAs, HasPageIn, IsSlotted, GoesIn}
+use Rattle.std.proofs.Common.{◌≡◌, inl, inr, ⊎_elim, ℕ, zero, suc, ◌<◌, ◌≤◌, List, [], ◌∷◌, ◌++◌, length, get_or, take, drop, refl, sym, ap, subst, ◌∙◌, arith, append_assoc, length-append, Bool, false, Option, Some, None, Ok, max}
+use Rattle.nb_base.proofs.Common.{eqb_tells, leb_tells, append-nil, state_of, size_of, page_in, slot_place, stalled_state, File, Files, bytes_of, with_file, World, Leaves, IsDurable, IsStill, IsTimely, Passes, Changes, Only, Moved, left_before, with_file-same, with_file-other, begun, moved_on, left_with, still_more, durable_is, AreEntries, HasTable, slot_page, Waits, Stays, Fronts, FrontStep, HasAll, Image, page_at, first_page, image_size, image_state, Base, delta_name, entry_for, behind_entries, owned, owner, Trail, StandsIn, IsOnTheWay, IsEntering, way_left, enter_left, named, itself_firm, same_pages, owned_length, owned_at, Held, IsOpen, StandsAs, HasPageIn, IsSlotted, GoesIn, none_there, for_here}
+use Rattle.nb_model.specs.Owner.{slot_page as owned_slot}
 use Rattle.nb_base.proofs.MergingLaws.{entry_named}
 use Rattle.nb_base.proofs.OwnedLaws.{Holds, holds, shows, base-length, base-page, base-state, base-size, owned-entry, owned-none, entry-front, entry-behind, entry-later, later, slots_stay, some_same}
 use Rattle.nb_base.proofs.StateLaws.{same_main}
 use Rattle.nb_base.proofs.StepLaws.{delta_moved}
 use Rattle.nb_base.proofs.WriteLaws.{main_apart, delta_apart}
 use Rattle.nb_base.proofs.WrittenLaws.{HasMain}
-use Rattle.nb_host.proofs.PlainLaws.{none_there}
-use Rattle.nb_model.proofs.EntryLaws.{for_here}
 
 -- no page stands past the end
 page_past : (image : Image) (p : ℕ) → length image ≤ p → page_at image p ≡ []

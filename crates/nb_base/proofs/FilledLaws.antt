@@ -1,33 +1,11 @@
 -- How many pages a database has without those of zeros at its end.
-use Rattle.std.proofs.Common.{◌≡◌, inl, inr, ℕ, suc, ◌+◌, ◌-◌, ◌<◌, ◌≤◌, List, [], ◌∷◌, length, refl, sym, ap, subst, ◌∙◌, arith}
-use Rattle.std.specs.Prelude.{true, false, Some, None, max}
-use Rattle.std.proofs.lemmas.Bool.{true≢false}
-use Rattle.std.proofs.lemmas.Bool.Decides.{leb_tells}
-use Rattle.nb_fields.specs.Bytes.{is_zeros}
-use Rattle.nb_fields.specs.Header.{is_header}
-use Rattle.nb_host.specs.Calls.{IsStill}
-use Rattle.nb_host.specs.Files.{Files, bytes_of}
-use Rattle.nb_host.specs.World.{World}
-use Rattle.nb_change.proofs.ReachedLaws.{strokes_composed}
-use Rattle.nb_page.specs.Quiet.{Quiet}
-use Rattle.nb_model.specs.Image.{Image, page_at, first_page, image_size, trimmed}
-use Rattle.nb_model.specs.Owner.{delta_name, entry_for, behind_entries}
-use Rattle.nb_model.specs.Strokes.{Stroke}
-use Rattle.nb_model.specs.Trail.{Trail, after_stroke}
-use Rattle.nb_model.proofs.ImageLaws.{trimming}
-use Rattle.nb_model.proofs.MainLaws.{some_page}
-use Rattle.nb_model.proofs.OwnerLaws.{main_here}
-use Rattle.nb_model.proofs.TrimLaws.{trimmed_front, trimmed_length, trimmed_at, trimmed_zeros}
-use Rattle.nb_base.specs.Firm.{StandsFirm}
-use Rattle.nb_base.specs.Open.{Held, OfFiles, IsOpen, IsMerged, AreMerged}
-use Rattle.nb_base.specs.Takes.{StrikesFirm}
+use Rattle.std.proofs.Common.{◌≡◌, inl, inr, ℕ, suc, ◌+◌, ◌-◌, ◌<◌, ◌≤◌, List, [], ◌∷◌, length, refl, sym, ap, subst, ◌∙◌, arith, true, false, Some, None, max}
+use Rattle.nb_base.proofs.Common.{true≢false, leb_tells, is_zeros, is_header, IsStill, Files, bytes_of, World, strokes_composed, Quiet, Image, page_at, first_page, image_size, trimmed, delta_name, entry_for, behind_entries, Stroke, Trail, after_stroke, trimming, some_page, main_here, trimmed_front, trimmed_length, trimmed_at, trimmed_zeros, StandsFirm, Held, OfFiles, IsOpen, IsMerged, AreMerged, StrikesFirm, none_there, for_here}
 use Rattle.nb_base.proofs.AgreeLaws.{open_seen, seen_open}
 use Rattle.nb_base.proofs.AttachLaws.{last_other}
 use Rattle.nb_base.proofs.MergingLaws.{seen_still, struck_quiet}
 use Rattle.nb_base.proofs.OwnedLaws.{Holds, owned-none, entry-later, later, main-some, base-length, base-page}
 use Rattle.nb_base.proofs.StrokeLaws.{h0}
-use Rattle.nb_host.proofs.PlainLaws.{none_there}
-use Rattle.nb_model.proofs.EntryLaws.{for_here}
 
 -- The image has so many pages or fewer.
 module _ (image : Image) (n : ℕ) (some : 1 ≤ n) (most : n ≤ length image) (low : length (trimmed image) ≤ n) where

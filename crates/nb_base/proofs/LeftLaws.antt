@@ -1,27 +1,8 @@
 -- What a crash may leave goes on by a page write: by itself, and where the write is lost.
-use Rattle.std.proofs.Common.{◌≡◌, ◌≢◌, ◌⊎◌, inl, inr, ⊎_elim, ℕ, zero, suc, ◌+◌, List, [], ◌∷◌, ◌++◌, length, take, drop, refl, sym, ap, subst, ◌∙◌, arith, append_assoc, length-append}
-use Rattle.std.specs.Prelude.{Bool, true, false, ◌||◌, ◌==◌, nat_eq, nat_le, Option, Some, None, max}
-use Rattle.std.specs.List.{list_any}
-use Rattle.std.proofs.lemmas.Bool.{true≢false}
-use Rattle.std.proofs.lemmas.Bool.Decides.{eqb_tells}
-use Rattle.std.proofs.lemmas.List.{take-append-drop, append-nil}
-use Rattle.nb_fields.specs.Places.{is_scn_place}
-use Rattle.nb_fields.specs.Header.{state_of, size_of}
-use Rattle.nb_fields.specs.States.{stalled_state, merge_state}
-use Rattle.nb_model.specs.Image.{Page, Image, page_at, first_page, image_size, image_state, is_forced, with_page}
-use Rattle.nb_model.specs.Account.{Base}
-use Rattle.nb_model.specs.Strokes.{Stroke, page, on_base, merged_page, noted}
-use Rattle.nb_model.specs.Owner.{entry_for}
-use Rattle.nb_model.specs.Trail.{Trail, bases_of, is_synced, settles_at, after_stroke, IsMixture, IsFirm}
-use Rattle.nb_base.specs.Firm.{must_sync}
-use Rattle.nb_model.proofs.HeaderLaws.{same-number}
-use Rattle.nb_model.proofs.SoundLaws.{with_page_length}
-use Rattle.nb_model.proofs.StrokeLaws.{with_page_same, with_page_other}
+use Rattle.std.proofs.Common.{◌≡◌, ◌≢◌, ◌⊎◌, inl, inr, ⊎_elim, ℕ, zero, suc, ◌+◌, List, [], ◌∷◌, ◌++◌, length, take, drop, refl, sym, ap, subst, ◌∙◌, arith, append_assoc, length-append, Bool, true, false, ◌||◌, ◌==◌, nat_eq, nat_le, Option, Some, None, max}
+use Rattle.nb_base.proofs.Common.{list_any, true≢false, eqb_tells, take-append-drop, append-nil, is_scn_place, state_of, size_of, stalled_state, merge_state, Page, Image, page_at, first_page, image_size, image_state, is_forced, with_page, Base, Stroke, page, on_base, merged_page, noted, entry_for, Trail, bases_of, is_synced, settles_at, after_stroke, IsMixture, IsFirm, must_sync, same-number, with_page_length, with_page_same, with_page_other, itself_firm, trail_base, waits_after, Fits, not_le}
 use Rattle.nb_model.proofs.MixtureWrites.{mixture_put, mixture_lost}
-use Rattle.nb_model.proofs.TrailLaws.{itself_firm, trail_base, waits_after}
-use Rattle.nb_base.specs.Open.{Fits}
 use Rattle.nb_base.proofs.OwnedLaws.{entry-front}
-use Rattle.nb_host.proofs.PlainLaws.{not_le}
 
 -- a page that fits is written as it is
 pub merged_fits : (p : ℕ) (bytes : Page) (image : Image) → (p ≡ 0 → take 64 bytes ≡ take 64 (first_page image)) → merged_page p bytes image ≡ bytes

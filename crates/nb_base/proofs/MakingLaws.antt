@@ -1,29 +1,8 @@
 -- The file of a new database while it is made: until page 0 is written it has no header, whatever a crash leaves of it.
-use Rattle.std.proofs.Common.{◌≡◌, ◌≢◌, ◌⊎◌, inl, inr, ⊎_elim, ℕ, zero, suc, ◌+◌, ◌-◌, ◌*◌, ◌≤◌, List, [], ◌∷◌, ◌++◌, length, take, drop, replicate, refl, sym, ◌∙◌, ap, subst, arith, length-append}
-use Rattle.std.specs.Prelude.{Bool, true, IsTrue, ◌||◌, ◌==◌, Some, None, Result, Ok, Err, OnOk}
-use Rattle.std.proofs.lemmas.Bool.{and_parts, and_from}
-use Rattle.std.proofs.lemmas.List.{take-append-le, take-take, length-take-le, length-replicate}
-use Rattle.std.proofs.lemmas.Result.{on_ok_weaker}
-use Rattle.nb_fields.specs.Bytes.{is_zeros}
-use Rattle.nb_fields.specs.Fresh.{fresh, fresh_count, fresh_page}
-use Rattle.nb_fields.specs.Places.{is_page_size}
+use Rattle.std.proofs.Common.{◌≡◌, ◌≢◌, ◌⊎◌, inl, inr, ⊎_elim, ℕ, zero, suc, ◌+◌, ◌-◌, ◌*◌, ◌≤◌, List, [], ◌∷◌, ◌++◌, length, take, drop, replicate, refl, sym, ◌∙◌, ap, subst, arith, length-append, Bool, true, IsTrue, ◌||◌, ◌==◌, Some, None, Result, Ok, Err, OnOk}
+use Rattle.nb_base.proofs.Common.{and_parts, and_from, take-append-le, take-take, length-take-le, length-replicate, on_ok_weaker, is_zeros, fresh, fresh_count, fresh_page, is_page_size, File, Files, bytes_of, padded, put_at, with_file, World, Leaves, LeavesAll, PageLeft, IsDurable, Untouched, WholeOrNot, Remakes, WritesPage, Syncs, IsSilent, Passes, IsTimely, Changes, Only, GaveNothing, untouched_fewer, whole-other, begun, one_more, still_more, durable_is, Image, base_of, owner, delta_name, ShowsIn, CreateLeft, CreateReads, IsSettled}
 use Rattle.nb_fields.specs.Free.{is_free_file, is_unfinished}
-use Rattle.nb_host.specs.Files.{File, Files, bytes_of, padded, put_at, with_file, with_page}
-use Rattle.nb_host.specs.World.{World}
-use Rattle.nb_host.specs.Crash.{Leaves, LeavesAll, PageLeft, IsDurable, Untouched}
-use Rattle.nb_host.specs.Calls.{WholeOrNot, Remakes, WritesPage, Syncs, IsSilent}
-use Rattle.nb_host.specs.Moments.{Passes, IsTimely}
-use Rattle.nb_change.specs.Changes.{Changes, Only}
-use Rattle.nb_change.specs.Gave.{GaveNothing}
-use Rattle.nb_change.proofs.MomentLaws.{untouched_fewer}
-use Rattle.nb_change.proofs.NameLaws.{whole-other}
-use Rattle.nb_change.proofs.ChangesLaws.{begun, one_more, still_more}
-use Rattle.nb_change.proofs.SettledLaws.{durable_is}
-use Rattle.nb_model.specs.Image.{Image}
-use Rattle.nb_model.specs.Account.{base_of}
-use Rattle.nb_model.specs.Owner.{owner, delta_name}
-use Rattle.nb_model.specs.Trail.{ShowsIn}
-use Rattle.nb_base.specs.Beginnings.{CreateLeft, CreateReads, IsSettled}
+use Rattle.nb_host.specs.Files.{with_page}
 use Rattle.nb_base.proofs.CreateLaws.{HasRest, named, whole_shows}
 
 -- the bytes where a header would stand are zeros, or there are fewer

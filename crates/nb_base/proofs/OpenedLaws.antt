@@ -1,33 +1,8 @@
 -- Opening a database: its two files are those that were read, or the refusal is the one of their owner.
-use Rattle.std.proofs.Common.{◌≡◌, ◌≢◌, inl, inr, ℕ, zero, suc, ◌<◌, List, [], length, refl, sym, ap, subst, ◌∙◌, arith}
-use Rattle.std.specs.Prelude.{true, false, ◌==◌, Some, None, Result, Ok, Err, IsErr, IsErrAnd, max}
-use Rattle.std.proofs.lemmas.Bool.Decides.{eqb_tells}
-use Rattle.nb_fields.specs.Header.{state_of, size_of}
-use Rattle.nb_fields.specs.Table.{table_of}
-use Rattle.nb_fields.specs.States.{normal_state, stalled_state}
-use Rattle.nb_host.specs.Files.{File, Files, bytes_of}
-use Rattle.nb_host.specs.World.{World}
-use Rattle.nb_host.specs.Crash.{LeavesAll, IsDurable}
-use Rattle.nb_host.specs.declared.faults.Fault.{Fault}
-use Rattle.nb_host.specs.declared.faults.Fault.TheVariants.{Refused, Device, Memory}
-use Rattle.nb_host.specs.declared.refusals.Refusal.{Refusal}
-use Rattle.nb_host.specs.declared.refusals.Refusal.TheVariants.{NoFile, BadDelta}
-use Rattle.nb_change.proofs.SettledLaws.{durable_is}
-use Rattle.nb_delta.specs.Known.{Known}
-use Rattle.nb_delta.specs.Slots.{HasTable}
-use Rattle.nb_model.specs.Image.{Image, image_size, image_state, image_in, is_forced}
-use Rattle.nb_model.specs.Account.{Base}
-use Rattle.nb_model.specs.Causes.{Cause, not_database}
-use Rattle.nb_model.specs.Owner.{delta_name, owned, behind_entries, owner_with, owner_in, owner}
-use Rattle.nb_model.specs.Trail.{ShowsIn, settled}
-use Rattle.nb_model.proofs.MainLaws.{laid, owner-none, owner-formed, owner-refused}
+use Rattle.std.proofs.Common.{◌≡◌, ◌≢◌, inl, inr, ℕ, zero, suc, ◌<◌, List, [], length, refl, sym, ap, subst, ◌∙◌, arith, true, false, ◌==◌, Some, None, Result, Ok, Err, IsErr, IsErrAnd, max}
+use Rattle.nb_base.proofs.Common.{eqb_tells, state_of, size_of, table_of, normal_state, stalled_state, File, Files, bytes_of, World, LeavesAll, IsDurable, Fault, Refused, Device, Memory, Refusal, NoFile, BadDelta, durable_is, Known, HasTable, Image, image_size, image_state, image_in, is_forced, Base, Cause, not_database, delta_name, owned, behind_entries, owner_with, owner_in, owner, ShowsIn, settled, laid, owner-none, owner-formed, owner-refused, Start, Tested, main_cause, IsStart, AttachesFor, Held, Agrees, IsOpen, IsAttached, Attaches, first_of, some_page}
 use Rattle.nb_base.proofs.FirmLaws.{shows_firm}
-use Rattle.nb_base.specs.declared.attach.Start.{Start}
-use Rattle.nb_base.specs.Attach.{Tested, main_cause, IsStart, AttachesFor}
-use Rattle.nb_base.specs.Open.{Held, Agrees, IsOpen}
-use Rattle.nb_base.specs.Beginnings.{IsAttached, Attaches, first_of}
 use Rattle.nb_base.proofs.AttachLaws.{start_broken, start_rest}
-use Rattle.nb_model.proofs.MainLaws.{some_page}
 use Rattle.nb_base.proofs.OwnedLaws.{Holds, owned-alone, frozen_in, bytes-state, bytes-size, shows, base-header, base-state, base-size, base-length}
 use Rattle.nb_model.proofs.OpeningLaws.{owner_applying}
 

@@ -1,19 +1,7 @@
 -- What two files stand for, and what they show, after a page of one of them was written.
-use Rattle.std.proofs.Common.{◌≡◌, ◌≢◌, ◌⊎◌, inl, inr, ⊎_elim, ℕ, ◌*◌, ◌<◌, ◌≤◌, List, [], ◌∷◌, ◌++◌, length, refl, sym, ap, subst, ◌∙◌, arith, length-append}
-use Rattle.std.specs.Prelude.{false, Option, Some, None, Result, Ok}
-use Rattle.nb_fields.specs.Table.{page_in, slot_place, table_of}
-use Rattle.nb_fields.specs.States.{stalled_state}
-use Rattle.nb_host.specs.Files.{File, bytes_of, with_page as with_page_at}
-use Rattle.nb_host.specs.Crash.{PageLeft}
-use Rattle.nb_delta.specs.Slots.{HasTable, SlotStep, SlotPut, Adds, AddStep, slot_page}
-use Rattle.nb_model.specs.Image.{Page, Image, image_size, image_state, with_page}
-use Rattle.nb_model.specs.Account.{Base}
-use Rattle.nb_model.specs.Strokes.{Stroke, page, on_base, merged_page}
-use Rattle.nb_model.specs.Owner.{entry_for, owned, owner}
-use Rattle.nb_model.specs.Trail.{Trail, after_stroke, IsFirm}
-use Rattle.nb_base.specs.Firm.{must_sync, StandsFirmOn}
-use Rattle.nb_model.proofs.TrailLaws.{itself_firm, trail_base}
-use Rattle.nb_base.specs.Seen.{IsWrite}
+use Rattle.std.proofs.Common.{◌≡◌, ◌≢◌, ◌⊎◌, inl, inr, ⊎_elim, ℕ, ◌*◌, ◌<◌, ◌≤◌, List, [], ◌∷◌, ◌++◌, length, refl, sym, ap, subst, ◌∙◌, arith, length-append, false, Option, Some, None, Result, Ok}
+use Rattle.nb_base.proofs.Common.{page_in, slot_place, table_of, stalled_state, File, bytes_of, PageLeft, HasTable, SlotStep, SlotPut, Adds, AddStep, slot_page, Page, Image, image_size, image_state, with_page, Base, Stroke, page, on_base, merged_page, entry_for, owned, owner, Trail, after_stroke, IsFirm, must_sync, StandsFirmOn, itself_firm, trail_base, IsWrite}
+use Rattle.nb_host.specs.Files.{with_page as with_page_at}
 use Rattle.nb_base.proofs.OwnedLaws.{Holds, holds, shows, main-some, main-long, base-state, base-size, entry_shows, entry-front, entry-behind, some_same}
 use Rattle.nb_base.proofs.LeftLaws.{stroke-image, stroke-frozen, stroke-stalled, noted-new, later_size, later_length, later_front, put_left, stay_left}
 use Rattle.nb_base.proofs.StepLaws.{main-state, main-size, holds_main, left_main, holds_slots, holds_slot, none_left}

@@ -1,34 +1,8 @@
 -- What two files hold of a database, in each backup state, and what a change of one of them makes of its image.
-use Rattle.std.proofs.Common.{◌≡◌, ◌≢◌, inl, inr, ℕ, zero, suc, ◌+◌, ◌<◌, ◌≤◌, List, [], ◌∷◌, ◌++◌, length, get_or, take, drop, refl, sym, ap, subst, ◌∙◌, arith, length-append}
-use Rattle.std.specs.Prelude.{Bool, true, false, ◌==◌, Option, Some, None, Result, Ok, Err, max}
-use Rattle.std.proofs.lemmas.Bool.Decides.{leb_tells, eqb_tells}
-use Rattle.std.proofs.lemmas.List.{ext_get_or, length-drop, length-replicate, length-take-le}
-use Rattle.nb_fields.specs.Header.{is_header, state_of, size_of}
-use Rattle.nb_fields.specs.Table.{table_of, page_in, slot_place}
-use Rattle.nb_fields.specs.States.{normal_state, stalled_state}
-use Rattle.nb_host.specs.Files.{File, bytes_of}
-use Rattle.nb_host.specs.declared.refusals.Refusal.{Refusal}
-use Rattle.nb_host.specs.declared.refusals.Refusal.TheVariants.{BadDelta, Unfinished}
-use Rattle.nb_delta.specs.Slots.{HasTable}
-use Rattle.nb_delta.proofs.PageLaws.{length-page_in}
-use Rattle.nb_model.specs.Image.{Page, Image, page_at, first_page, image_size, image_state, image_in, trimmed, with_page, written_at}
-use Rattle.nb_model.specs.Sound.{IsOfSize}
-use Rattle.nb_model.specs.Causes.{Cause, not_database}
-use Rattle.nb_model.specs.Account.{Base, base_of}
-use Rattle.nb_model.specs.Strokes.{merged_page}
-use Rattle.nb_model.specs.Owner.{entry_for, behind_entries, slot_page, main_page, owned_page, owned, diverted_base, owner_with, owner_in, owner}
-use Rattle.nb_model.proofs.FormLaws.{formed}
-use Rattle.nb_model.proofs.HeaderLaws.{header-long, header-state, same-header, same-number}
-use Rattle.nb_model.proofs.MainLaws.{laid, laid-front, laid-wide, some_page, owner-none, owner-refused, owner-formed, owner_in-normal, owned-first, owned-front, ok_same}
-use Rattle.nb_model.proofs.OwnerLaws.{main_here, main_past, other_page, written_length, named}
-use Rattle.nb_model.proofs.SoundLaws.{all_at, with_page_length}
-use Rattle.nb_model.proofs.ImageLaws.{IsTrimmed, all-left}
-use Rattle.nb_model.proofs.StrokeLaws.{with_page_same, with_page_other}
-use Rattle.nb_model.proofs.TrimLaws.{trimmed_length, trimmed_at, trimmed_page}
-use Rattle.nb_model.proofs.OverLaws.{owned_length, owned_at}
+use Rattle.std.proofs.Common.{◌≡◌, ◌≢◌, inl, inr, ℕ, zero, suc, ◌+◌, ◌<◌, ◌≤◌, List, [], ◌∷◌, ◌++◌, length, get_or, take, drop, refl, sym, ap, subst, ◌∙◌, arith, length-append, Bool, true, false, ◌==◌, Option, Some, None, Result, Ok, Err, max}
+use Rattle.nb_base.proofs.Common.{leb_tells, eqb_tells, ext_get_or, length-drop, length-replicate, length-take-le, is_header, state_of, size_of, table_of, page_in, slot_place, normal_state, stalled_state, File, bytes_of, Refusal, BadDelta, Unfinished, HasTable, length-page_in, Page, Image, page_at, first_page, image_size, image_state, image_in, trimmed, with_page, written_at, IsOfSize, Cause, not_database, Base, base_of, merged_page, entry_for, behind_entries, main_page, owned_page, owned, diverted_base, owner_with, owner_in, owner, formed, header-long, header-state, same-header, same-number, laid, laid-front, laid-wide, some_page, owner-none, owner-refused, owner-formed, owner_in-normal, owned-first, owned-front, ok_same, main_here, main_past, other_page, written_length, named, all_at, with_page_length, IsTrimmed, all-left, with_page_same, with_page_other, trimmed_length, trimmed_at, trimmed_page, owned_length, owned_at, none_there, for_here}
+use Rattle.nb_model.specs.Owner.{slot_page}
 use Rattle.nb_base.proofs.WrittenLaws.{HasMain, laid_formed, laid_image, written_same, written_inner, written_sizes}
-use Rattle.nb_host.proofs.PlainLaws.{none_there}
-use Rattle.nb_model.proofs.EntryLaws.{for_here}
 
 -- The image of two files, page by page.
 module _ (size : ℕ) (main : Image) (delta table : List ℕ) where

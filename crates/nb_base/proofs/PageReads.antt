@@ -1,27 +1,7 @@
 -- What is read of a main file, and of the image by the file that owns a page.
-use Rattle.std.proofs.Common.{◌≡◌, ◌≢◌, inl, inr, ℕ, zero, suc, ◌+◌, ◌-◌, ◌*◌, ◌<◌, ◌≤◌, List, [], ◌++◌, length, take, drop, replicate, refl, sym, ap, ◌∙◌, arith, length-append, length-take, suc-mul, mul-le-mul_right, le_of_mul-le-mul_right}
-use Rattle.std.specs.Prelude.{Bool, true, false, Option, Some, None}
-use Rattle.std.proofs.lemmas.Bool.Decides.{leb_tells}
-use Rattle.std.proofs.lemmas.List.{take_all, get_or_append_left, get_or-append_right}
-use Rattle.nb_fields.specs.Bytes.{is_zeros}
-use Rattle.nb_fields.specs.Header.{size_of}
-use Rattle.nb_fields.specs.Table.{page_in, slot_place}
-use Rattle.nb_fields.specs.States.{stalled_state}
-use Rattle.nb_host.specs.Files.{File, Files, bytes_of}
-use Rattle.nb_delta.specs.Known.{Known}
-use Rattle.nb_host.specs.Calls.{ReadsPage, ReadsBytes}
-use Rattle.nb_model.specs.Image.{Page, Image, page_at, first_page, image_size, image_state, image_in}
-use Rattle.nb_model.specs.Causes.{not_database}
-use Rattle.nb_model.specs.Account.{Base}
-use Rattle.nb_model.specs.Trail.{ShowsIn}
-use Rattle.nb_model.specs.Owner.{delta_name, entry_for, main_page, slot_page, owned_page}
-use Rattle.nb_model.proofs.FormLaws.{formed}
-use Rattle.nb_model.proofs.HeaderLaws.{header-long}
-use Rattle.nb_model.proofs.ImageLaws.{all-right, length-joined, page-joined}
-use Rattle.nb_model.proofs.MainLaws.{laid, laid-front, laid-wide}
-use Rattle.nb_model.proofs.OwnerLaws.{main_here, main_past}
-use Rattle.nb_model.proofs.SoundLaws.{all_at}
-use Rattle.nb_model.proofs.HeadSound.{all_zeros}
+use Rattle.std.proofs.Common.{◌≡◌, ◌≢◌, inl, inr, ℕ, zero, suc, ◌+◌, ◌-◌, ◌*◌, ◌<◌, ◌≤◌, List, [], ◌++◌, length, take, drop, replicate, refl, sym, ap, ◌∙◌, arith, length-append, length-take, suc-mul, mul-le-mul_right, le_of_mul-le-mul_right, Bool, true, false, Option, Some, None}
+use Rattle.nb_base.proofs.Common.{leb_tells, take_all, get_or_append_left, get_or-append_right, is_zeros, size_of, page_in, slot_place, stalled_state, File, Files, bytes_of, Known, ReadsPage, ReadsBytes, Page, Image, page_at, first_page, image_size, image_state, image_in, not_database, Base, ShowsIn, delta_name, entry_for, main_page, owned_page, formed, header-long, all-right, length-joined, page-joined, laid, laid-front, laid-wide, main_here, main_past, all_at, all_zeros}
+use Rattle.nb_model.specs.Owner.{slot_page}
 use Rattle.nb_base.proofs.WrittenLaws.{laid_formed, laid_image}
 use Rattle.nb_base.proofs.OwnedLaws.{Holds, holds, bytes-size, base-page, base-size, base-state, owned-entry, owned-none}
 

@@ -1,14 +1,6 @@
 -- The place of an entry, as the object of the difference file knows it.
-use Rattle.std.proofs.Common.{◌≡◌, inl, inr, ℕ, suc, ◌+◌, List, [], ◌∷◌, ◌++◌, refl, sym, ap, ◌∙◌, arith}
-use Rattle.std.specs.Prelude.{Option, Some, None, Result, Ok, nat_eq, option_map, true, false, Bool}
-use Rattle.std.specs.List.{position_from}
-use Rattle.std.proofs.lemmas.Bool.{cond-true, cond-false}
-use Rattle.std.proofs.lemmas.Bool.Decides.{eqb_tells}
-use Rattle.nb_fields.specs.Table.{slot_place}
-use Rattle.nb_delta.specs.Entries.{place_of}
-use Rattle.nb_delta.specs.Known.{Known}
-use Rattle.nb_model.specs.Strokes.{noted}
-use Rattle.nb_model.specs.Owner.{entry_for}
+use Rattle.std.proofs.Common.{◌≡◌, inl, inr, ℕ, suc, ◌+◌, List, [], ◌∷◌, ◌++◌, refl, sym, ap, ◌∙◌, arith, Option, Some, None, Result, Ok, nat_eq, option_map, true, false, Bool}
+use Rattle.nb_base.proofs.Common.{position_from, cond-true, cond-false, eqb_tells, slot_place, place_of, Known, noted, entry_for}
 
 place_from : (p i : ℕ) (entries : List ℕ) → position_from (nat_eq p) i entries ≡ option_map (λ k. i + k) (entry_for p entries)
 unfolding entry_for

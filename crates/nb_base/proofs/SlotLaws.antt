@@ -1,36 +1,10 @@
 -- Pages go into their slots in the stalled state, before their entries are in the table: what a crash leaves, and what reads after each.
-use Rattle.std.proofs.Common.{◌≡◌, ◌≢◌, ◌⊎◌, inl, inr, ⊎_elim, ℕ, ◌+◌, ◌<◌, ◌≤◌, List, [], ◌++◌, length, refl, sym, ap, subst, ◌∙◌, arith, append_assoc}
-use Rattle.std.specs.Prelude.{Bool, true, false, Option, Some, None, Ok}
-use Rattle.std.proofs.lemmas.Bool.{true≢false, cases_eq}
-use Rattle.std.proofs.lemmas.Bool.Decides.{eqb_tells}
-use Rattle.nb_fields.specs.Places.{is_scn_place}
-use Rattle.nb_fields.specs.Header.{state_of, size_of}
-use Rattle.nb_fields.specs.States.{stalled_state}
-use Rattle.nb_host.specs.Files.{File, bytes_of}
-use Rattle.nb_host.specs.World.{World}
-use Rattle.nb_host.specs.Moments.{IsTimely}
-use Rattle.nb_change.specs.Changes.{Changes, Only, Moved}
-use Rattle.nb_change.proofs.ChangesLaws.{begun, moved_on, weaker_has}
-use Rattle.nb_delta.specs.Known.{Known}
-use Rattle.nb_delta.specs.Slots.{HasTable, SlotStep, SlotPut, slot_page}
-use Rattle.nb_model.specs.Image.{Page, page_at, first_page, image_size, image_state}
-use Rattle.nb_model.specs.Account.{Base}
-use Rattle.nb_model.specs.Owner.{delta_name, entry_for, owner}
-use Rattle.nb_model.specs.Strokes.{page, on_base}
-use Rattle.nb_model.specs.Trail.{Trail, bases_of, settled, HasPage, IsFirm, StandsIn}
-use Rattle.nb_model.specs.Behind.{IsBehind, IsRewritten, IsOnTheWay}
-use Rattle.nb_model.proofs.BehindLaws.{way_left}
-use Rattle.nb_model.proofs.OwnerLaws.{named}
-use Rattle.nb_model.proofs.TrailLaws.{itself_firm}
-use Rattle.nb_model.proofs.WayLaws.{put_same, put_other, put_first, put_long, put_frozen}
-use Rattle.nb_base.specs.Open.{Held, Agrees}
-use Rattle.nb_base.specs.Seen.{IsSeen, IsWrite}
-use Rattle.nb_base.specs.Going.{StandsAs, HasPageIn, MaySlot, IsSlotted, GoesIn}
+use Rattle.std.proofs.Common.{◌≡◌, ◌≢◌, ◌⊎◌, inl, inr, ⊎_elim, ℕ, ◌+◌, ◌<◌, ◌≤◌, List, [], ◌++◌, length, refl, sym, ap, subst, ◌∙◌, arith, append_assoc, Bool, true, false, Option, Some, None, Ok}
+use Rattle.nb_base.proofs.Common.{true≢false, cases_eq, eqb_tells, is_scn_place, state_of, size_of, stalled_state, File, bytes_of, World, IsTimely, Changes, Only, Moved, begun, moved_on, weaker_has, Known, HasTable, SlotStep, SlotPut, slot_page, Page, page_at, first_page, image_size, image_state, Base, delta_name, entry_for, owner, page, on_base, Trail, bases_of, settled, HasPage, IsFirm, StandsIn, IsBehind, IsRewritten, IsOnTheWay, way_left, named, itself_firm, put_same, put_other, put_first, put_long, put_frozen, Held, Agrees, IsSeen, IsWrite, StandsAs, HasPageIn, MaySlot, IsSlotted, GoesIn, none_there}
 use Rattle.nb_base.proofs.LeftLaws.{stroke-stalled, noted-there}
 use Rattle.nb_base.proofs.OwnedLaws.{Holds, holds, shows, base-length, base-state, base-size, entry-front, entry-behind, entry_apart, some_same}
 use Rattle.nb_base.proofs.StepLaws.{holds_slots, holds_slot}
 use Rattle.nb_base.proofs.WriteLaws.{main_apart}
-use Rattle.nb_host.proofs.PlainLaws.{none_there}
 
 -- an entry names a page of the image
 pub entry_inside : (b : Base) (m d : File) (h : Holds b m d) (p k : ℕ) → entry_for p b.diverted ≡ Some k → p < length b.image

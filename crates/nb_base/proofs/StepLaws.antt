@@ -1,22 +1,10 @@
 -- One outcome and one step: what two files hold after a page of one of them was written.
-use Rattle.std.proofs.Common.{◌≡◌, ◌≢◌, ◌⊎◌, inl, inr, ⊎_elim, ℕ, ◌*◌, ◌<◌, ◌≤◌, List, length, take, refl, sym, ap, subst, ◌∙◌, arith}
-use Rattle.std.specs.Prelude.{Option, Some, None}
-use Rattle.nb_fields.specs.Table.{page_in, slot_place}
-use Rattle.nb_fields.specs.States.{stalled_state}
-use Rattle.nb_host.specs.Files.{File, bytes_of, with_page as with_page_at}
-use Rattle.nb_host.specs.Crash.{PageLeft}
-use Rattle.nb_delta.specs.Slots.{HasTable, slot_page}
-use Rattle.nb_model.specs.Image.{Page, Image, page_at, first_page, image_size, image_state, with_page, written_at}
-use Rattle.nb_model.specs.Account.{Base}
-use Rattle.nb_model.specs.Strokes.{Stroke, page, on_base, merged_page}
-use Rattle.nb_model.specs.Owner.{entry_for, owned}
-use Rattle.nb_model.specs.Trail.{Trail, IsFirm}
-use Rattle.nb_model.proofs.HeaderLaws.{same-header, same-number}
-use Rattle.nb_base.specs.Seen.{IsWrite}
+use Rattle.std.proofs.Common.{◌≡◌, ◌≢◌, ◌⊎◌, inl, inr, ⊎_elim, ℕ, ◌*◌, ◌<◌, ◌≤◌, List, length, take, refl, sym, ap, subst, ◌∙◌, arith, Option, Some, None}
+use Rattle.nb_base.proofs.Common.{page_in, slot_place, stalled_state, File, bytes_of, PageLeft, HasTable, slot_page, Page, Image, page_at, first_page, image_size, image_state, with_page, written_at, Base, Stroke, page, on_base, merged_page, entry_for, owned, Trail, IsFirm, same-header, same-number, IsWrite, none_there}
+use Rattle.nb_host.specs.Files.{with_page as with_page_at}
 use Rattle.nb_base.proofs.WrittenLaws.{HasMain, MayWrite, main_put, main_written}
 use Rattle.nb_base.proofs.OwnedLaws.{Holds, main-some, main-long, base-front, base-state, base-size, front_stays, main_shows, slots_stay, slot_shows, entry-front}
 use Rattle.nb_base.proofs.LeftLaws.{stroke-image, stroke-frozen, stroke-stalled, stroke-other, noted-there, fits_left, state_left, size_left, put_is}
-use Rattle.nb_host.proofs.PlainLaws.{none_there}
 
 -- Another main file with the same header, in the normal and the merge state.
 pub main_moved : (b new : Base) (m d c : File) (h : Holds b m d) (main : Image) → image_state h.main ≢ stalled_state → HasMain main c → take 64 (first_page main) ≡ take 64 (first_page h.main)

@@ -1,37 +1,12 @@
 -- A page is written: what a crash leaves at each moment, and what is seen once the call has answered Ok.
-use Rattle.std.proofs.Common.{◌≡◌, ◌≢◌, ◌⊎◌, inl, inr, ⊎_elim, ℕ, zero, suc, ◌*◌, ◌<◌, ◌≤◌, List, [], ◌∷◌, length, refl, sym, ap, subst, ◌∙◌, arith, length-append}
-use Rattle.std.specs.Prelude.{Bool, true, false, IsTrue, Some, None, Result, Ok, Err, IsErr, OnOk}
-use Rattle.nb_fields.specs.States.{normal_state, stalled_state, merge_state}
-use Rattle.nb_host.specs.Files.{File, Files, with_file, with_page as with_page_at}
-use Rattle.nb_host.specs.World.{World}
-use Rattle.nb_host.specs.Crash.{Leaves, IsDurable, Untouched}
-use Rattle.nb_host.specs.Calls.{WritesPage, IsStill}
-use Rattle.nb_host.specs.Moments.{IsTimely, Passes}
+use Rattle.std.proofs.Common.{◌≡◌, ◌≢◌, ◌⊎◌, inl, inr, ⊎_elim, ℕ, zero, suc, ◌*◌, ◌<◌, ◌≤◌, List, [], ◌∷◌, length, refl, sym, ap, subst, ◌∙◌, arith, length-append, Bool, true, false, IsTrue, Some, None, Result, Ok, Err, IsErr, OnOk}
+use Rattle.nb_base.proofs.Common.{normal_state, stalled_state, merge_state, File, Files, with_file, World, Leaves, IsDurable, Untouched, WritesPage, IsStill, IsTimely, Passes, Only, Changes, Moved, Reached, left_before, with_file-same, with_file-other, all_before, begun, left_with, moved_on, page_more, durable_is, HasTable, SlotStep, SlotPut, Adds, AddStep, Page, image_size, image_state, Base, Stroke, page, delta_name, entry_for, owner, Trail, after_stroke, ShowsIn, must_sync, StandsFirmOn, StandsFirm, OfFiles, IsSeen, IsWrite, StrikesFirm, TakesFirm, place_of, trail_base, none_there, for_nothing}
+use Rattle.nb_host.specs.Files.{with_page as with_page_at}
 use Rattle.nb_host.specs.Names.{delta_suffix}
-use Rattle.nb_change.specs.Changes.{Only, Changes, Moved, Reached}
-use Rattle.nb_change.proofs.MomentLaws.{left_before}
-use Rattle.nb_change.proofs.NameLaws.{with_file-same, with_file-other}
-use Rattle.nb_change.proofs.ChangesLaws.{all_before, begun, left_with, moved_on}
-use Rattle.nb_change.proofs.CallLaws.{page_more}
-use Rattle.nb_change.proofs.SettledLaws.{durable_is}
-use Rattle.nb_delta.specs.Slots.{HasTable, SlotStep, SlotPut, Adds, AddStep}
-use Rattle.nb_model.specs.Image.{Page, image_size, image_state}
-use Rattle.nb_model.specs.Account.{Base}
-use Rattle.nb_model.specs.Strokes.{Stroke, page}
-use Rattle.nb_model.specs.Owner.{delta_name, entry_for, owner}
-use Rattle.nb_model.specs.Trail.{Trail, after_stroke, ShowsIn}
-use Rattle.nb_base.specs.Firm.{must_sync, StandsFirmOn, StandsFirm}
-use Rattle.nb_base.specs.Open.{OfFiles}
-use Rattle.nb_base.specs.Seen.{IsSeen, IsWrite}
-use Rattle.nb_base.specs.Takes.{StrikesFirm, TakesFirm}
-use Rattle.nb_delta.specs.Entries.{place_of}
-use Rattle.nb_model.proofs.TrailLaws.{trail_base}
 use Rattle.nb_base.proofs.OwnedLaws.{Holds, holds, base-state, base-size}
 use Rattle.nb_base.proofs.LeftLaws.{later_state, stroke-other}
 use Rattle.nb_base.proofs.PlaceLaws.{place-entry}
 use Rattle.nb_base.proofs.OutcomeLaws.{stands_stays, stands_main, stands_main_put, shows_main_put, all_entries, stands_slot, stands_slot_put, shows_slot_put, stands_add, stands_added, shows_added}
-use Rattle.nb_host.proofs.PlainLaws.{none_there}
-use Rattle.nb_model.proofs.EntryLaws.{for_nothing}
 
 -- a database's two files have different names
 pub delta_apart : (name : List ℕ) → delta_name name ≢ name

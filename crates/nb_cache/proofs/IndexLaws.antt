@@ -1,20 +1,7 @@
 -- The pages that an index finds, as frames move.
 use Rattle.std.proofs.Common.{◌≡◌, ℕ, suc, ◌+◌, ◌-◌, ◌<◌, ◌≤◌, nat_eq, false, inl, inr, List, [], ◌∷◌, ◌++◌, length, take, drop, Option, Some, None, refl, sym, ap, ap₂, ◌∙◌, subst, arith, min, MatchOption, length-append, append_assoc, Contains, cond}
-use Rattle.std.specs.List.{AllByRecursion, IsDistinct}
-use Rattle.std.specs.Map.{keys_of}
-use Rattle.std.proofs.Math.Seq.{take-append-add}
-use Rattle.std.proofs.lemmas.Bool.{eq-eqb, ne_eqb, eqb-false, cases_eq}
-use Rattle.lru.specs.LruCache.{last_entry}
-use Rattle.std.proofs.lemmas.List.{map-append, append-nil, take_all, take-append-le, take-append-drop, length-take-le}
-use Rattle.std.proofs.lemmas.Map.Keys.{IsDistinct-head, IsDistinct-tail}
-use Rattle.std.proofs.lemmas.List.Elements.{Contains-append_left}
-use Rattle.lru.proofs.Splits.{Contains-head, Contains-tail, Contains-cons, Contains-nil, Contains-middle, Contains-without, Contains-with, all_at, all_from}
-use Rattle.nb_cache.specs.declared.frames.Frame.{Frame}
-use Rattle.nb_cache.specs.declared.index.Index.{Index}
-use Rattle.nb_cache.specs.Frames.{Frames, NoneHolds, FoundAt}
-use Rattle.nb_cache.specs.Index.{holder, places, Finds}
+use Rattle.nb_cache.proofs.Common.{AllByRecursion, IsDistinct, keys_of, take-append-add, eq-eqb, ne_eqb, eqb-false, cases_eq, last_entry, map-append, append-nil, take_all, take-append-le, take-append-drop, length-take-le, IsDistinct-head, IsDistinct-tail, Contains-append_left, Contains-head, Contains-tail, Contains-cons, Contains-nil, Contains-middle, Contains-without, Contains-with, all_at, all_from, Frame, Index, Frames, NoneHolds, FoundAt, holder, places, Finds, some_same}
 use Rattle.nb_cache.proofs.KeyedLaws.{misses_before, last_parts}
-use Rattle.nb_host.proofs.PlainLaws.{some_same}
 
 -- a frame is in its place
 place_of : (es : Frames) (x : ℕ × Frame) → Contains es x → Contains (places es) (x.1.page, x.0)

@@ -1,14 +1,7 @@
 -- Lists of pairs at the first pair whose key passes a test.
 use Rattle.std.proofs.Common.{◌≡◌, ◌<◌, ℕ, length, Bool, true, false, List, [], ◌∷◌, ◌++◌, Some, None, refl, sym, ap, subst, ◌∙◌, nat_eq}
-use Rattle.std.specs.List.{AllByRecursion, IsDistinct}
-use Rattle.std.proofs.lemmas.Bool.{ne_eqb, eqb-false}
-use Rattle.std.proofs.lemmas.Map.Keys.{IsDistinct-head, IsDistinct-tail}
-use Rattle.std.specs.Option.{option_map_or}
-use Rattle.lru.specs.LruCache.{last_entry, promoted, demoted}
+use Rattle.nb_cache.proofs.Common.{AllByRecursion, IsDistinct, ne_eqb, eqb-false, IsDistinct-head, IsDistinct-tail, option_map_or, last_entry, promoted, demoted, Frame, Frames, IsLast, keys_of, lookup, lookup_entry, remove_entry, set_value}
 use Rattle.lru.proofs.Pairs.{cut_end, last_of_push}
-use Rattle.nb_cache.specs.declared.frames.Frame.{Frame}
-use Rattle.nb_cache.specs.Frames.{Frames, IsLast}
-use Rattle.std.specs.Map.{keys_of, lookup, lookup_entry, remove_entry, set_value}
 
 module _ {K V : Type 0} (test : K → Bool) where
   -- no key passes

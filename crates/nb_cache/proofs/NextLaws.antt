@@ -1,11 +1,7 @@
 -- Which of the waiting pages goes out first, as one page more is seen.
 use Rattle.std.proofs.Common.{◌≡◌, ℕ, ◌<◌, ◌≤◌, ◌⊎◌, inl, inr, List, [], ◌∷◌, ◌++◌, Option, Some, arith, ⊎_elim, Contains}
-use Rattle.std.specs.List.{AllByRecursion}
-use Rattle.std.proofs.lemmas.List.Elements.{Contains-append_right}
-use Rattle.lru.proofs.Splits.{Contains-head}
-use Rattle.nb_cache.specs.Held.{Slot, NoneWaits, IsNoLater, GoesFirst}
+use Rattle.nb_cache.proofs.Common.{AllByRecursion, Contains-append_right, Contains-head, Slot, NoneWaits, IsNoLater, GoesFirst, some_same}
 use Rattle.nb_cache.proofs.KeyedLaws.{All-snoc}
-use Rattle.nb_host.proofs.PlainLaws.{some_same}
 
 module _ (pages : List (ℕ × Slot)) (page : ℕ) (bytes : List ℕ) where
   abbrev slot : Option ℕ → ℕ × Slot

@@ -1,16 +1,7 @@
 -- The held pages that frames show, as frames move.
 use Rattle.std.proofs.Common.{◌≡◌, ℕ, suc, ◌+◌, ◌-◌, ◌<◌, ◌≤◌, nat_eq, Bool, true, false, inl, inr, List, [], ◌∷◌, ◌++◌, length, take, map, min, Option, Some, None, IsSome, refl, sym, ap, ◌∙◌, subst, arith, length-append}
-use Rattle.std.specs.List.{AllByRecursion, slice_get}
-use Rattle.std.specs.Option.{option_map_or, option_and_then, option_map}
-use Rattle.std.specs.Map.{lookup, lookup_entry, remove_entry, set_value}
-use Rattle.std.proofs.Math.Seq.{take-append-add}
+use Rattle.nb_cache.proofs.Common.{AllByRecursion, slice_get, option_map_or, option_and_then, option_map, lookup, lookup_entry, remove_entry, set_value, take-append-add, eq-eqb, ne_eqb, cases_lt, map-append, take-append-le, append-nil, take_all, take-take, take-map, length-take-le, LruCache, last_entry, lru_cache, promoted, demoted, put_entries, Frame, Slot, Held, slot_of, rank_of, with_rank, Frames, slot_in, shown, NoneHolds, Split, FoundAt, IsLast, IsCache}
 use Rattle.std.proofs.lemmas.Option.{slice_get-map}
-use Rattle.std.proofs.lemmas.Bool.{eq-eqb, ne_eqb, cases_lt}
-use Rattle.std.proofs.lemmas.List.{map-append, take-append-le, append-nil, take_all, take-take, take-map, length-take-le}
-use Rattle.lru.specs.LruCache.{LruCache, last_entry, lru_cache, promoted, demoted, put_entries}
-use Rattle.nb_cache.specs.declared.frames.Frame.{Frame}
-use Rattle.nb_cache.specs.Held.{Slot, Held, slot_of, rank_of, with_rank}
-use Rattle.nb_cache.specs.Frames.{Frames, slot_in, shown, NoneHolds, Split, FoundAt, IsLast, IsCache}
 use Rattle.nb_cache.proofs.KeyedLaws.{Misses, lookup-at, lookup_entry-at, lookup-absent, lookup_entry-absent, remove_entry-absent, remove_entry-at, set_value-at, promoted-at, demoted-at, All-parts, All-join}
 
 pub some_is : {X : Type 0} (o : Option X) (x : X) → o ≡ Some x → IsSome o

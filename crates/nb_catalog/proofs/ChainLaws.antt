@@ -1,17 +1,6 @@
 -- The line of each restore point is a chain.
-use Rattle.std.proofs.Common.{◌≡◌, ℕ, zero, suc, ◌+◌, ◌<◌, List, [], ◌∷◌, ◌++◌, length, map, refl, sym, ap, subst, ◌∙◌, arith, append_assoc}
-use Rattle.std.specs.Prelude.{true, Option, Some, None, Ok, is_some, Contains}
-use Rattle.std.specs.List.{slice_index_or}
-use Rattle.std.proofs.lemmas.List.{append-nil, map-append, get_or-map}
-use Rattle.std.proofs.lemmas.List.Quantifiers.{position-Some}
-use Rattle.nb_host.specs.Files.{Files}
-use Rattle.nb_model.specs.Restoring.{Link, first_link, next_link, next_links, linked, verdict}
-use Rattle.nb_level.specs.declared.head.LevelHead.{LevelHead}
-use Rattle.nb_catalog.specs.declared.entry.Entry.{Entry}
-use Rattle.nb_catalog.specs.Heads.{whole_head, read_files}
-use Rattle.nb_catalog.specs.Lines.{is_parent, parent, parents_of, line_at}
-use Rattle.nb_catalog.specs.Plans.{entries_of, line, is_point, points}
-use Rattle.nb_catalog.specs.Chained.{names_at, IsChained}
+use Rattle.std.proofs.Common.{◌≡◌, ℕ, zero, suc, ◌+◌, ◌<◌, List, [], ◌∷◌, ◌++◌, length, map, refl, sym, ap, subst, ◌∙◌, arith, append_assoc, true, Option, Some, None, Ok, is_some, Contains}
+use Rattle.nb_catalog.proofs.Common.{slice_index_or, append-nil, map-append, get_or-map, position-Some, Files, Link, first_link, next_link, next_links, linked, verdict, LevelHead, Entry, whole_head, read_files, is_parent, parent, parents_of, line_at, entries_of, line, is_point, points, names_at, IsChained}
 use Rattle.nb_catalog.proofs.InLaws.{in_from, in_filter}
 use Rattle.nb_catalog.proofs.EntryLaws.{entry_at, in_entries}
 use Rattle.nb_catalog.proofs.LineLaws.{line_split, length-line}

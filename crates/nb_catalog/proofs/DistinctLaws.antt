@@ -1,24 +1,10 @@
 -- A list that is read has each name once.
-use Rattle.std.proofs.Common.{◌≡◌, inl, inr, ℕ, zero, suc, ◌+◌, ◌<◌, ◌≤◌, List, [], ◌∷◌, ◌++◌, length, refl, sym, ap, subst, ◌∙◌, arith, append_assoc, length-append}
-use Rattle.std.specs.Prelude.{◌⊎◌, Bool, true, false, not, nat_lt, Some, None, Result, Ok, Err, if◌then◌else◌}
-use Rattle.std.specs.List.{slice_index_or}
-use Rattle.std.proofs.lemmas.Bool.{and_parts, cases_Bool, cases_lt, true≢false}
-use Rattle.std.proofs.lemmas.List.{append-nil, get_or_append_left}
-use Rattle.nb_host.specs.Files.{File}
-use Rattle.nb_host.specs.Names.{same_name}
-use Rattle.nb_host.specs.declared.refusals.Refusal.{Refusal}
-use Rattle.nb_host.specs.declared.refusals.Refusal.TheVariants.{BadScript, NoFile, ScriptLong}
+use Rattle.std.proofs.Common.{◌≡◌, inl, inr, ℕ, zero, suc, ◌+◌, ◌<◌, ◌≤◌, List, [], ◌∷◌, ◌++◌, length, refl, sym, ap, subst, ◌∙◌, arith, append_assoc, length-append, ◌⊎◌, Bool, true, false, not, nat_lt, Some, None, Result, Ok, Err, if◌then◌else◌}
+use Rattle.nb_catalog.proofs.Common.{slice_index_or, and_parts, cases_Bool, cases_lt, true≢false, append-nil, get_or_append_left, File, same_name, Refusal, BadScript, NoFile, ScriptLong, Bytes, lines_of, left, Numbered, with_first, AreDistinct, is_listed, is_next, list_of, names_on, some_names_on, names_in, not_true}
 use Rattle.nb_model.specs.Words.{is_file}
-use Rattle.nb_script.specs.Words.{Bytes}
-use Rattle.nb_script.specs.Lines.{lines_of, left}
-use Rattle.nb_script.specs.Scripts.{Numbered}
-use Rattle.nb_catalog.specs.Answers.{with_first}
-use Rattle.nb_catalog.specs.NameLists.{AreDistinct, is_listed, is_next, list_of, names_on, some_names_on}
-use Rattle.nb_catalog.specs.Turns.{names_in}
 use Rattle.nb_catalog.proofs.InLaws.{In, any_of}
 use Rattle.nb_catalog.proofs.ListLaws.{no_name, one_name}
 use Rattle.nb_host.proofs.NameLaws.{same_self}
-use Rattle.nb_host.proofs.PlainLaws.{not_true}
 
 pub none_twice : AreDistinct []
 none_twice i j low high same = absurd (omega (arith, low))

@@ -1,8 +1,6 @@
 -- What is among the elements of a list, element by element.
-use Rattle.std.proofs.Common.{◌≡◌, inl, inr, ℕ, zero, suc, ◌<◌, List, [], ◌∷◌, length, map, refl, sym, ap, ◌∙◌, arith}
-use Rattle.std.specs.Prelude.{◌⊎◌, Bool, true, false, ◌||◌, cond, filter, Contains}
-use Rattle.std.specs.List.{list_any, slice_index_or}
-use Rattle.nb_host.proofs.PlainLaws.{or_true}
+use Rattle.std.proofs.Common.{◌≡◌, inl, inr, ℕ, zero, suc, ◌<◌, List, [], ◌∷◌, length, map, refl, sym, ap, ◌∙◌, arith, ◌⊎◌, Bool, true, false, ◌||◌, cond, filter, Contains}
+use Rattle.nb_catalog.proofs.Common.{list_any, slice_index_or, or_true}
 
 abbrev pub In : {X : Type 0} → List X → X → Type 0
 In [] x = ⊥

@@ -1,19 +1,6 @@
 -- The files of a kept line by their names.
-use Rattle.std.proofs.Common.{◌≡◌, inl, inr, ℕ, zero, suc, ◌+◌, ◌<◌, List, [], ◌∷◌, length, refl, sym, ap, subst, ◌∙◌, arith}
-use Rattle.std.specs.Prelude.{◌⊎◌, Option, Some, None, Result, Ok, Err, Contains}
-use Rattle.std.specs.List.{slice_index_or}
-use Rattle.std.proofs.lemmas.List.{get_or-map}
-use Rattle.std.proofs.lemmas.List.Quantifiers.{position-Some}
-use Rattle.nb_host.specs.Files.{Files}
-use Rattle.nb_host.specs.declared.refusals.Refusal.{Refusal}
-use Rattle.nb_level.specs.declared.head.LevelHead.{LevelHead}
-use Rattle.nb_catalog.specs.declared.entry.Entry.{Entry}
-use Rattle.nb_catalog.specs.Answers.{with_first}
-use Rattle.nb_catalog.specs.Chained.{IsSafe, KeepsFiles, names_at}
-use Rattle.nb_catalog.specs.Heads.{read_file, read_files, whole_head}
-use Rattle.nb_catalog.specs.Lines.{is_parent, parent, parents_of, line_at}
-use Rattle.nb_catalog.specs.NameLists.{AreDistinct}
-use Rattle.nb_catalog.specs.Plans.{ArePlaces, Retention, entries_of, is_point, plan_of, points}
+use Rattle.std.proofs.Common.{◌≡◌, inl, inr, ℕ, zero, suc, ◌+◌, ◌<◌, List, [], ◌∷◌, length, refl, sym, ap, subst, ◌∙◌, arith, ◌⊎◌, Option, Some, None, Result, Ok, Err, Contains}
+use Rattle.nb_catalog.proofs.Common.{slice_index_or, get_or-map, position-Some, Files, Refusal, LevelHead, Entry, with_first, IsSafe, KeepsFiles, names_at, read_file, read_files, whole_head, is_parent, parent, parents_of, line_at, AreDistinct, ArePlaces, Retention, entries_of, is_point, plan_of, points}
 use Rattle.nb_catalog.proofs.EntryLaws.{in_entries}
 use Rattle.nb_catalog.proofs.FileLaws.{by_first, none_left}
 use Rattle.nb_catalog.proofs.InLaws.{In, in_from, in_to, in_filter, in_map}

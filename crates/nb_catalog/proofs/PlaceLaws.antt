@@ -1,12 +1,6 @@
 -- The places of a plan are those of files of the list.
-use Rattle.std.proofs.Common.{◌≡◌, ◌∙◌, ℕ, zero, suc, ◌+◌, ◌<◌, ◌≤◌, List, [], ◌∷◌, ◌++◌, length, take, get_or, sym, ap, ap₂, subst, arith}
-use Rattle.std.specs.Prelude.{Bool, true, false, cond, filter, not}
-use Rattle.std.specs.List.{AllByRecursion, slice_index_or}
-use Rattle.std.proofs.lemmas.List.{take_more, map-append}
-use Rattle.nb_level.specs.declared.head.LevelHead.{LevelHead}
-use Rattle.nb_catalog.specs.declared.entry.Entry.{Entry}
-use Rattle.nb_catalog.specs.Chained.{names_at}
-use Rattle.nb_catalog.specs.Plans.{ArePlaces, IsWithin, Retention, entries_from, entries_of, is_needed, is_point, places, plan_of, points}
+use Rattle.std.proofs.Common.{◌≡◌, ◌∙◌, ℕ, zero, suc, ◌+◌, ◌<◌, ◌≤◌, List, [], ◌∷◌, ◌++◌, length, take, get_or, sym, ap, ap₂, subst, arith, Bool, true, false, cond, filter, not}
+use Rattle.nb_catalog.proofs.Common.{AllByRecursion, slice_index_or, take_more, map-append, LevelHead, Entry, names_at, ArePlaces, IsWithin, Retention, entries_from, entries_of, is_needed, is_point, places, plan_of, points}
 
 -- what holds of all holds of some of them
 some_of : {X : Type 0} (P : X → Type 0) (test : X → Bool) (xs : List X) → AllByRecursion P xs → AllByRecursion P (filter test xs)

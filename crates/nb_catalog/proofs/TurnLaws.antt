@@ -1,17 +1,6 @@
 -- A plan by what the files are read as.
-use Rattle.std.proofs.Common.{◌≡◌, ℕ, List, refl, sym, ap, ◌∙◌}
-use Rattle.std.specs.Prelude.{Result, Ok, Err}
-use Rattle.nb_host.specs.Files.{Files}
-use Rattle.nb_host.specs.declared.faults.Fault.{Fault}
-use Rattle.nb_host.specs.declared.faults.Fault.TheVariants.{Refused, Device, Memory}
-use Rattle.nb_host.specs.declared.refusals.Refusal.{Refusal}
-use Rattle.nb_level.specs.declared.head.LevelHead.{LevelHead}
-use Rattle.nb_catalog.specs.Answers.{Says}
-use Rattle.nb_catalog.specs.Heads.{read_files}
-use Rattle.nb_catalog.specs.Plans.{Retention, plan_of}
-use Rattle.nb_catalog.specs.Chained.{IsSafe, KeepsChains, KeepsFiles}
-use Rattle.nb_catalog.specs.NameLists.{AreDistinct}
-use Rattle.nb_catalog.specs.Turns.{planned}
+use Rattle.std.proofs.Common.{◌≡◌, ℕ, List, refl, sym, ap, ◌∙◌, Result, Ok, Err}
+use Rattle.nb_catalog.proofs.Common.{Files, Fault, Refused, Device, Memory, Refusal, LevelHead, Says, read_files, Retention, plan_of, IsSafe, KeepsChains, KeepsFiles, AreDistinct, planned}
 use Rattle.nb_catalog.proofs.ChainLaws.{points_chained}
 use Rattle.nb_catalog.proofs.KeptFiles.{keeps_files}
 use Rattle.nb_catalog.proofs.KeptLaws.{is_safe}

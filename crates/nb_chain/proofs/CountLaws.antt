@@ -1,11 +1,6 @@
 -- Counting pages from the end gives the length of an image without its pages of zeros.
-use Rattle.std.proofs.Common.{◌≡◌, inl, inr, ℕ, zero, suc, [], ◌∷◌, length, refl, sym, ap, ◌∙◌}
-use Rattle.std.specs.Prelude.{Bool, true, false}
-use Rattle.std.proofs.lemmas.Bool.{cases_Bool}
-use Rattle.nb_fields.specs.Bytes.{is_zeros}
-use Rattle.nb_model.specs.Image.{Page, Image, page_at, trimmed}
-use Rattle.nb_chain.specs.Overlay.{without_blank}
-use Rattle.nb_model.proofs.ImageLaws.{trimmed-none}
+use Rattle.std.proofs.Common.{◌≡◌, inl, inr, ℕ, zero, suc, [], ◌∷◌, length, refl, sym, ap, ◌∙◌, Bool, true, false}
+use Rattle.nb_chain.proofs.Common.{cases_Bool, is_zeros, Page, Image, page_at, trimmed, without_blank, trimmed-none}
 
 by_last : (blank : Bool) (below here : ℕ) → ℕ
 by_last blank below here = elim blank [ true ↦ below | false ↦ here ]

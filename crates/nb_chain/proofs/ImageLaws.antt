@@ -1,19 +1,9 @@
 -- What level files say of pages tells which pages of the image that a chain gives are all zeros.
-use Rattle.std.proofs.Common.{◌≡◌, ◌≢◌, inl, inr, ℕ, zero, suc, ◌+◌, ◌-◌, ◌*◌, ◌/◌, ◌<◌, ◌≤◌, List, [], ◌∷◌, ◌++◌, length, replicate, get_or, set, refl, sym, ap, ◌∙◌, arith, length-append, get_or-set_other}
-use Rattle.std.specs.Prelude.{Bool, true, false, nat_lt, max}
-use Rattle.std.proofs.lemmas.Bool.{cases_lt, cases_eq}
-use Rattle.std.proofs.lemmas.List.{get_or_append_left, get_or-append_right, get_or-set_same, get_or_past}
+use Rattle.std.proofs.Common.{◌≡◌, ◌≢◌, inl, inr, ℕ, zero, suc, ◌+◌, ◌-◌, ◌*◌, ◌/◌, ◌<◌, ◌≤◌, List, [], ◌∷◌, ◌++◌, length, replicate, get_or, set, refl, sym, ap, ◌∙◌, arith, length-append, get_or-set_other, Bool, true, false, nat_lt, max}
+use Rattle.nb_chain.proofs.Common.{cases_lt, cases_eq, get_or_append_left, get_or-append_right, get_or-set_same, get_or_past, is_zeros, part, size_of, Page, Image, Numbered, page_at, cut, trimmed, written_at, overwritten, Link, whole_link, all_over, applied, Pages, pages_of, cut-joined, page-joined, zeros-are, lt_no, lt_yes, Mark, mark_of, grown, noted, all_noted, links_noted, is_blank_by, is_blank, without_blank}
 use Rattle.std.proofs.Math.ListN.{length-set, length-replicate}
 use Rattle.std.proofs.Math.Nat.{mul-div_cancel}
-use Rattle.nb_fields.specs.Bytes.{is_zeros, part}
-use Rattle.nb_fields.specs.Header.{size_of}
-use Rattle.nb_model.specs.Image.{Page, Image, Numbered, page_at, cut, trimmed, written_at, overwritten}
-use Rattle.nb_model.specs.Restoring.{Link, whole_link, all_over, applied}
-use Rattle.nb_model.proofs.ImageLaws.{Pages, pages_of, cut-joined, page-joined, zeros-are}
-use Rattle.nb_model.proofs.ReadLaws.{lt_no, lt_yes}
-use Rattle.nb_chain.specs.declared.overlay.Mark.{Mark}
 use Rattle.nb_chain.specs.declared.overlay.Mark.TheVariants.{Untouched, Zeros, Filled}
-use Rattle.nb_chain.specs.Overlay.{mark_of, grown, noted, all_noted, links_noted, is_blank_by, is_blank, without_blank}
 use Rattle.nb_chain.proofs.CountLaws.{length_trimmed, counted_alike}
 use Rattle.nb_model.proofs.LineLaws.{writes_all}
 use Rattle.nb_model.proofs.OwnerLaws.{tail_length}

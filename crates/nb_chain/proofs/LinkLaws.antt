@@ -1,20 +1,7 @@
 -- Accepting the files of a chain one by one.
-use Rattle.std.proofs.Common.{◌≡◌, ℕ, suc, ◌+◌, ◌<◌, ◌≤◌, List, [], ◌∷◌, ◌++◌, length, drop, get_or, refl, sym, ap, subst, ◌∙◌, arith, append_assoc}
-use Rattle.std.specs.Prelude.{Some, None, Result, Ok, Err}
-use Rattle.std.proofs.lemmas.List.{append-nil, drop_all}
+use Rattle.std.proofs.Common.{◌≡◌, ℕ, suc, ◌+◌, ◌<◌, ◌≤◌, List, [], ◌∷◌, ◌++◌, length, drop, get_or, refl, sym, ap, subst, ◌∙◌, arith, append_assoc, Some, None, Result, Ok, Err}
+use Rattle.nb_chain.proofs.Common.{append-nil, drop_all, File, Files, Fault, Refused, Device, Memory, Refusal, NoFile, Link, next_link, next_links, not_behind, linked, first_link, verdict, Mark, Tip, Chain, all_noted, links_noted, level_reads, IsLast, tip_link, last_of, IsNext, NextRefused, NextSays, LevelsSay, AreNext}
 use Rattle.std.proofs.Math.Seq.{drop-cons}
-use Rattle.nb_host.specs.Files.{File, Files}
-use Rattle.nb_host.specs.declared.faults.Fault.{Fault}
-use Rattle.nb_host.specs.declared.faults.Fault.TheVariants.{Refused, Device, Memory}
-use Rattle.nb_host.specs.declared.refusals.Refusal.{Refusal}
-use Rattle.nb_host.specs.declared.refusals.Refusal.TheVariants.{NoFile}
-use Rattle.nb_model.specs.Restoring.{Link, next_link, next_links, not_behind, linked, first_link, verdict}
-use Rattle.nb_chain.specs.declared.overlay.Mark.{Mark}
-use Rattle.nb_chain.specs.declared.tip.Tip.{Tip}
-use Rattle.nb_chain.specs.declared.checking.Chain.{Chain}
-use Rattle.nb_chain.specs.Overlay.{all_noted, links_noted}
-use Rattle.nb_chain.specs.Chain.{level_reads, IsLast}
-use Rattle.nb_chain.specs.Next.{tip_link, last_of, IsNext, NextRefused, NextSays, LevelsSay, AreNext}
 use Rattle.nb_model.proofs.ChainLaws.{none_left, step_there}
 
 -- a link without its pages

@@ -1,6 +1,5 @@
 -- An error of what can't be refused, where `?` makes a fault of it.
-use Rattle.std.proofs.Common.{◌≡◌, ◌≢◌, ℕ, refl, sym, ◌∙◌, subst}
-use Rattle.std.specs.Prelude.{Result, Err, IsErr, IsErrAnd, IfErr}
+use Rattle.std.proofs.Common.{◌≡◌, ◌≢◌, ℕ, refl, sym, ◌∙◌, subst, Result, Err, IsErr, IsErrAnd, IfErr}
 use Rattle.nb_host.specs.Causes.{CountsDevice, CountsRun}
 use Rattle.nb_host.specs.Faults.{as_fault}
 use Rattle.nb_host.specs.declared.faults.Fault.{Fault}

@@ -1,7 +1,6 @@
 -- What holds under Ok, and what an error that is passed on is.
-use Rattle.std.proofs.Common.{◌≡◌, ap}
-use Rattle.std.specs.Prelude.{Result, Ok, Err, IsErr, IsErrAnd, OnOk}
-use Rattle.nb_host.specs.Calls.{WholeOrNot}
+use Rattle.std.proofs.Common.{◌≡◌, ap, Result, Ok, Err, IsErr, IsErrAnd, OnOk}
+use Rattle.nb_change.proofs.Common.{WholeOrNot}
 
 -- at Ok it was done whole
 pub whole_on_ok : {T E X : Type 0} (result : Result T E) (before done after : X) → WholeOrNot result before done after → OnOk result (after ≡ done)

@@ -1,31 +1,9 @@
 -- Leaked pages are given back one after the other: what each front of the strokes leaves.
-use Rattle.std.proofs.Common.{◌≡◌, ◌≢◌, inl, inr, ℕ, zero, suc, ◌+◌, ◌<◌, ◌≤◌, List, [], ◌∷◌, ◌++◌, length, take, drop, refl, sym, ap, subst, append_assoc, ◌∙◌, arith}
-use Rattle.std.specs.Prelude.{Bool, true, false, cond, ◌&&◌, ◌||◌, ◌==◌, not, nat_eq, None}
-use Rattle.std.specs.List.{filter, range_with_len}
-use Rattle.std.proofs.lemmas.Bool.{cases_Bool, true≢false, and_left, or_cases}
-use Rattle.std.proofs.lemmas.Bool.Decides.{eqb_tells}
-use Rattle.std.proofs.lemmas.List.{append-nil}
-use Rattle.std.proofs.lemmas.List.Folds.{list_any-append}
-use Rattle.nb_fields.specs.Page.{kind_of}
-use Rattle.nb_fields.specs.Places.{is_system_place}
-use Rattle.nb_fields.specs.Kinds.{data_kind}
-use Rattle.nb_model.specs.Account.{Base}
-use Rattle.nb_model.specs.Chains.{History}
-use Rattle.nb_model.specs.Forms.{Draft, drafted, give_page, is_free_page}
-use Rattle.nb_model.specs.Image.{Page, Image, page_at, image_size}
-use Rattle.nb_model.specs.Sound.{HasHeader, IsSoundImage}
-use Rattle.nb_model.specs.Strokes.{Stroke, base_after}
-use Rattle.nb_model.specs.Tables.{all_given}
-use Rattle.nb_model.proofs.Along.{Along, along_append, along_front}
-use Rattle.nb_model.proofs.DraftLaws.{IsOf, drafted_is, drafts_are, set_bit_keeps}
-use Rattle.nb_model.proofs.FitLaws.{IsWhole}
-use Rattle.nb_model.proofs.LeakTurns.{leaked_two, given_first}
-use Rattle.nb_model.proofs.PutSound.{header_whole}
-use Rattle.nb_model.proofs.ReadLaws.{eq_no, eq_yes}
+use Rattle.std.proofs.Common.{◌≡◌, ◌≢◌, inl, inr, ℕ, zero, suc, ◌+◌, ◌<◌, ◌≤◌, List, [], ◌∷◌, ◌++◌, length, take, drop, refl, sym, ap, subst, append_assoc, ◌∙◌, arith, Bool, true, false, cond, ◌&&◌, ◌||◌, ◌==◌, not, nat_eq, None}
+use Rattle.nb_check.proofs.Common.{filter, range_with_len, cases_Bool, true≢false, and_left, or_cases, eqb_tells, append-nil, list_any-append, kind_of, is_system_place, data_kind, Base, History, Draft, drafted, give_page, is_free_page, Page, Image, page_at, image_size, HasHeader, IsSoundImage, Stroke, base_after, all_given, Along, along_append, along_front, drafted_is, drafts_are, set_bit_keeps, IsWhole, leaked_two, given_first, header_whole, eq_no, eq_yes, is_among, is_leaked, leaked, reached, unsound_by, check_cause, reclaimed}
+use Rattle.nb_model.proofs.DraftLaws.{IsOf}
 use Rattle.nb_model.proofs.StrokeLaws.{base_after-append}
 use Rattle.nb_check.specs.Laws.{KeepsPages, Reclaims}
-use Rattle.nb_model.specs.Leaks.{is_among, is_leaked, leaked, reached}
-use Rattle.nb_model.specs.Checks.{unsound_by, check_cause, reclaimed}
 use Rattle.nb_check.proofs.GiveLaws.{given, between, given_size, given_length, given_plain, given_fits, free_then, other_then, between_whole, between_size, between_length, between_plain, between_bit, give_along}
 use Rattle.nb_check.proofs.LeakLaws.{given_none}
 use Rattle.nb_check.proofs.SameLaws.{AreAlike, reached_same, chains_cause_same, rows_same, spots_same}

@@ -1,15 +1,6 @@
 -- What a check and a reclaim do of their turns, by their causes.
-use Rattle.std.proofs.Common.{◌≡◌, [], ◌∷◌, length, ap, ◌∙◌}
-use Rattle.std.specs.Prelude.{Some, None}
-use Rattle.nb_host.specs.declared.refusals.Refusal.{Refusal}
-use Rattle.nb_model.specs.declared.reply.Reply.TheVariants.{Leaked, Freed, Refused}
-use Rattle.nb_model.specs.Causes.{Cause, first_cause, read_only}
-use Rattle.nb_model.specs.Image.{Image}
-use Rattle.nb_model.specs.Outcomes.{Seen, Outcome, says, unless}
-use Rattle.nb_model.specs.Rows.{chains}
-use Rattle.nb_model.specs.Facts.{unsound}
-use Rattle.nb_model.specs.Leaks.{leaked}
-use Rattle.nb_model.specs.Checks.{unsound_by, chains_cause, check_cause, reclaim_cause, reclaimed, check_turn, reclaim_turn}
+use Rattle.std.proofs.Common.{◌≡◌, [], ◌∷◌, length, ap, ◌∙◌, Some, None}
+use Rattle.nb_check.proofs.Common.{Refusal, Leaked, Freed, Refused, Cause, first_cause, read_only, Image, Seen, Outcome, says, unless, chains, unsound, leaked, unsound_by, chains_cause, check_cause, reclaim_cause, reclaimed, check_turn, reclaim_turn}
 use Rattle.nb_model.proofs.WholeLaws.{two_none}
 use Rattle.nb_state.proofs.TestLaws.{first_applies}
 

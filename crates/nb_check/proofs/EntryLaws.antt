@@ -1,21 +1,7 @@
 -- The SCN entry of a page: on which page it stands, and when it is wrong.
-use Rattle.std.proofs.Common.{◌≡◌, inl, inr, ℕ, zero, suc, ◌+◌, ◌-◌, ◌*◌, ◌/◌, ◌%◌, ◌<◌, ◌≤◌, length, get_or, refl, sym, ap, subst, ◌∙◌, arith}
-use Rattle.std.specs.Prelude.{IsTrue, Bool, true, false, ◌&&◌, ◌||◌, ◌==◌, nat_lt, nat_le}
-use Rattle.std.proofs.Math.Nat.{mod-lt}
-use Rattle.std.proofs.lemmas.Nat.{div-mul-add, div-add-mod'}
-use Rattle.std.proofs.lemmas.Bool.{and_left, and_parts, or_cases, cases_Bool, cases_lt, eqb-true}
-use Rattle.nb_fields.specs.Page.{stamp_of}
-use Rattle.nb_fields.specs.Payloads.{entry_of}
-use Rattle.nb_fields.specs.Places.{is_page_size, entries_in, scn_place, is_scn_place}
-use Rattle.nb_fields.proofs.PlaceLaws.{entries-least}
-use Rattle.nb_scn.specs.Entries.{entries}
+use Rattle.std.proofs.Common.{◌≡◌, inl, inr, ℕ, zero, suc, ◌+◌, ◌-◌, ◌*◌, ◌/◌, ◌%◌, ◌<◌, ◌≤◌, length, get_or, refl, sym, ap, subst, ◌∙◌, arith, IsTrue, Bool, true, false, ◌&&◌, ◌||◌, ◌==◌, nat_lt, nat_le}
+use Rattle.nb_check.proofs.Common.{mod-lt, div-mul-add, div-add-mod', and_left, and_parts, or_cases, cases_Bool, cases_lt, eqb-true, stamp_of, entry_of, is_page_size, entries_in, scn_place, is_scn_place, entries-least, entries, Page, Image, page_at, image_size, image_scn, scn_page_of, entry_number, scn_entry, has_entry, eq_no, eq_yes, lt_yes, lt_no, le_no, WrongEntry, breaks, le_yes}
 use Rattle.nb_scn.proofs.EntryLaws.{get_or-entries}
-use Rattle.nb_model.specs.Image.{Page, Image, page_at, image_size, image_scn}
-use Rattle.nb_model.specs.Forms.{scn_page_of, entry_number, scn_entry, has_entry}
-use Rattle.nb_model.proofs.ReadLaws.{eq_no, eq_yes, lt_yes, lt_no, le_no}
-use Rattle.nb_model.specs.declared.fact.Fact.TheVariants.{WrongEntry}
-use Rattle.nb_model.specs.Facts.{breaks}
-use Rattle.nb_host.proofs.PlainLaws.{le_yes}
 
 -- Where the entries stand.
 module _ (size : ℕ) (valid : IsTrue (is_page_size size)) where

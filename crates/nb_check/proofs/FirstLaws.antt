@@ -1,9 +1,6 @@
 -- The lowest page that passes a test.
-use Rattle.std.proofs.Common.{◌≡◌, inl, inr, ℕ, zero, suc, ◌+◌, ◌<◌, ◌≤◌, refl, sym, ap, subst, ◌∙◌, arith}
-use Rattle.std.specs.Prelude.{Bool, true, false, Option, Some, None}
-use Rattle.std.proofs.lemmas.Bool.{cases_lt}
-use Rattle.nb_model.specs.Facts.{first_from}
-use Rattle.nb_host.proofs.PlainLaws.{some_none}
+use Rattle.std.proofs.Common.{◌≡◌, inl, inr, ℕ, zero, suc, ◌+◌, ◌<◌, ◌≤◌, refl, sym, ap, subst, ◌∙◌, arith, Bool, true, false, Option, Some, None}
+use Rattle.nb_check.proofs.Common.{cases_lt, first_from, some_none}
 
 -- by the test of the first page
 abbrev by_first : (left p : ℕ) (test : ℕ → Bool) → Bool → Option ℕ

@@ -1,20 +1,7 @@
 -- The chains of the tables that the catalogue names, slot by slot and page by page.
-use Rattle.std.proofs.Common.{◌≡◌, ℕ, ◌+◌, ◌-◌, ◌*◌, ◌/◌, ◌<◌, ◌≤◌, List, [], ◌∷◌, ◌++◌, length, refl, sym, ap, subst, ◌∙◌, arith, append_assoc, length-append}
-use Rattle.std.specs.Prelude.{Bool, true, false, Some, None}
-use Rattle.std.proofs.lemmas.List.{append-nil}
-use Rattle.nb_fields.specs.Bytes.{part}
-use Rattle.nb_host.specs.declared.refusals.Refusal.{Refusal}
-use Rattle.nb_model.specs.Image.{Page, Image, page_at}
-use Rattle.nb_model.specs.Causes.{Cause, first_cause, broken_at}
-use Rattle.nb_model.specs.Chains.{Chain, Catalogue, History, RowsFrom, Slot, Spot, is_used, first_in, slots_from, slots_in, spots_on, spots_of, spots, pages_of, found_pages}
-use Rattle.nb_model.specs.Rows.{used, table_chains, chains, pages_of_all}
-use Rattle.nb_model.specs.Leaks.{reached}
-use Rattle.nb_walk.proofs.SlotLaws.{slots_step}
-use Rattle.nb_check.specs.Sets.{IsWithout}
-use Rattle.nb_model.specs.Checks.{chains_cause}
-use Rattle.nb_check.specs.Walks.{chains_on}
+use Rattle.std.proofs.Common.{◌≡◌, ℕ, ◌+◌, ◌-◌, ◌*◌, ◌/◌, ◌<◌, ◌≤◌, List, [], ◌∷◌, ◌++◌, length, refl, sym, ap, subst, ◌∙◌, arith, append_assoc, length-append, Bool, true, false, Some, None}
+use Rattle.nb_check.proofs.Common.{append-nil, part, Refusal, Page, Image, page_at, Cause, first_cause, broken_at, Chain, Catalogue, History, RowsFrom, Slot, Spot, is_used, first_in, slots_from, slots_in, spots_on, spots_of, spots, pages_of, found_pages, used, table_chains, chains, pages_of_all, reached, slots_step, IsWithout, chains_cause, chains_on, none_some}
 use Rattle.nb_check.proofs.SetLaws.{without_none, without_both}
-use Rattle.nb_host.proofs.PlainLaws.{none_some}
 use Rattle.nb_model.proofs.GrowthTurns.{spots_both}
 
 -- the chains in slots

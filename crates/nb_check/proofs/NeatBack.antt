@@ -1,22 +1,9 @@
 -- A neat image from which leaked pages were given back is neat, with the rows of every table.
-use Rattle.std.proofs.Common.{◌≡◌, inl, inr, ℕ, ◌<◌, List, [], ◌∷◌, ◌++◌, take, refl, sym, ap, subst, append_assoc, ◌∙◌}
-use Rattle.std.specs.Prelude.{Bool, true, false, ◌||◌, not, nat_eq, Ok, length}
-use Rattle.std.specs.List.{AllByRecursion}
-use Rattle.std.proofs.lemmas.Bool.{true≢false, cases_Bool, and_parts}
-use Rattle.std.proofs.lemmas.List.Folds.{list_any-append}
-use Rattle.nb_model.specs.Account.{Base}
-use Rattle.nb_model.specs.Chains.{Chain, Catalogue, Spot, spots, pages_of, found_pages}
-use Rattle.nb_model.specs.Forms.{is_free_page}
-use Rattle.nb_model.specs.Image.{Image}
+use Rattle.std.proofs.Common.{◌≡◌, inl, inr, ℕ, ◌<◌, List, [], ◌∷◌, ◌++◌, take, refl, sym, ap, subst, append_assoc, ◌∙◌, Bool, true, false, ◌||◌, not, nat_eq, Ok, length}
+use Rattle.nb_check.proofs.Common.{AllByRecursion, true≢false, cases_Bool, and_parts, list_any-append, Base, Chain, Catalogue, Spot, spots, pages_of, found_pages, is_free_page, Image, used, table_chains, chains, names_of, keys_of, AreDistinct, IsNeat, HasHeader, IsSoundImage, base_after, eq_yes, is_among, leaked, reached, reclaimed}
 use Rattle.nb_model.specs.RowChanges.{KeepsRows}
-use Rattle.nb_model.specs.Rows.{used, table_chains, chains, names_of, keys_of, AreDistinct, IsNeat}
-use Rattle.nb_model.specs.Sound.{HasHeader, IsSoundImage}
-use Rattle.nb_model.specs.Strokes.{base_after}
 use Rattle.nb_model.proofs.HeldChains.{IsHeldIn, chains_held, chain_each}
 use Rattle.nb_model.proofs.NeatLaws.{all_go, all_both}
-use Rattle.nb_model.proofs.ReadLaws.{eq_yes}
-use Rattle.nb_model.specs.Leaks.{is_among, leaked, reached}
-use Rattle.nb_model.specs.Checks.{reclaimed}
 use Rattle.nb_check.proofs.AmongLaws.{leaked_each}
 use Rattle.nb_check.proofs.BackLaws.{IsBack, on_way}
 use Rattle.nb_check.proofs.SameLaws.{pages_same, spots_same, chains_same, reached_same, rows_same}

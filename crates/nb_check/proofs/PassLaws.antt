@@ -1,17 +1,6 @@
 -- A pass goes on by one page.
-use Rattle.std.proofs.Common.{◌≡◌, inl, inr, ℕ, zero, suc, ◌+◌, ◌-◌, ◌*◌, ◌/◌, ◌%◌, ◌<◌, ◌≤◌, refl, sym, ap, subst, ◌∙◌, arith}
-use Rattle.std.specs.Prelude.{IsTrue, Bool, true, false, Option, Some, None, ◌⊎◌, ◌==◌, min}
-use Rattle.std.proofs.Math.Nat.{mod-lt}
-use Rattle.std.proofs.lemmas.Nat.{div-mul-add, mod-mul-add, div-add-mod'}
-use Rattle.std.proofs.lemmas.Bool.{and_parts, or_cases, or_parts, or_right, and_from, true≢false, cases_lt, ltb-true, eqb-true}
-use Rattle.nb_fields.specs.Places.{is_page_size, bits_in, entries_in, inventory_place, scn_place, is_inventory_place, is_scn_place}
-use Rattle.nb_fields.proofs.PlaceLaws.{entries-least, bits-least}
-use Rattle.nb_model.specs.Image.{Page, Image, page_at, image_size}
-use Rattle.nb_model.proofs.ReadLaws.{eq_yes, lt_yes}
-use Rattle.nb_model.specs.declared.fact.Fact.{Fact}
-use Rattle.nb_check.specs.declared.facts.Broken.{Broken}
-use Rattle.nb_model.specs.Facts.{breaks, number_of}
-use Rattle.nb_check.specs.Passes.{IsLowestAt, IsFirstBelow, IsMapOf, HasEntryOf}
+use Rattle.std.proofs.Common.{◌≡◌, inl, inr, ℕ, zero, suc, ◌+◌, ◌-◌, ◌*◌, ◌/◌, ◌%◌, ◌<◌, ◌≤◌, refl, sym, ap, subst, ◌∙◌, arith, IsTrue, Bool, true, false, Option, Some, None, ◌⊎◌, ◌==◌, min}
+use Rattle.nb_check.proofs.Common.{mod-lt, div-mul-add, mod-mul-add, div-add-mod', and_parts, or_cases, or_parts, or_right, and_from, true≢false, cases_lt, ltb-true, eqb-true, is_page_size, bits_in, entries_in, inventory_place, scn_place, is_inventory_place, is_scn_place, entries-least, bits-least, Page, Image, page_at, image_size, eq_yes, lt_yes, Fact, Broken, breaks, number_of, IsLowestAt, IsFirstBelow, IsMapOf, HasEntryOf}
 
 pub below_more : (p n : ℕ) → p < n + 1 → (p < n) ⊎ (p ≡ n)
 below_more p n low = elim (cases_lt p n) [ inl less ↦ inl less | inr other ↦ inr (omega (arith, low, other)) ]

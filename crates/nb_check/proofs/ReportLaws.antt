@@ -1,15 +1,7 @@
 -- The pages of a set, in rising order.
-use Rattle.std.proofs.Common.{◌≡◌, ℕ, zero, suc, ◌+◌, ◌-◌, ◌<◌, ◌≤◌, List, [], ◌∷◌, ◌++◌, length, get_or, refl, sym, ap, length-append, ◌∙◌, arith}
-use Rattle.std.specs.Prelude.{Bool, true, false, cond, ◌&&◌, not, nat_lt}
-use Rattle.std.specs.List.{filter, range_with_len}
-use Rattle.std.proofs.lemmas.Bool.{ltb-true, ltb-false}
-use Rattle.std.proofs.lemmas.List.{append-nil}
+use Rattle.std.proofs.Common.{◌≡◌, ℕ, zero, suc, ◌+◌, ◌-◌, ◌<◌, ◌≤◌, List, [], ◌∷◌, ◌++◌, length, get_or, refl, sym, ap, length-append, ◌∙◌, arith, Bool, true, false, cond, ◌&&◌, not, nat_lt}
+use Rattle.nb_check.proofs.Common.{filter, range_with_len, ltb-true, ltb-false, append-nil, Image, lt_yes, lt_no, is_among, is_taken_data, is_leaked, leaked, reached, HoldsTaken, has, room_of, pages_in, IsWithout}
 use Rattle.std.proofs.lemmas.List.Elements.{filter-append}
-use Rattle.nb_model.specs.Image.{Image}
-use Rattle.nb_model.proofs.ReadLaws.{lt_yes, lt_no}
-use Rattle.nb_model.specs.Leaks.{is_among, is_taken_data, is_leaked, leaked, reached}
-use Rattle.nb_check.specs.Passes.{HoldsTaken}
-use Rattle.nb_check.specs.Sets.{has, room_of, pages_in, IsWithout}
 use Rattle.nb_check.proofs.AmongLaws.{among_range, among_behind}
 use Rattle.nb_check.proofs.SetBits.{past}
 use Rattle.nb_check.proofs.BackLaws.{filter_same}

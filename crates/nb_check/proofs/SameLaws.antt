@@ -1,21 +1,7 @@
 -- Two sound images that differ in system pages alone have the same chains, and the same rows.
-use Rattle.std.proofs.Common.{◌≡◌, inl, inr, ℕ, zero, suc, ◌<◌, List, [], ◌∷◌, ◌++◌, length, refl, sym, ap, ◌∙◌, arith}
-use Rattle.std.specs.Prelude.{Bool, true, false, ◌&&◌, ◌==◌, nat_lt, map, Option, Some, None, Result, Ok, Err}
-use Rattle.std.specs.List.{AllByRecursion, list_all}
-use Rattle.std.proofs.lemmas.Bool.{and_left, or_cases, cases_Bool, cases_lt}
-use Rattle.nb_fields.specs.Page.{kind_of}
-use Rattle.nb_fields.specs.Places.{is_system_place}
-use Rattle.nb_fields.specs.Kinds.{data_kind}
+use Rattle.std.proofs.Common.{◌≡◌, inl, inr, ℕ, zero, suc, ◌<◌, List, [], ◌∷◌, ◌++◌, length, refl, sym, ap, ◌∙◌, arith, Bool, true, false, ◌&&◌, ◌==◌, nat_lt, map, Option, Some, None, Result, Ok, Err}
+use Rattle.nb_check.proofs.Common.{AllByRecursion, list_all, and_left, or_cases, cases_Bool, cases_lt, kind_of, is_system_place, data_kind, Page, Image, page_at, image_size, SoundInventory, Cause, first_cause, broken_at, Chain, Catalogue, History, RowsFrom, Spot, owner_of, owner_in, first_of, first_in, is_slot, is_used, table_of, slots_in, is_in_chain, next_in, linked, walk, pages_of, found_pages, spots_on, spots_of, spots, table_spot, first_such, RowMap, rows, rows_in, used, table_chains, chains, pages_of_all, eq_no, lt_no, pages_found, reached, chains_cause}
 use Rattle.nb_host.specs.Names.{same_name}
-use Rattle.nb_model.specs.Image.{Page, Image, page_at, image_size}
-use Rattle.nb_model.specs.Sound.{SoundInventory}
-use Rattle.nb_model.specs.Causes.{Cause, first_cause, broken_at}
-use Rattle.nb_model.specs.Chains.{Chain, Catalogue, History, RowsFrom, Spot, owner_of, owner_in, first_of, first_in, is_slot, is_used, table_of, slots_in, is_in_chain, next_in, linked, walk, pages_of, found_pages, spots_on, spots_of, spots, table_spot, first_such}
-use Rattle.nb_model.specs.Rows.{RowMap, rows, rows_in, used, table_chains, chains, pages_of_all}
-use Rattle.nb_model.proofs.ReadLaws.{eq_no, lt_no}
-use Rattle.nb_model.proofs.RoomLaws.{pages_found}
-use Rattle.nb_model.specs.Leaks.{reached}
-use Rattle.nb_model.specs.Checks.{chains_cause}
 
 -- every page but the system pages is the same
 pub record AreAlike (x y : Image) : Type 0 where

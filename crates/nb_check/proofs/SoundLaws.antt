@@ -1,28 +1,7 @@
 -- Inventories are sound exactly where no fact is broken.
-use Rattle.std.proofs.Common.{◌≡◌, inl, inr, ℕ, ◌<◌, ◌≤◌, length, refl, sym, ap, ◌∙◌, arith}
-use Rattle.std.specs.Prelude.{IsTrue, IsSome, Bool, true, false, Option, Some, None, ◌&&◌, ◌||◌, ◌==◌, not, nat_lt, nat_le}
-use Rattle.std.proofs.lemmas.Bool.{and_parts, and_from, or_parts, or_cases, cases_Bool, cases_lt, false_from_ne_true, true≢false, ltb-true, ltb-false, leb-true, leb-false, eqb-true, not_from_false}
-use Rattle.nb_fields.specs.Bytes.{is_zeros}
-use Rattle.nb_fields.specs.Page.{kind_of, stamp_of}
-use Rattle.nb_fields.specs.Places.{is_page_size, is_inventory_place, is_scn_place, most_pages}
-use Rattle.nb_fields.specs.Kinds.{inventory_kind, scn_kind}
-use Rattle.nb_model.specs.Image.{Image, page_at, first_page, image_size, image_scn}
-use Rattle.nb_model.specs.Forms.{inventory_of, scn_page_of, scn_entry, has_entry, is_free_page}
-use Rattle.nb_model.specs.Sound.{SoundInventory, IsSoundImage, IsOfSize}
-use Rattle.nb_model.proofs.ReadLaws.{eq_yes, lt_yes}
-use Rattle.nb_model.proofs.SoundLaws.{all_from, all_at}
-use Rattle.nb_host.specs.declared.refusals.Refusal.TheVariants.{Unsound}
-use Rattle.nb_model.specs.Causes.{broken_at}
-use Rattle.nb_model.specs.Chains.{History, pages_of}
-use Rattle.nb_model.specs.Rows.{chains}
-use Rattle.nb_model.proofs.PutSound.{no_first}
-use Rattle.nb_model.proofs.RoomLaws.{in_chain, first_found}
-use Rattle.nb_model.specs.Checks.{unsound_by, chains_cause, check_cause}
-use Rattle.nb_model.specs.declared.fact.Fact.{Fact}
-use Rattle.nb_model.specs.declared.fact.Fact.TheVariants.{BlankPage, SystemPlace, TakenPast, LateStamp, WrongEntry, HeaderStamp}
-use Rattle.nb_model.specs.Facts.{breaks, unsound, is_entry_low, is_entry_late}
+use Rattle.std.proofs.Common.{◌≡◌, inl, inr, ℕ, ◌<◌, ◌≤◌, length, refl, sym, ap, ◌∙◌, arith, IsTrue, IsSome, Bool, true, false, Option, Some, None, ◌&&◌, ◌||◌, ◌==◌, not, nat_lt, nat_le}
+use Rattle.nb_check.proofs.Common.{and_parts, and_from, or_parts, or_cases, cases_Bool, cases_lt, false_from_ne_true, true≢false, ltb-true, ltb-false, leb-true, leb-false, eqb-true, not_from_false, is_zeros, kind_of, stamp_of, is_page_size, is_inventory_place, is_scn_place, most_pages, inventory_kind, scn_kind, Image, page_at, first_page, image_size, image_scn, inventory_of, scn_page_of, scn_entry, has_entry, is_free_page, SoundInventory, IsSoundImage, IsOfSize, eq_yes, lt_yes, all_from, all_at, Unsound, broken_at, History, pages_of, chains, no_first, in_chain, first_found, unsound_by, chains_cause, check_cause, Fact, BlankPage, SystemPlace, TakenPast, LateStamp, WrongEntry, HeaderStamp, breaks, unsound, is_entry_low, is_entry_late, le_yes, not_false, some_none}
 use Rattle.nb_check.proofs.BreakLaws.{breaks_below, none_unsound, unsound_none}
-use Rattle.nb_host.proofs.PlainLaws.{le_yes, not_false, some_none}
 
 -- one half of a test
 other_half : (a b : Bool) → (a && b) ≡ false → a ≡ true → b ≡ false

@@ -1,16 +1,6 @@
 -- The data pages that are taken, below one page more.
-use Rattle.std.proofs.Common.{◌≡◌, ◌≢◌, inl, inr, ℕ, ◌+◌, List, sym, ap, ◌∙◌, arith}
-use Rattle.std.specs.Prelude.{Bool, true, false, ◌&&◌, ◌||◌, ◌==◌, not, nat_lt, nat_eq}
-use Rattle.std.proofs.lemmas.Bool.{and_left, and_from, cases_lt}
-use Rattle.std.proofs.lemmas.Bool.Decides.{eqb_tells}
-use Rattle.nb_fields.specs.Page.{kind_of}
-use Rattle.nb_fields.specs.Kinds.{data_kind}
-use Rattle.nb_model.specs.Image.{Image, page_at}
-use Rattle.nb_model.specs.Forms.{is_free_page}
-use Rattle.nb_model.specs.Leaks.{is_taken_data}
-use Rattle.nb_model.proofs.ReadLaws.{eq_no, eq_yes, lt_yes, lt_no, and_no_right}
-use Rattle.nb_check.specs.Passes.{HoldsTaken}
-use Rattle.nb_check.specs.Sets.{has}
+use Rattle.std.proofs.Common.{◌≡◌, ◌≢◌, inl, inr, ℕ, ◌+◌, List, sym, ap, ◌∙◌, arith, Bool, true, false, ◌&&◌, ◌||◌, ◌==◌, not, nat_lt, nat_eq}
+use Rattle.nb_check.proofs.Common.{and_left, and_from, cases_lt, eqb_tells, kind_of, data_kind, Image, page_at, is_free_page, is_taken_data, eq_no, eq_yes, lt_yes, lt_no, and_no_right, HoldsTaken, has}
 
 lt_next : (p n : ℕ) → p ≢ n → nat_lt p n ≡ nat_lt p (n + 1)
 lt_next p n other = elim (cases_lt p n) [

@@ -1,53 +1,12 @@
 -- The turns of a backup: the file alone is touched, and then the two files of the database.
-use Rattle.std.proofs.Common.{◌≡◌, ◌≢◌, ◌<◌, ◌⊎◌, inl, inr, ⊎_elim, ℕ, List, [], ◌∷◌, ◌++◌, length, drop, refl, sym, ap, subst, ◌∙◌, arith, length-append, drop_at}
-use Rattle.std.specs.Prelude.{None, Some, Result, Ok, Err, OnOk, Option}
-use Rattle.nb_fields.specs.States.{stalled_state}
-use Rattle.nb_host.specs.Files.{File, Files, with_file}
-use Rattle.nb_host.specs.World.{World}
-use Rattle.nb_host.specs.Crash.{Leaves, LeavesAll}
-use Rattle.nb_host.specs.Calls.{IsStill}
-use Rattle.nb_host.specs.Moments.{IsTimely, Passes}
-use Rattle.nb_host.specs.declared.faults.Fault.{Fault}
-use Rattle.nb_host.specs.declared.faults.Fault.TheVariants.{Device}
-use Rattle.nb_change.specs.Changes.{Changes, Only, Reached, Remade}
-use Rattle.nb_change.specs.Gave.{GaveNothing}
-use Rattle.nb_change.proofs.MomentLaws.{left_before}
-use Rattle.nb_change.proofs.CallLaws.{still_alone}
-use Rattle.nb_change.proofs.NameLaws.{with_file-other}
-use Rattle.nb_change.proofs.ChangesLaws.{left_with, weakened, composed_within}
-use Rattle.nb_change.proofs.ResultLaws.{on_ok}
+use Rattle.std.proofs.Common.{◌≡◌, ◌≢◌, ◌<◌, ◌⊎◌, inl, inr, ⊎_elim, ℕ, List, [], ◌∷◌, ◌++◌, length, drop, refl, sym, ap, subst, ◌∙◌, arith, length-append, drop_at, None, Some, Result, Ok, Err, OnOk, Option}
+use Rattle.nb_copy.proofs.Common.{stalled_state, File, Files, with_file, World, Leaves, LeavesAll, IsStill, IsTimely, Passes, Fault, Device, Changes, Only, Reached, Remade, GaveNothing, left_before, still_alone, with_file-other, left_with, weakened, composed_within, on_ok, Base, close_backup, backup_slot, put_slot, drafted, HasItsEntry, Image, file_of, count_in, Backing, Seen, next_time, delta_name, Stroke, Trail, StandsIn, StandsOn, after_stroke, OfFiles, Strikes, after_strokes, Held, IsOpen, name_of, open_beside, WhereEnded, unless_by, still_struck, struck_front, unless_none, write_cause, Tries, sure_of, IsKept, IsUnfinishedOr, FileCopy, Pages, file_name, file_count, file_next, file_written, whole_file, whole_count, IsFileCopying, IsSameFile, Backed, IsBackingUp, OfBackup, GaveTimeAtMost, CloseLeft, Closes, BackupTurn, asked_scn, earlier_scn, page_reads}
 use Rattle.nb_change.proofs.SettledLaws.{durable_is, durable_other}
-use Rattle.nb_model.specs.Account.{Base}
-use Rattle.nb_model.specs.Backups.{close_backup}
-use Rattle.nb_model.specs.Chains.{backup_slot, put_slot}
-use Rattle.nb_model.specs.Forms.{drafted}
-use Rattle.nb_model.specs.Forms.{HasItsEntry}
-use Rattle.nb_model.specs.Image.{Image}
-use Rattle.nb_model.specs.Levels.{file_of, count_in}
-use Rattle.nb_model.specs.Outcomes.{Backing, Seen, next_time}
-use Rattle.nb_model.specs.Owner.{delta_name}
-use Rattle.nb_model.specs.Strokes.{Stroke}
-use Rattle.nb_model.specs.Trail.{Trail, StandsIn, StandsOn, after_stroke}
-use Rattle.nb_base.specs.Open.{OfFiles}
-use Rattle.nb_base.specs.Takes.{Strikes, after_strokes}
-use Rattle.nb_state.specs.Open.{Held, IsOpen, name_of}
-use Rattle.nb_state.proofs.ShownLaws.{open_beside}
 use Rattle.nb_state.specs.declared.turns.Progress.TheVariants.{More, Finished}
-use Rattle.nb_state.specs.Does.{WhereEnded, unless_by}
-use Rattle.nb_state.proofs.TurnLaws.{still_struck, struck_front, unless_none}
-use Rattle.nb_engine.specs.Room.{write_cause}
-use Rattle.nb_engine.specs.Tries.{Tries}
 use Rattle.nb_engine.proofs.LinkLaws.{write_low}
-use Rattle.nb_alloc.proofs.DoesLaws.{sure_of}
 use Rattle.nb_model.specs.Making.{kept_of}
-use Rattle.nb_gather.specs.Making.{IsKept, IsUnfinishedOr}
 use Rattle.nb_copy.proofs.LevelLaws.{below_all}
-use Rattle.nb_copy.specs.declared.file_copy.FileCopy.{FileCopy}
-use Rattle.nb_copy.specs.declared.file_copy.FileCopy.TheVariants.{Pages, Level}
-use Rattle.nb_copy.specs.FileCopying.{file_name, file_count, file_next, file_written, whole_file, whole_count, IsFileCopying, IsSameFile}
-use Rattle.nb_copy.specs.Starting.{Backed, IsBackingUp}
-use Rattle.nb_copy.specs.Closing.{OfBackup, GaveTimeAtMost, CloseLeft, Closes, BackupTurn}
-use Rattle.nb_copy.specs.Reading.{asked_scn, earlier_scn, page_reads}
+use Rattle.nb_copy.specs.declared.file_copy.FileCopy.TheVariants.{Level}
 use Rattle.nb_alloc.proofs.ReadyLaws.{entry_ready}
 
 -- the time that was given is the one that may have been given

@@ -1,21 +1,7 @@
 -- The file of a copy: made, with a page more, and made whole by page 0.
-use Rattle.std.proofs.Common.{◌≡◌, inl, inr, ℕ, ◌+◌, ◌*◌, ◌<◌, ◌≤◌, List, [], length, sym, ap, subst, ◌∙◌, arith, mul-le-mul_right}
-use Rattle.std.specs.Prelude.{Bool, IsTrue, Some, Result, Ok, OnOk}
-use Rattle.nb_host.specs.Files.{File, Files, with_page}
-use Rattle.nb_host.specs.World.{World}
-use Rattle.nb_host.specs.Crash.{PageLeft, IsDurable}
-use Rattle.nb_host.specs.Calls.{Remakes, WritesPage, Syncs}
-use Rattle.nb_host.specs.Moments.{IsTimely, Passes}
-use Rattle.nb_change.specs.Changes.{Changes, Only, Remade}
-use Rattle.nb_change.proofs.CallLaws.{page_others, remade_alone, remade_step}
-use Rattle.nb_change.proofs.MovedLaws.{remade_begun}
-use Rattle.nb_page.specs.Quiet.{Quiet}
-use Rattle.nb_model.specs.Image.{Page, Image, page_at, first_page}
-use Rattle.nb_model.specs.Levels.{joined}
-use Rattle.nb_gather.specs.Making.{IsBlank, IsFreeOr, IsKept, IsMade}
-use Rattle.nb_copy.specs.Copying.{Copying, front_pages, IsOf, IsBegun}
-use Rattle.nb_gather.proofs.QuietLaws.{quiet_then, sync_then, sync_kept, named}
-use Rattle.nb_gather.proofs.BlankLaws.{zeros-grown, blank_empty, blank_free, blank_left}
+use Rattle.std.proofs.Common.{◌≡◌, inl, inr, ℕ, ◌+◌, ◌*◌, ◌<◌, ◌≤◌, List, [], length, sym, ap, subst, ◌∙◌, arith, mul-le-mul_right, Bool, IsTrue, Some, Result, Ok, OnOk}
+use Rattle.nb_copy.proofs.Common.{File, Files, World, PageLeft, IsDurable, Remakes, WritesPage, Syncs, IsTimely, Passes, Changes, Only, Remade, page_others, remade_alone, remade_step, remade_begun, Quiet, Page, Image, page_at, first_page, joined, IsBlank, IsFreeOr, IsKept, IsMade, Copying, front_pages, IsOf, IsBegun, quiet_then, sync_then, sync_kept, named, zeros-grown, blank_empty, blank_free, blank_left}
+use Rattle.nb_host.specs.Files.{with_page}
 use Rattle.nb_copy.proofs.FrontLaws.{front_next, front_whole, front_blank}
 
 -- and calls that change nothing

@@ -1,13 +1,6 @@
 -- Page 0 stays where room is made in the history.
-use Rattle.std.proofs.Common.{◌≡◌, ℕ, zero, suc, ◌+◌, ◌/◌, ◌≤◌, List, [], ◌∷◌, ◌++◌, length, refl, sym, ap, subst, arith}
-use Rattle.std.specs.Prelude.{Bool, true, false, ◌==◌, ◌-◌, nat_lt, slice_set, IsTrue, Option, Some, None}
-use Rattle.nb_fields.specs.Header.{size_of}
-use Rattle.nb_fields.specs.Places.{is_page_size, entries_in, bits_in, is_system_place, most_pages}
-use Rattle.nb_model.specs.Image.{Page, Image, first_page, image_size, image_scn, with_page}
-use Rattle.nb_model.specs.Forms.{Draft, wrote, written, needs, is_kind, has_entry, scn_page_of, scn_entry, entry_written, entry_raised, raised, put, set_bit, is_free_page, free_from, lowest_free, first_not, needed_at, system_kind, system_page, new_within}
-use Rattle.nb_model.proofs.DraftLaws.{either}
-use Rattle.nb_model.proofs.PutSound.{needs_image}
-use Rattle.nb_model.proofs.SoundLaws.{inventory_place_some}
+use Rattle.std.proofs.Common.{◌≡◌, ℕ, zero, suc, ◌+◌, ◌/◌, ◌≤◌, List, [], ◌∷◌, ◌++◌, length, refl, sym, ap, subst, arith, Bool, true, false, ◌==◌, ◌-◌, nat_lt, slice_set, IsTrue, Option, Some, None}
+use Rattle.nb_copy.proofs.Common.{size_of, is_page_size, entries_in, bits_in, is_system_place, most_pages, Page, Image, first_page, image_size, image_scn, with_page, Draft, wrote, written, needs, is_kind, has_entry, scn_page_of, scn_entry, entry_written, entry_raised, raised, put, set_bit, is_free_page, free_from, lowest_free, first_not, needed_at, system_kind, system_page, new_within, either, needs_image, inventory_place_some}
 use Rattle.nb_fields.proofs.PlaceLaws.{scn_place-some}
 
 -- the search begins after page 0

@@ -1,24 +1,6 @@
 -- What a level takes of a frozen image, one page after another.
-use Rattle.std.proofs.Common.{◌≡◌, inl, inr, ℕ, zero, suc, ◌+◌, ◌-◌, ◌<◌, ◌≤◌, List, [], ◌∷◌, ◌++◌, length, take, refl, sym, ap, subst, ◌∙◌, arith}
-use Rattle.std.specs.Prelude.{Bool, true, false, ◌&&◌, nat_lt}
-use Rattle.std.proofs.lemmas.List.{append-nil, take_all, length-take-le}
-use Rattle.nb_fields.specs.Page.{stamp_of}
-use Rattle.nb_fields.specs.Places.{most_pages}
-use Rattle.nb_model.specs.Image.{Page, Image, Numbered, page_at}
-use Rattle.nb_model.specs.Levels.{AreRising, AreOfSize, taken_from, may_have_changed, changed_from, changed, level_bytes}
-use Rattle.nb_model.specs.Sound.{IsOfSize}
-use Rattle.nb_model.proofs.ImageLaws.{all-take}
-use Rattle.nb_host.specs.Files.{Files}
-use Rattle.nb_host.specs.World.{World}
-use Rattle.nb_page.specs.Quiet.{Quiet}
-use Rattle.nb_gather.specs.Gathering.{LevelWriting, HasTaken, MayHave}
-use Rattle.nb_model.specs.Forms.{scn_page_of}
-use Rattle.nb_copy.specs.LevelCopying.{LevelCopying, IsLevelOf, IsLevelCopying, taken_below, whole_level}
-use Rattle.nb_change.specs.Changes.{Changes, Only, Remade}
-use Rattle.nb_gather.specs.Making.{IsKept, IsUnfinishedOr}
-use Rattle.nb_level.specs.declared.head.LevelHead.{LevelHead}
-use Rattle.nb_level.specs.Heads.{head_of}
-use Rattle.nb_host.proofs.PlainLaws.{true_or_false}
+use Rattle.std.proofs.Common.{◌≡◌, inl, inr, ℕ, zero, suc, ◌+◌, ◌-◌, ◌<◌, ◌≤◌, List, [], ◌∷◌, ◌++◌, length, take, refl, sym, ap, subst, ◌∙◌, arith, Bool, true, false, ◌&&◌, nat_lt}
+use Rattle.nb_copy.proofs.Common.{append-nil, take_all, length-take-le, stamp_of, most_pages, Page, Image, Numbered, page_at, AreRising, AreOfSize, taken_from, may_have_changed, changed_from, changed, level_bytes, IsOfSize, all-take, Files, World, Quiet, LevelWriting, HasTaken, MayHave, scn_page_of, LevelCopying, IsLevelOf, IsLevelCopying, taken_below, whole_level, Changes, Only, Remade, IsKept, IsUnfinishedOr, LevelHead, head_of, true_or_false}
 use Rattle.nb_model.proofs.ChainLaws.{weaker}
 
 changed_rise : (may : ℕ → Bool) (n scn : ℕ) (ps : Image) → n + length ps ≤ most_pages → AreRising n (changed_from may n scn ps)

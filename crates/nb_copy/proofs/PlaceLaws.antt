@@ -1,19 +1,7 @@
 -- Where the SCN entry of a page stands, and which pages need none.
-use Rattle.std.proofs.Common.{◌≡◌, ◌⊎◌, inl, inr, ℕ, zero, suc, ◌*◌, ◌/◌, ◌%◌, ◌<◌, ◌≤◌, length, refl, sym, ap, ◌∙◌, arith}
-use Rattle.std.specs.Prelude.{Bool, true, false, slice_index, IsTrue, ◌==◌, ◌&&◌, ◌||◌, not, nat_lt}
-use Rattle.std.proofs.Math.Nat.{div-eq_of_lt, mod-eq-sub-div-mul, div-mul-le_self}
-use Rattle.std.proofs.lemmas.Bool.{and_parts, or_right, eqb-true}
-use Rattle.nb_fields.specs.Places.{is_page_size, entries_in, scn_place, is_scn_place}
-use Rattle.nb_fields.proofs.SizeLaws.{size_facts}
-use Rattle.nb_model.specs.Image.{Page, Image, image_size, page_at}
-use Rattle.nb_model.specs.Levels.{may_have_changed}
+use Rattle.std.proofs.Common.{◌≡◌, ◌⊎◌, inl, inr, ℕ, zero, suc, ◌*◌, ◌/◌, ◌%◌, ◌<◌, ◌≤◌, length, refl, sym, ap, ◌∙◌, arith, Bool, true, false, slice_index, IsTrue, ◌==◌, ◌&&◌, ◌||◌, not, nat_lt}
+use Rattle.nb_copy.proofs.Common.{div-eq_of_lt, mod-eq-sub-div-mul, div-mul-le_self, and_parts, or_right, eqb-true, is_page_size, entries_in, scn_place, is_scn_place, size_facts, Page, Image, image_size, page_at, may_have_changed, entries, other-with, scn_page_of, scn_entry, has_entry, scn_page-is, entry-is, lt_holds, scn_place_of}
 use Rattle.nb_model.proofs.ReadLaws.{lt_no}
-use Rattle.nb_scn.specs.Entries.{entries}
-use Rattle.nb_alloc.proofs.PutLaws.{other-with}
-use Rattle.nb_model.specs.Forms.{scn_page_of, scn_entry, has_entry}
-use Rattle.nb_alloc.proofs.RaiseLaws.{scn_page-is, entry-is}
-use Rattle.nb_host.proofs.PlainLaws.{lt_holds}
-use Rattle.nb_model.proofs.SoundLaws.{scn_place_of}
 
 -- an SCN page that isn't the first stands at the first page that it has an entry for
 pub own_place : (size p : ℕ) → 1 ≤ p → p % entries_in size ≡ 0 → scn_place size (p / entries_in size) ≡ p

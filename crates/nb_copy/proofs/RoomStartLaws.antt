@@ -1,58 +1,17 @@
 -- The start of a backup after its tests: room in the history, the file, and the begin.
-use Rattle.std.proofs.Common.{◌≡◌, ◌≢◌, inl, inr, ℕ, ◌<◌, ◌≤◌, List, [], ◌∷◌, ◌++◌, length, replicate, refl, sym, ap, subst, ◌∙◌, arith, true≢false}
-use Rattle.std.specs.Prelude.{not, ◌==◌, nat_lt, IsTrue, Some, None, Result, Ok, Err}
-use Rattle.nb_fields.specs.Bytes.{number_in}
-use Rattle.nb_fields.specs.Header.{state_of, scn_of, size_of}
-use Rattle.nb_fields.specs.Places.{is_page_size}
-use Rattle.nb_fields.specs.States.{normal_state, stalled_state}
-use Rattle.nb_host.specs.World.{World}
-use Rattle.nb_host.specs.Crash.{Leaves}
-use Rattle.nb_host.specs.declared.faults.Fault.{Fault}
-use Rattle.nb_host.specs.declared.faults.Fault.TheVariants.{Refused as RefusedFault, Device, Memory}
-use Rattle.nb_host.specs.declared.refusals.Refusal.TheVariants.{Access, WrongState, ScnExhausted}
-use Rattle.nb_change.specs.Changes.{Changes, Only, Remade}
-use Rattle.nb_change.specs.Gave.{GaveNothing}
-use Rattle.nb_change.proofs.ReachedLaws.{after_all-joined}
-use Rattle.nb_base.specs.Open.{OfFiles}
-use Rattle.nb_base.specs.Takes.{Strikes, after_strokes}
-use Rattle.nb_level.specs.declared.head.LevelHead.{LevelHead}
-use Rattle.nb_model.specs.declared.reply.Reply.TheVariants.{Refused}
-use Rattle.nb_model.specs.Account.{Ask, Base}
-use Rattle.nb_model.specs.Backups.{room_in}
-use Rattle.nb_model.specs.Causes.{Cause, first_cause, when, read_only, not_state, not_free, no_scn, no_room, not_of_form, broken_at, short_for}
-use Rattle.nb_model.specs.Chains.{History, pages_of, spots, free_spot}
-use Rattle.nb_model.specs.Image.{Page, Image, first_page, image_scn, image_size}
-use Rattle.nb_model.specs.Outcomes.{Backing, Outcome, Copies, ClosesBackup, Seen, next_guid, says}
-use Rattle.nb_model.specs.Sound.{HasHeader}
-use Rattle.nb_model.specs.Strokes.{Stroke, begin, base_after}
-use Rattle.nb_model.specs.Trail.{Trail, after_stroke}
+use Rattle.std.proofs.Common.{◌≡◌, ◌≢◌, inl, inr, ℕ, ◌<◌, ◌≤◌, List, [], ◌∷◌, ◌++◌, length, replicate, refl, sym, ap, subst, ◌∙◌, arith, true≢false, not, ◌==◌, nat_lt, IsTrue, Some, None, Result, Ok, Err}
+use Rattle.nb_copy.proofs.Common.{number_in, state_of, scn_of, size_of, is_page_size, normal_state, stalled_state, World, Leaves, Fault, Device, Memory, Access, WrongState, ScnExhausted, Changes, Only, Remade, GaveNothing, after_all-joined, OfFiles, Strikes, after_strokes, LevelHead, Refused, Ask, Base, room_in, Cause, first_cause, when, read_only, not_state, not_free, no_scn, no_room, not_of_form, broken_at, short_for, History, pages_of, spots, free_spot, Page, Image, first_page, image_scn, image_size, Backing, Outcome, Copies, ClosesBackup, Seen, next_guid, says, HasHeader, Stroke, begin, base_after, Trail, after_stroke, no_first, Held, IsOpen, name_of, after_base, room_cause, IsRoomIn, Tries, starting_cause, unless_some, tries_opened, history_least, Backed, StartMakes, HasNotBegun, StartsBackup, IsStarted, BeginsFor, earlier_cause, file_cause, ask_in, ask_by, turn_since, Since, FileCopy, IsNewFile, IsStartedFile, file_count, IsEmpty, IsMade, first_next, no_cause, unless_none}
+use Rattle.nb_host.specs.declared.faults.Fault.TheVariants.{Refused as RefusedFault}
 use Rattle.nb_model.proofs.PagesOnly.{WritesPages, drafts_write_pages, pages_stay}
-use Rattle.nb_model.proofs.PutSound.{no_first}
 use Rattle.nb_model.proofs.RoomThere.{room_keeps}
-use Rattle.nb_state.specs.Open.{Held, IsOpen, name_of}
-use Rattle.nb_state.proofs.MakesLaws.{after_base}
 use Rattle.nb_engine.specs.declared.walk.Room.{Room as Kept}
-use Rattle.nb_engine.specs.Room.{room_cause, IsRoomIn}
-use Rattle.nb_engine.specs.Tries.{Tries}
-use Rattle.nb_engine.specs.Turns.{starting_cause}
-use Rattle.nb_alloc.proofs.DoesLaws.{unless_some, tries_opened}
 use Rattle.nb_copy.proofs.AsideLaws.{open_aside}
-use Rattle.nb_engine.proofs.WalkLaws.{history_least}
-use Rattle.nb_copy.specs.Starting.{Backed, StartMakes, HasNotBegun, StartsBackup, IsStarted, BeginsFor, earlier_cause, file_cause, ask_in, ask_by, turn_since}
-use Rattle.nb_copy.specs.declared.since.Since.{Since}
-use Rattle.nb_copy.specs.declared.file_copy.FileCopy.{FileCopy}
-use Rattle.nb_copy.specs.FileStarting.{IsNewFile, IsStartedFile}
-use Rattle.nb_copy.specs.FileCopying.{file_count}
-use Rattle.nb_gather.specs.Making.{IsEmpty, IsMade}
 use Rattle.nb_copy.proofs.BegunLaws.{begun_frozen, begun_long, begun_size, begun_state}
 use Rattle.nb_copy.proofs.FileCopyLaws.{IsFrozenOf, frozen_parts}
 use Rattle.nb_copy.proofs.FileStartLaws.{file_first, file_starts}
 use Rattle.nb_copy.proofs.RoomedLaws.{roomed_is, roomed_first}
 use Rattle.nb_copy.proofs.BesideLaws.{starts_struck, starts_made, starts_then, starts_more, made_kept}
 use Rattle.nb_copy.proofs.StartLaws.{early, strokes, started, struck_some, struck_most, turn_late, turn_told, turn_strokes, turn_started}
-use Rattle.nb_base.proofs.AttachLaws.{first_next}
-use Rattle.nb_model.proofs.TurnCases.{no_cause}
-use Rattle.nb_state.proofs.TurnLaws.{unless_none}
 
 -- what a page 0 says of why no backup begins
 abbrev starting_of : Page → Cause

@@ -1,28 +1,11 @@
 -- A database after the strokes that make room in the history.
-use Rattle.std.proofs.Common.{◌≡◌, ℕ, zero, suc, ◌+◌, ◌≤◌, List, [], length, refl, sym, ap, subst, ◌∙◌, arith}
-use Rattle.std.specs.Prelude.{Option, Some, None}
-use Rattle.nb_fields.specs.Page.{kind_of}
+use Rattle.std.proofs.Common.{◌≡◌, ℕ, zero, suc, ◌+◌, ◌≤◌, List, [], length, refl, sym, ap, subst, ◌∙◌, arith, Option, Some, None}
+use Rattle.nb_copy.proofs.Common.{kind_of, Base, Image, page_at, first_page, Trail, Draft, drafted, needs, put, inventory_of, scn_page_of, is_free_page, broken_at, History, Spot, pages_of, found_pages, spots, free_spot, last_of, grown, Room, room_in, needs_taken, HasHeader, either, drafts_are, drafted_is, needs_keeps, grown_keeps, header-size, some_page, needs_image, kind_of_header, after_strokes, after_base, no_rows, linked_payload, IsData, last_data}
 use Rattle.nb_fields.specs.Kinds.{data_kind}
-use Rattle.nb_model.specs.Account.{Base}
-use Rattle.nb_model.specs.Image.{Image, page_at, first_page}
-use Rattle.nb_model.specs.Trail.{Trail}
-use Rattle.nb_model.specs.Forms.{Draft, drafted, needs, put, inventory_of, scn_page_of, is_free_page}
-use Rattle.nb_model.specs.Causes.{broken_at}
-use Rattle.nb_model.specs.Chains.{History, Spot, pages_of, found_pages, spots, free_spot, last_of, grown}
-use Rattle.nb_model.specs.Backups.{Room, room_in, needs_taken}
-use Rattle.nb_model.specs.Sound.{HasHeader}
-use Rattle.nb_model.proofs.DraftLaws.{IsKept, IsOf, either, drafts_are, drafted_is, needs_keeps, grown_keeps}
+use Rattle.nb_model.proofs.DraftLaws.{IsKept, IsOf}
 use Rattle.nb_model.proofs.DraftJoin.{join_put}
-use Rattle.nb_model.proofs.HeaderLaws.{header-size}
-use Rattle.nb_model.proofs.MainLaws.{some_page}
-use Rattle.nb_model.proofs.PutSound.{needs_image}
-use Rattle.nb_model.proofs.SoundLaws.{kind_of_header}
-use Rattle.nb_base.specs.Takes.{after_strokes}
-use Rattle.nb_state.proofs.MakesLaws.{after_base}
 use Rattle.nb_engine.specs.Make.{new_of}
-use Rattle.nb_engine.specs.Room.{no_rows, linked_payload}
 use Rattle.nb_alloc.proofs.NewLaws.{told}
-use Rattle.nb_engine.proofs.WalkLaws.{IsData, last_data}
 use Rattle.nb_copy.proofs.FirstLaws.{Starts, starts_itself, first_is, put_begins, new_begins}
 use Rattle.nb_model.proofs.HeldRoom.{needs_image_same}
 

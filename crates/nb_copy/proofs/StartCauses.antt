@@ -1,24 +1,9 @@
 -- Why no backup may begin, test by test.
-use Rattle.std.proofs.Common.{◌≡◌, ◌+◌, ℕ, zero, suc, List, [], ◌∷◌, replicate, refl, sym, ap, subst, ◌∙◌, arith}
-use Rattle.std.specs.Prelude.{Bool, true, false, min, Option, Some, None, is_none, not, nat_eq}
-use Rattle.nb_fields.specs.States.{normal_state}
+use Rattle.std.proofs.Common.{◌≡◌, ◌+◌, ℕ, zero, suc, List, [], ◌∷◌, replicate, refl, sym, ap, subst, ◌∙◌, arith, Bool, true, false, min, Option, Some, None, is_none, not, nat_eq}
+use Rattle.nb_copy.proofs.Common.{normal_state, Refusal, Access, FileExists, NoHistory, Ask, Image, is_read_only, ask_of, level_behind, Cause, first_cause, when, read_only, not_state, not_free, is_free_entry, broken_at, History, Spot, pages_of, backup_spot, level_in, guid_in, Seen, HistoryRow, ask_in, earlier_row, row_cause, earlier_cause, file_cause, Level, one_cause, first_here, first_next, no_cause}
 use Rattle.nb_host.specs.Names.{same_name}
-use Rattle.nb_host.specs.declared.refusals.Refusal.{Refusal}
-use Rattle.nb_host.specs.declared.refusals.Refusal.TheVariants.{Access, FileExists, NoHistory}
-use Rattle.nb_model.specs.Account.{Ask}
-use Rattle.nb_model.specs.Image.{Image, is_read_only}
-use Rattle.nb_model.specs.Backups.{ask_of, level_behind}
-use Rattle.nb_model.specs.Causes.{Cause, first_cause, when, read_only, not_state, not_free, is_free_entry, broken_at}
-use Rattle.nb_model.specs.Chains.{History, Spot, pages_of, backup_spot, level_in, guid_in}
-use Rattle.nb_model.specs.Outcomes.{Seen}
-use Rattle.nb_engine.specs.declared.rows.HistoryRow.{HistoryRow}
 use Rattle.nb_engine.specs.History.{row_at}
 use Rattle.nb_engine.proofs.FreeLaws.{closed_cause, open_cause}
-use Rattle.nb_copy.specs.Starting.{ask_in, earlier_row, row_cause, earlier_cause, file_cause}
-use Rattle.nb_copy.specs.declared.since.Since.TheVariants.{Level}
-use Rattle.nb_alloc.proofs.CauseLaws.{one_cause}
-use Rattle.nb_base.proofs.AttachLaws.{first_here, first_next}
-use Rattle.nb_model.proofs.TurnCases.{no_cause}
 
 -- the tests of the database and of the file's name
 module _ (s : Seen) (name : List ℕ) where

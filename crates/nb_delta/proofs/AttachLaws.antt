@@ -1,13 +1,6 @@
 -- How a difference file is attached.
-use Rattle.std.proofs.Common.{◌≡◌, ℕ, List, length, refl, sym, ◌∙◌, subst}
-use Rattle.std.specs.Prelude.{Some, None, Option, option_map, Result, Ok, Err, IsErr}
-use Rattle.std.specs.Result.{IsErrAnd}
-use Rattle.nb_host.specs.Files.{File}
-use Rattle.nb_host.specs.declared.faults.Fault.{Fault}
-use Rattle.nb_host.specs.declared.faults.Fault.TheVariants.{Refused, Device, Memory}
-use Rattle.nb_fields.specs.Table.{table_of}
-use Rattle.nb_delta.specs.Known.{Known}
-use Rattle.nb_delta.specs.Reading.{Reads}
+use Rattle.std.proofs.Common.{◌≡◌, ℕ, List, length, refl, sym, ◌∙◌, subst, Some, None, Option, option_map, Result, Ok, Err, IsErr}
+use Rattle.nb_delta.proofs.Common.{IsErrAnd, File, Fault, Refused, Device, Memory, table_of, Known, Reads}
 use Rattle.nb_delta.specs.Attaching.{Attaches}
 
 -- a file that has a length has so many bytes

@@ -1,19 +1,13 @@
 -- Entries, one more of them, and their index.
-use Rattle.std.proofs.Common.{◌≡◌, ◌≢◌, ℕ, zero, suc, ◌+◌, ◌<◌, ◌≤◌, Bool, true, false, cond, List, [], ◌∷◌, ◌++◌, length, get_or, Option, Some, None, refl, sym, ap, ◌∙◌, subst, arith, inl, inr, ⊎_elim, length-append, BTreeMap, nat_cmp}
-use Rattle.std.specs.Prelude.{nat_eq, ◌||◌, Result, Ok, Err, OnOk, is_ok, is_some, IfSome}
-use Rattle.std.specs.List.{list_any, position_from, IsDistinct, AllByRecursion}
+use Rattle.std.proofs.Common.{◌≡◌, ◌≢◌, ℕ, zero, suc, ◌+◌, ◌<◌, ◌≤◌, Bool, true, false, cond, List, [], ◌∷◌, ◌++◌, length, get_or, Option, Some, None, refl, sym, ap, ◌∙◌, subst, arith, inl, inr, ⊎_elim, length-append, BTreeMap, nat_cmp, nat_eq, ◌||◌, Result, Ok, Err, OnOk, is_ok, is_some, IfSome}
+use Rattle.nb_delta.proofs.Common.{list_any, position_from, IsDistinct, AllByRecursion, cases_eq, cases_lt, eq-eqb, ne_eqb, eqb-true, or_cases, or_left, or_right, cond-true, cond-false, list_any-append, most_pages, place_of, AreEntries, IsIndex, false_true}
 use Rattle.std.specs.Ordering.{is_eq}
 use Rattle.std.specs.Cmp.{nat_cmp_is}
 use Rattle.std.specs.BTreeMap.{get, Updates, IsEmpty}
 use Rattle.std.specs.declared.cmp.Ordering.TheVariants.{Less, Greater}
 use Rattle.std.specs.declared.alloc.AllocFailed.{AllocFailed}
-use Rattle.std.proofs.lemmas.Bool.{cases_eq, cases_lt, eq-eqb, ne_eqb, eqb-true, or_cases, or_left, or_right, cond-true, cond-false}
-use Rattle.std.proofs.lemmas.List.Folds.{list_any-append}
 use Rattle.std.proofs.lemmas.Bool.Decides.{eqb_tells}
 use Rattle.std.proofs.lemmas.Map.Steps.{length-le_from_distinct_below}
-use Rattle.nb_fields.specs.Places.{most_pages}
-use Rattle.nb_delta.specs.Entries.{place_of, AreEntries, IsIndex}
-use Rattle.nb_host.proofs.PlainLaws.{false_true}
 
 -- no entries
 pub no_entries : AreEntries []

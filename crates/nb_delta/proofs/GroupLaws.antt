@@ -1,20 +1,7 @@
 -- One step of reading the groups of a difference file.
-use Rattle.std.proofs.Common.{◌≡◌, ℕ, suc, ◌+◌, ◌-◌, ◌*◌, ◌/◌, ◌<◌, ◌≤◌, Bool, true, false, List, [], ◌++◌, length, take, drop, replicate, refl, sym, ap, ◌∙◌, subst, arith, inl, inr, length-drop}
-use Rattle.std.specs.Prelude.{nat_lt, ◌||◌, ◌&&◌, ◌==◌, Some, None, Result, Ok, Err, IsErr}
-use Rattle.std.specs.Result.{IsErrAnd}
-use Rattle.std.proofs.lemmas.Bool.{lt-ltb, le-ltb, cases_lt, or_from, or_left, or_right, and_from, and_left, and_right, ne_eqb}
-use Rattle.std.proofs.lemmas.List.{drop_all, take-replicate, take_all, take-append-le, length-replicate}
-use Rattle.std.proofs.Math.Nat.{mul-le-mul_right}
-use Rattle.nb_host.specs.Files.{File}
-use Rattle.nb_host.specs.Calls.{ReadsPage}
-use Rattle.nb_host.specs.declared.faults.Fault.{Fault}
-use Rattle.nb_host.specs.declared.faults.Fault.TheVariants.{Refused, Device, Memory}
-use Rattle.nb_host.specs.declared.refusals.Refusal.TheVariants.{BadDelta}
-use Rattle.nb_fields.specs.Bytes.{number_in, number_of}
-use Rattle.nb_fields.specs.Places.{slots_in, most_pages}
-use Rattle.nb_fields.specs.Table.{page_in, alloc_place, entries_from, groups_from, table_of}
+use Rattle.std.proofs.Common.{◌≡◌, ℕ, suc, ◌+◌, ◌-◌, ◌*◌, ◌/◌, ◌<◌, ◌≤◌, Bool, true, false, List, [], ◌++◌, length, take, drop, replicate, refl, sym, ap, ◌∙◌, subst, arith, inl, inr, length-drop, nat_lt, ◌||◌, ◌&&◌, ◌==◌, Some, None, Result, Ok, Err, IsErr}
+use Rattle.nb_delta.proofs.Common.{IsErrAnd, lt-ltb, le-ltb, cases_lt, or_from, or_left, or_right, and_from, and_left, and_right, ne_eqb, drop_all, take-replicate, take_all, take-append-le, length-replicate, mul-le-mul_right, File, ReadsPage, Fault, Refused, Device, Memory, BadDelta, number_in, number_of, slots_in, most_pages, page_in, alloc_place, entries_from, groups_from, table_of, Counts, Reads, ReadsGroup}
 use Rattle.nb_fields.proofs.NumberLaws.{number_of-zeros}
-use Rattle.nb_delta.specs.Reading.{Counts, Reads, ReadsGroup}
 use Rattle.nb_delta.proofs.ReadLaws.{entries_none}
 
 -- the allocation page is held in part, or its count is too large

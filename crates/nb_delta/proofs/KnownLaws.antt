@@ -1,21 +1,6 @@
 -- What a call says of the object that it knows, by what it says of the object's parts.
-use Rattle.std.proofs.Common.{◌≡◌, ℕ, ◌+◌, ◌-◌, ◌*◌, ◌<◌, ◌≤◌, List, [], ◌∷◌, ◌++◌, length, take, drop, replicate, refl, sym, ap, ◌∙◌, subst, arith, inl, inr, IsTrue, length-append, append_assoc}
-use Rattle.std.specs.Prelude.{None}
-use Rattle.nb_host.specs.World.{World}
-use Rattle.std.proofs.lemmas.Bool.{cases_lt}
-use Rattle.std.proofs.lemmas.List.{take-append-le, take-append-drop, take_all, length-take-le, length-replicate, drop-replicate, replicate-append-replicate, append-nil}
-use Rattle.nb_host.specs.Files.{File, Files, bytes_of}
-use Rattle.nb_host.specs.Calls.{ReadsBytes}
-use Rattle.nb_host.specs.Moments.{IsTimely}
-use Rattle.nb_fields.specs.Places.{is_page_size, most_pages}
-use Rattle.nb_fields.specs.Table.{page_in, slot_place}
-use Rattle.nb_change.specs.Changes.{Only, Changes, Moved, Remade}
-use Rattle.nb_change.proofs.MovedLaws.{moved_begun}
-use Rattle.nb_delta.specs.Entries.{place_of}
-use Rattle.nb_delta.specs.Known.{Known}
-use Rattle.nb_delta.specs.Slots.{HasTable, HasZeros, slot_page, SlotStep, AddStep, IsBlank}
-use Rattle.nb_delta.specs.Noting.{IsNewest}
-use Rattle.nb_delta.specs.Waiting.{Waits, FrontStep, HasAll}
+use Rattle.std.proofs.Common.{◌≡◌, ℕ, ◌+◌, ◌-◌, ◌*◌, ◌<◌, ◌≤◌, List, [], ◌∷◌, ◌++◌, length, take, drop, replicate, refl, sym, ap, ◌∙◌, subst, arith, inl, inr, IsTrue, length-append, append_assoc, None}
+use Rattle.nb_delta.proofs.Common.{World, cases_lt, take-append-le, take-append-drop, take_all, length-take-le, length-replicate, drop-replicate, replicate-append-replicate, append-nil, File, Files, bytes_of, ReadsBytes, IsTimely, is_page_size, most_pages, page_in, slot_place, Only, Changes, Moved, Remade, moved_begun, place_of, Known, HasTable, HasZeros, slot_page, SlotStep, AddStep, IsBlank, IsNewest, Waits, FrontStep, HasAll}
 use Rattle.nb_delta.proofs.StepLaws.{keeps_none}
 
 -- what a crash leaves while an entry is added

@@ -1,10 +1,6 @@
 -- The pages of a file after a page was put into it, and after it grew by zeros.
 use Rattle.std.proofs.Common.{◌≡◌, ◌≢◌, ◌⊎◌, inl, inr, ⊎_elim, ℕ, ◌+◌, ◌-◌, ◌*◌, ◌<◌, ◌≤◌, List, ◌++◌, length, get_or, take, drop, replicate, refl, sym, ◌∙◌, ap, arith, length-append, length-take, length-drop}
-use Rattle.std.proofs.lemmas.List.{get_or-drop, get_or_append_left, get_or-append-add, get_or-append_right, get_or-replicate, ext_get_or, length-replicate, places}
-use Rattle.std.proofs.lemmas.Bool.{cases_lt}
-use Rattle.std.proofs.Math.Nat.{mul-le-mul_right}
-use Rattle.nb_host.specs.Files.{padded, put_at}
-use Rattle.nb_fields.specs.Table.{page_in}
+use Rattle.nb_delta.proofs.Common.{get_or-drop, get_or_append_left, get_or-append-add, get_or-append_right, get_or-replicate, ext_get_or, length-replicate, places, cases_lt, mul-le-mul_right, padded, put_at, page_in}
 
 pub length-padded : (bytes : List ℕ) (n : ℕ) → length (padded bytes n) ≡ length bytes + (n - length bytes)
 unfolding padded

@@ -1,18 +1,9 @@
 -- What of a file's bytes makes its table this list, and that the two are one.
-use Rattle.std.proofs.Common.{◌≡◌, ◌⊎◌, inl, inr, ⊎_elim, ℕ, zero, suc, ◌+◌, ◌-◌, ◌*◌, ◌/◌, ◌<◌, ◌≤◌, false, List, [], ◌∷◌, ◌++◌, length, get_or, refl, sym, ap, ◌∙◌, subst, arith, length-append}
-use Rattle.std.specs.Prelude.{nat_lt, ◌&&◌, ◌==◌, Result, Ok, Err}
-use Rattle.std.proofs.lemmas.Bool.{cases_lt, cases_eq, cases_order, cases_Bool, ltb-false, eqb-true, eqb-false, eq-eqb, or_parts, and_cases}
-use Rattle.std.proofs.lemmas.List.{get_or_append_left, get_or-append_right}
-use Rattle.std.proofs.Math.Nat.{mul-le-mul_right}
-use Rattle.nb_fields.specs.Bytes.{number_in}
-use Rattle.nb_fields.specs.Places.{slots_in}
-use Rattle.nb_fields.specs.Table.{page_in, alloc_place, entries_from, groups_from}
-use Rattle.nb_delta.specs.Entries.{AreEntries}
-use Rattle.nb_delta.specs.Reading.{is_unfit}
+use Rattle.std.proofs.Common.{◌≡◌, ◌⊎◌, inl, inr, ⊎_elim, ℕ, zero, suc, ◌+◌, ◌-◌, ◌*◌, ◌/◌, ◌<◌, ◌≤◌, false, List, [], ◌∷◌, ◌++◌, length, get_or, refl, sym, ap, ◌∙◌, subst, arith, length-append, nat_lt, ◌&&◌, ◌==◌, Result, Ok, Err}
+use Rattle.nb_delta.proofs.Common.{cases_lt, cases_eq, cases_order, cases_Bool, ltb-false, eqb-true, eqb-false, eq-eqb, or_parts, and_cases, get_or_append_left, get_or-append_right, mul-le-mul_right, number_in, slots_in, page_in, alloc_place, entries_from, groups_from, AreEntries, is_unfit, err_ok}
 use Rattle.nb_delta.proofs.EntryLaws.{entries_more}
 use Rattle.nb_delta.proofs.ReadLaws.{entries_none, entry_unfit, entry_cut, entry_read, fit_named, fit_below}
 use Rattle.nb_delta.proofs.GroupLaws.{is_misshapen, group_misshapen, group_broken, group_full, group_last, next_group, first_group, whole_pages}
-use Rattle.nb_host.proofs.PlainLaws.{err_ok}
 
 -- the count of a group, and the number of its entry i
 abbrev pub count_at : (size : ℕ) (bytes : List ℕ) (g : ℕ) → ℕ

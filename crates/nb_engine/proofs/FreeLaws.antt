@@ -1,22 +1,7 @@
 -- Giving a page back, by the causes of its turn.
-use Rattle.std.proofs.Common.{◌≡◌, ℕ, List, [], ◌∷◌, refl, sym, ap, ◌∙◌}
-use Rattle.std.specs.Prelude.{true, false, Some, None}
-use Rattle.nb_fields.specs.Kinds.{inventory_kind}
-use Rattle.nb_host.specs.declared.refusals.Refusal.{Refusal}
-use Rattle.nb_host.specs.declared.refusals.Refusal.TheVariants.{Access}
-use Rattle.nb_model.specs.declared.reply.Reply.TheVariants.{Refused, Done}
-use Rattle.nb_model.specs.Image.{Image, is_read_only}
-use Rattle.nb_model.specs.Forms.{Draft, drafted, give_page, inventory_of}
-use Rattle.nb_model.specs.Causes.{Cause, first_cause, read_only, not_kind, not_raw, not_of_form, no_room}
-use Rattle.nb_model.specs.Outcomes.{Seen, says, unless}
-use Rattle.nb_model.specs.Pages.{free_turn}
-use Rattle.nb_alloc.specs.Mark.{mark_cause, mark_strokes}
-use Rattle.nb_alloc.proofs.CauseLaws.{refused_by, judged_by}
+use Rattle.std.proofs.Common.{◌≡◌, ℕ, List, [], ◌∷◌, refl, sym, ap, ◌∙◌, true, false, Some, None}
+use Rattle.nb_engine.proofs.Common.{inventory_kind, Refusal, Access, Refused, Done, Image, is_read_only, Draft, drafted, give_page, inventory_of, Cause, first_cause, read_only, not_kind, not_raw, not_of_form, no_room, Seen, says, unless, free_turn, mark_cause, mark_strokes, refused_by, judged_by, mark_form, mark_room, applies, first_here, first_next, no_cause, when_false}
 use Rattle.nb_engine.proofs.WriteLaws.{is_raw}
-use Rattle.nb_alloc.proofs.MarkLaws.{mark_form, mark_room}
-use Rattle.nb_base.proofs.AttachLaws.{applies, first_here, first_next}
-use Rattle.nb_model.proofs.TurnCases.{no_cause}
-use Rattle.nb_model.proofs.WholeLaws.{when_false}
 
 -- the turn, by its causes
 module _ (s : Seen) (p : ℕ) where

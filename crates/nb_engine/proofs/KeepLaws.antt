@@ -1,22 +1,9 @@
 -- Where a slot is kept for a row of the history, and why none is.
-use Rattle.std.proofs.Common.{◌≡◌, ℕ, ◌<◌, List, [], ◌∷◌, length, refl, sym, ap, ◌∙◌, arith}
-use Rattle.std.specs.Prelude.{Bool, true, false, Option, Some, None}
-use Rattle.nb_fields.specs.Places.{most_pages}
-use Rattle.nb_host.specs.declared.refusals.Refusal.TheVariants.{Full}
-use Rattle.nb_model.proofs.ReadLaws.{lt_no}
-use Rattle.nb_model.specs.Image.{Image}
-use Rattle.nb_model.specs.Forms.{Draft, drafted, needs, is_kind, is_free_page, inventory_of, scn_page_of}
-use Rattle.nb_model.specs.Causes.{Cause, first_cause, when, broken_at, not_of_form, no_room, no_scn, too_short, short_for}
-use Rattle.nb_model.specs.Chains.{History, Spot, pages_of, found_pages, spots, free_spot, grown}
-use Rattle.nb_model.specs.Backups.{Room as Kept, room_in, needs_taken}
-use Rattle.nb_model.proofs.PutSound.{needs_image}
-use Rattle.nb_engine.specs.declared.walk.Room.{Room}
-use Rattle.nb_engine.specs.History.{room_at}
-use Rattle.nb_engine.specs.Room.{room_cause, IsRoomIn, taken_draft, grow_cause}
+use Rattle.std.proofs.Common.{◌≡◌, ℕ, ◌<◌, List, [], ◌∷◌, length, refl, sym, ap, ◌∙◌, arith, Bool, true, false, Option, Some, None}
+use Rattle.nb_engine.proofs.Common.{most_pages, Full, lt_no, Image, Draft, drafted, needs, is_kind, is_free_page, inventory_of, scn_page_of, Cause, first_cause, when, broken_at, not_of_form, no_room, no_scn, too_short, short_for, History, Spot, pages_of, found_pages, spots, free_spot, grown, room_in, needs_taken, needs_image, Room, room_at, room_cause, IsRoomIn, taken_draft, grow_cause, first_next, when_false}
+use Rattle.nb_model.specs.Backups.{Room as Kept}
 use Rattle.nb_engine.proofs.WalkLaws.{IsData, history_least}
-use Rattle.nb_base.proofs.AttachLaws.{first_next}
 use Rattle.nb_model.proofs.HeldRoom.{needs_image_same}
-use Rattle.nb_model.proofs.WholeLaws.{when_false}
 
 -- what a test of inventories leaves
 needs_leaves : (kind p : ℕ) (d : Draft) → ((needs kind p d).strokes ≡ d.strokes) × ((needs kind p d).full ≡ d.full)

@@ -1,27 +1,6 @@
 -- A page of a chain is written, in any database.
-use Rattle.std.proofs.Common.{◌≡◌, ℕ, ◌+◌, ◌-◌, ◌*◌, ◌<◌, ◌≤◌, List, [], ◌∷◌, ◌++◌, length, take, drop, sym, ap, ◌∙◌, arith, length-drop}
-use Rattle.std.specs.Prelude.{Some, None, nat_le, IsTrue}
-use Rattle.nb_host.specs.declared.refusals.Refusal.TheVariants.{NotDatabase}
-use Rattle.std.proofs.lemmas.List.{take-append-drop}
-use Rattle.nb_fields.specs.Bytes.{with_part}
-use Rattle.nb_fields.specs.Page.{with_payload}
-use Rattle.nb_fields.specs.Places.{is_page_size}
-use Rattle.nb_fields.proofs.PartLaws.{part-with_part_before}
-use Rattle.nb_fields.proofs.PageLaws.{padded_whole}
-use Rattle.nb_model.specs.Image.{Image, page_at, image_size}
-use Rattle.nb_model.specs.Account.{Base}
-use Rattle.nb_model.specs.Forms.{drafted}
-use Rattle.nb_model.specs.Chains.{Slot, put_slot}
-use Rattle.nb_model.specs.Causes.{when}
-use Rattle.nb_model.proofs.ReadLaws.{le_no}
-use Rattle.nb_alloc.specs.Put.{entry_cause}
-use Rattle.nb_alloc.specs.Make.{page_strokes}
-use Rattle.nb_engine.specs.Room.{write_cause}
-use Rattle.nb_alloc.proofs.CauseLaws.{one_cause}
-use Rattle.nb_alloc.proofs.ReadyLaws.{page_strokes_are}
-use Rattle.nb_base.proofs.AttachLaws.{applies, first_here, first_next}
-use Rattle.nb_host.proofs.PlainLaws.{le_yes}
-use Rattle.nb_model.proofs.WholeLaws.{when_false}
+use Rattle.std.proofs.Common.{◌≡◌, ℕ, ◌+◌, ◌-◌, ◌*◌, ◌<◌, ◌≤◌, List, [], ◌∷◌, ◌++◌, length, take, drop, sym, ap, ◌∙◌, arith, length-drop, Some, None, nat_le, IsTrue}
+use Rattle.nb_engine.proofs.Common.{NotDatabase, take-append-drop, with_part, with_payload, is_page_size, part-with_part_before, padded_whole, Image, page_at, image_size, Base, drafted, Slot, put_slot, when, le_no, entry_cause, page_strokes, write_cause, one_cause, page_strokes_are, applies, first_here, first_next, le_yes, when_false}
 
 -- bytes after the head of a page were written
 module _ (at : ℕ) (bytes old : List ℕ) (low : 16 ≤ at) (before : at ≤ length old) (long : length (with_part at bytes old) ≡ length old) where

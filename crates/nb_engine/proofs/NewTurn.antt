@@ -1,39 +1,9 @@
 -- What making a new page does of its turn.
-use Rattle.std.proofs.Common.{◌≡◌, ◌<◌, ◌≤◌, ℕ, List, [], ◌∷◌, length, refl, sym, ap, subst, ◌∙◌, arith}
-use Rattle.std.specs.Prelude.{true, false, IsTrue, Some, None, Result, IfOk}
-use Rattle.std.proofs.lemmas.Result.{IfOk-weaker}
-use Rattle.nb_fields.specs.Bytes.{bytes_of}
-use Rattle.nb_fields.specs.Places.{is_page_size}
-use Rattle.nb_fields.specs.Payloads.{text_payload}
-use Rattle.nb_host.specs.World.{World}
-use Rattle.nb_host.specs.declared.faults.Fault.{Fault}
-use Rattle.nb_host.specs.declared.refusals.Refusal.{Refusal}
-use Rattle.nb_host.specs.declared.refusals.Refusal.TheVariants.{Access, NotDatabase}
+use Rattle.std.proofs.Common.{◌≡◌, ◌<◌, ◌≤◌, ℕ, List, [], ◌∷◌, length, refl, sym, ap, subst, ◌∙◌, arith, true, false, IsTrue, Some, None, Result, IfOk}
+use Rattle.nb_engine.proofs.Common.{IfOk-weaker, bytes_of, is_page_size, text_payload, World, Fault, Refusal, Access, NotDatabase, Refused, PageMade, Image, image_scn, is_read_only, Stroke, Trail, Draft, first_cause, read_only, too_short, Seen, says, new_turn, lt_no, lt_yes, draft_cause, IsShaped, Held, IsOpen, Does, IsWell, new_raw, page_made, IsSearchable, Tries, unless_refused, unless_allowed, refused_by, judged_by, seeing, tries_does, applies, first_here, first_next, no_cause, when_false}
 use Rattle.nb_model.specs.declared.reply.Reply.{Reply}
-use Rattle.nb_model.specs.declared.reply.Reply.TheVariants.{Refused, PageMade}
-use Rattle.nb_model.specs.Image.{Image, image_scn, is_read_only}
-use Rattle.nb_model.specs.Strokes.{Stroke}
-use Rattle.nb_model.specs.Trail.{Trail}
-use Rattle.nb_model.specs.Forms.{Draft}
-use Rattle.nb_model.specs.Causes.{first_cause, read_only, too_short}
-use Rattle.nb_model.specs.Outcomes.{Seen, says}
-use Rattle.nb_model.specs.Pages.{new_turn}
 use Rattle.nb_model.specs.Sound.{IsSoundImage, HasHeader}
-use Rattle.nb_model.proofs.ReadLaws.{lt_no, lt_yes}
-use Rattle.nb_model.proofs.SearchLaws.{draft_cause}
-use Rattle.nb_model.proofs.StepLaws.{IsShaped}
-use Rattle.nb_state.specs.Open.{Held, IsOpen}
-use Rattle.nb_state.specs.Does.{Does}
 use Rattle.nb_state.proofs.SizeLaws.{open_sized}
-use Rattle.nb_alloc.specs.Make.{IsWell, new_raw}
-use Rattle.nb_engine.specs.Replies.{page_made}
-use Rattle.nb_alloc.specs.Search.{IsSearchable}
-use Rattle.nb_alloc.specs.Tries.{Tries}
-use Rattle.nb_alloc.proofs.CauseLaws.{unless_refused, unless_allowed, refused_by, judged_by}
-use Rattle.nb_alloc.proofs.DoesLaws.{seeing, tries_does}
-use Rattle.nb_base.proofs.AttachLaws.{applies, first_here, first_next}
-use Rattle.nb_model.proofs.TurnCases.{no_cause}
-use Rattle.nb_model.proofs.WholeLaws.{when_false}
 
 -- the bytes of the empty text
 pub empty_is : 0 ∷ 0 ∷ [] ≡ text_payload []

@@ -1,35 +1,9 @@
 -- Pages of an image that aren't of their kind, where pages are written one after the other: each draft notes the same ones, whatever was written
 -- before, since a page changes its kind only where it was noted.
-use Rattle.std.proofs.Common.{◌≡◌, ◌≢◌, ◌⊎◌, inl, inr, ℕ, suc, ◌+◌, ◌*◌, ◌/◌, ◌<◌, ◌≤◌, List, [], ◌∷◌, ◌++◌, length, drop, refl, sym, ap, subst, ◌∙◌, arith, append_assoc, length-drop}
-use Rattle.std.specs.Prelude.{Bool, true, false, not, ◌==◌, ◌&&◌, ◌||◌, nat_lt, min, Some, None}
-use Rattle.std.proofs.lemmas.Bool.Decides.{eqb_tells, leb_tells}
-use Rattle.nb_fields.specs.Bytes.{bytes_of, with_part}
-use Rattle.nb_fields.specs.Places.{entries_in, bits_in, inventory_place, scn_place, is_scn_place}
-use Rattle.nb_fields.specs.Page.{kind_of}
-use Rattle.nb_fields.proofs.NumberLaws.{length-bytes_of}
-use Rattle.nb_fields.proofs.PartLaws.{length-with_part}
-use Rattle.nb_fields.proofs.PlaceLaws.{entries-least, scn_place-some}
-use Rattle.nb_fields.proofs.SizeLaws.{SizeFacts, size_facts}
-use Rattle.nb_fields.specs.Kinds.{inventory_kind, data_kind, scn_kind}
-use Rattle.nb_host.specs.declared.refusals.Refusal.TheVariants.{NotDatabase}
-use Rattle.nb_model.specs.Causes.{not_kind, when, lowest_of, lowest_broken}
-use Rattle.nb_model.specs.Image.{Page, Image, page_at, image_size, image_scn}
-use Rattle.nb_model.specs.Forms.{HasItsEntry, Draft, drafted, is_kind, other_kind, needs, has_entry, inventory_of, scn_page_of, bit_number, entry_number, scn_entry, entry_written, entry_raised, raised, written, wrote, put, with_bit, set_bit, give_page}
+use Rattle.std.proofs.Common.{◌≡◌, ◌≢◌, ◌⊎◌, inl, inr, ℕ, suc, ◌+◌, ◌*◌, ◌/◌, ◌<◌, ◌≤◌, List, [], ◌∷◌, ◌++◌, length, drop, refl, sym, ap, subst, ◌∙◌, arith, append_assoc, length-drop, Bool, true, false, not, ◌==◌, ◌&&◌, ◌||◌, nat_lt, min, Some, None}
+use Rattle.nb_engine.proofs.Common.{eqb_tells, leb_tells, bytes_of, with_part, entries_in, bits_in, inventory_place, scn_place, is_scn_place, kind_of, length-bytes_of, length-with_part, entries-least, scn_place-some, SizeFacts, size_facts, inventory_kind, data_kind, scn_kind, NotDatabase, not_kind, when, lowest_of, lowest_broken, Page, Image, page_at, image_size, image_scn, HasItsEntry, Draft, drafted, is_kind, other_kind, needs, has_entry, inventory_of, scn_page_of, bit_number, entry_number, scn_entry, entry_written, entry_raised, raised, written, wrote, put, with_bit, set_bit, give_page, needs_image, all_at, inventory_place_some, scn_place_before, IsShaped, IsWritten, Puts, form_written, kind_parts, written_size, written_shaped, inventory_has, put_on, entry_broken, give_broken, entry_cause, mark_cause, entry_by, other_by, inventory_most, needs_broken, no_entry_broken, first_next, append_none, kind_found, needs_found, no_cause}
 use Rattle.nb_model.proofs.BitLaws.{with_bit_length}
-use Rattle.nb_model.proofs.PutSound.{needs_image}
-use Rattle.nb_model.proofs.SoundLaws.{all_at, inventory_place_some, scn_place_before}
-use Rattle.nb_model.proofs.StepLaws.{IsShaped, IsWritten, Puts, form_written, kind_parts, written_size, written_shaped, inventory_has, put_on}
-use Rattle.nb_alloc.specs.Behind.{entry_broken, give_broken}
-use Rattle.nb_alloc.specs.Put.{entry_cause}
-use Rattle.nb_alloc.specs.Mark.{mark_cause}
-use Rattle.nb_alloc.proofs.BehindLaws.{entry_by, other_by}
-use Rattle.nb_alloc.proofs.SearchReads.{inventory_most}
-use Rattle.nb_alloc.proofs.RoomsLaws.{needs_broken, no_entry_broken}
-use Rattle.nb_base.proofs.AttachLaws.{first_next}
-use Rattle.nb_host.proofs.PlainLaws.{append_none}
 use Rattle.nb_model.proofs.RoomThere.{other_met}
-use Rattle.nb_model.proofs.RoundLaws.{kind_found, needs_found}
-use Rattle.nb_model.proofs.TurnCases.{no_cause}
 
 -- the page is one of these
 abbrev pub In : ℕ → List ℕ → Type 0

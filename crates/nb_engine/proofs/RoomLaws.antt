@@ -1,27 +1,7 @@
 -- Why a free slot of the history is not kept: the lowest of the pages that aren't of the form.
-use Rattle.std.proofs.Common.{◌≡◌, ◌≢◌, ℕ, zero, suc, ◌*◌, ◌/◌, ◌<◌, ◌≤◌, List, [], ◌∷◌, refl, sym, ap, ◌∙◌, arith, mul-le-mul_right}
-use Rattle.std.specs.Prelude.{Bool, true, false, not, Some, None, min, IsTrue}
+use Rattle.std.proofs.Common.{◌≡◌, ◌≢◌, ℕ, zero, suc, ◌*◌, ◌/◌, ◌<◌, ◌≤◌, List, [], ◌∷◌, refl, sym, ap, ◌∙◌, arith, mul-le-mul_right, Bool, true, false, not, Some, None, min, IsTrue}
+use Rattle.nb_engine.proofs.Common.{kind_of, is_page_size, entries_in, bits_in, inventory_place, scn_place, entries-least, scn_place-some, inventory_kind, data_kind, scn_kind, Refusal, NotDatabase, Image, page_at, image_size, Draft, drafted, needs, is_kind, inventory_of, scn_page_of, is_free_page, Cause, first_cause, when, not_kind, lowest_broken, not_of_form, no_scn, needs_taken, inventory_place_some, needs_image, kind_parts, taken_draft, one_cause, inventory_most, page_alone, none_broken, first_here, first_next, is_so}
 use Rattle.std.proofs.Math.Nat.{div-mul-le_self, le-div_iff_mul-le}
-use Rattle.nb_fields.specs.Page.{kind_of}
-use Rattle.nb_fields.specs.Places.{is_page_size, entries_in, bits_in, inventory_place, scn_place}
-use Rattle.nb_fields.proofs.PlaceLaws.{entries-least, scn_place-some}
-use Rattle.nb_fields.specs.Kinds.{inventory_kind, data_kind, scn_kind}
-use Rattle.nb_host.specs.declared.refusals.Refusal.{Refusal}
-use Rattle.nb_host.specs.declared.refusals.Refusal.TheVariants.{NotDatabase}
-use Rattle.nb_model.specs.Image.{Image, page_at, image_size}
-use Rattle.nb_model.specs.Forms.{Draft, drafted, needs, is_kind, inventory_of, scn_page_of, is_free_page}
-use Rattle.nb_model.specs.Causes.{Cause, first_cause, when, not_kind, lowest_broken, not_of_form, no_scn}
-use Rattle.nb_model.specs.Backups.{needs_taken}
-use Rattle.nb_model.proofs.SoundLaws.{inventory_place_some}
-use Rattle.nb_model.proofs.PutSound.{needs_image}
-use Rattle.nb_model.proofs.StepLaws.{kind_parts}
-use Rattle.nb_engine.specs.Room.{taken_draft}
-use Rattle.nb_alloc.proofs.CauseLaws.{one_cause}
-use Rattle.nb_alloc.proofs.SearchReads.{inventory_most}
-use Rattle.nb_alloc.proofs.BehindLaws.{page_alone}
-use Rattle.nb_alloc.proofs.PutLaws.{none_broken}
-use Rattle.nb_base.proofs.AttachLaws.{first_here, first_next}
-use Rattle.nb_model.proofs.TurnCases.{is_so}
 
 -- the inventory page of a page stands before its SCN page
 before_scn : (size p : ℕ) → IsTrue (is_page_size size) → inventory_place size (p / bits_in size) < scn_place size (p / entries_in size)

@@ -1,39 +1,7 @@
 -- Why a raw page isn't written, and the turn that writes it.
-use Rattle.std.proofs.Common.{◌≡◌, ◌≢◌, inl, inr, ℕ, ◌<◌, List, [], ◌∷◌, ◌++◌, length, refl, sym, ap, ◌∙◌, arith}
-use Rattle.std.specs.Prelude.{Bool, true, false, not, ◌==◌, nat_le, Some, None, Result, Ok, IfErr}
-use Rattle.std.proofs.lemmas.Bool.{eqb-true}
-use Rattle.std.proofs.lemmas.Bool.Decides.{leb_tells}
-use Rattle.nb_fields.specs.Header.{is_header}
-use Rattle.nb_fields.specs.Places.{entries_in}
-use Rattle.nb_fields.specs.Page.{kind_of}
-use Rattle.nb_fields.specs.Payloads.{text_payload}
-use Rattle.nb_fields.specs.Kinds.{inventory_kind, raw_kind, scn_kind}
-use Rattle.nb_host.specs.World.{World}
-use Rattle.nb_host.specs.declared.faults.Fault.{Fault}
-use Rattle.nb_host.specs.declared.refusals.Refusal.{Refusal}
-use Rattle.nb_host.specs.declared.refusals.Refusal.TheVariants.{SystemPage}
-use Rattle.nb_model.specs.declared.reply.Reply.TheVariants.{Refused, Done}
-use Rattle.nb_model.specs.Image.{Page, Image, first_page, page_at, image_size}
-use Rattle.nb_model.specs.Account.{Base}
-use Rattle.nb_model.specs.Forms.{Draft, drafted, put, inventory_of}
-use Rattle.nb_model.specs.Causes.{Cause, first_cause, when, past_end, read_only, not_kind, not_raw, too_long, not_of_form, no_room}
-use Rattle.nb_model.specs.Outcomes.{Seen, says, unless}
-use Rattle.nb_model.specs.Pages.{write_turn}
-use Rattle.nb_model.specs.Trail.{Trail}
-use Rattle.nb_model.proofs.HeaderLaws.{header-kind}
-use Rattle.nb_model.proofs.PutSound.{no_first, not_when}
-use Rattle.nb_base.specs.Takes.{IsNoRefusal}
-use Rattle.nb_state.specs.Open.{Held, IsOpen}
-use Rattle.nb_state.specs.Does.{Makes, Does}
-use Rattle.nb_alloc.specs.Put.{entry_cause, raise_strokes, raw_stroke}
-use Rattle.nb_alloc.specs.Tries.{Tries}
-use Rattle.nb_alloc.proofs.CauseLaws.{refused_by, judged_by, unless_these}
-use Rattle.nb_alloc.proofs.DoesLaws.{seeing, tries_does, if_ok}
+use Rattle.std.proofs.Common.{◌≡◌, ◌≢◌, inl, inr, ℕ, ◌<◌, List, [], ◌∷◌, ◌++◌, length, refl, sym, ap, ◌∙◌, arith, Bool, true, false, not, ◌==◌, nat_le, Some, None, Result, Ok, IfErr}
+use Rattle.nb_engine.proofs.Common.{eqb-true, leb_tells, is_header, entries_in, kind_of, text_payload, inventory_kind, raw_kind, scn_kind, World, Fault, Refusal, SystemPage, Refused, Done, Page, Image, first_page, page_at, image_size, Base, Draft, drafted, put, inventory_of, Cause, first_cause, when, past_end, read_only, not_kind, not_raw, too_long, not_of_form, no_room, Seen, says, unless, write_turn, Trail, header-kind, no_first, not_when, IsNoRefusal, Held, IsOpen, Makes, Does, entry_cause, raise_strokes, raw_stroke, Tries, refused_by, judged_by, unless_these, seeing, tries_does, if_ok, put_stroke-after, put_strokes, put_form, put_room, put_refused, done, first_here, first_next, no_cause}
 use Rattle.nb_alloc.proofs.PageLaws.{then_page}
-use Rattle.nb_alloc.proofs.PutLaws.{put_stroke-after, put_strokes, put_form, put_room, put_refused}
-use Rattle.nb_engine.specs.Replies.{done}
-use Rattle.nb_base.proofs.AttachLaws.{first_here, first_next}
-use Rattle.nb_model.proofs.TurnCases.{no_cause}
 
 -- what a taken raw page is
 pub record IsRaw (image : Image) (p : ℕ) : Type 0 where

@@ -8,3 +8,4 @@ pub mod PlaceLaws
 pub mod FreshLaws
 pub mod PlainLaws
 pub mod Rows
+mod Common

@@ -1,9 +1,6 @@
 -- Numbers as bytes, the lowest first.
 use Rattle.std.proofs.Common.{◌≡◌, ℕ, zero, suc, ◌+◌, ◌-◌, ◌*◌, ◌/◌, ◌%◌, ◌^◌, ◌<◌, ◌≤◌, List, [], ◌∷◌, ◌++◌, length, get_or, take, drop, replicate, refl, ap, ◌∙◌, arith}
-use Rattle.std.proofs.Math.Nat.{div-div-eq-div-mul, pow-suc}
-use Rattle.std.proofs.lemmas.List.{drop_all, drop-replicate}
-use Rattle.std.specs.Int.{from_le_bytes, to_le_bytes, w64}
-use Rattle.nb_fields.specs.Bytes.{number_of, bytes_of}
+use Rattle.nb_fields.proofs.Common.{div-div-eq-div-mul, pow-suc, drop_all, drop-replicate, from_le_bytes, to_le_bytes, w64, number_of, bytes_of}
 
 -- no bytes spell 0
 pub number_of-none : number_of [] ≡ 0

@@ -1,11 +1,7 @@
 -- The places of the system pages, for the six page sizes.
-use Rattle.std.proofs.Common.{◌≡◌, ℕ, zero, suc, ◌+◌, ◌*◌, ◌/◌, ◌%◌, ◌<◌, ◌≤◌, true, sym, ap, ◌∙◌, arith}
-use Rattle.std.specs.Prelude.{IsTrue, ◌==◌, ◌||◌, ◌&&◌, nat_lt}
-use Rattle.std.proofs.Math.Nat.{mul-div_cancel, mul-mod_left, div-eq_of_lt, mul-add-mod_self_right, mod-eq_of_lt}
-use Rattle.std.proofs.lemmas.Bool.{eq-eqb, ne_eqb, lt-ltb, cond-true, cond-false, or_from, or_right, or_left, and_from}
+use Rattle.std.proofs.Common.{◌≡◌, ℕ, zero, suc, ◌+◌, ◌*◌, ◌/◌, ◌%◌, ◌<◌, ◌≤◌, true, sym, ap, ◌∙◌, arith, IsTrue, ◌==◌, ◌||◌, ◌&&◌, nat_lt}
+use Rattle.nb_fields.proofs.Common.{mul-div_cancel, mul-mod_left, div-eq_of_lt, mul-add-mod_self_right, mod-eq_of_lt, eq-eqb, ne_eqb, lt-ltb, cond-true, cond-false, or_from, or_right, or_left, and_from, is_page_size, entries_in, bits_in, inventory_place, scn_place, is_inventory_place, is_scn_place, fresh_kind}
 use Rattle.nb_fields.specs.declared.kinds.PageKind.TheVariants.{Inventory, ScnInventory}
-use Rattle.nb_fields.specs.Places.{is_page_size, entries_in, bits_in, inventory_place, scn_place, is_inventory_place, is_scn_place}
-use Rattle.nb_fields.specs.Fresh.{fresh_kind}
 use Rattle.nb_fields.proofs.SizeLaws.{size_facts}
 
 -- how many entries and bits there are at least

@@ -1,8 +1,6 @@
 -- Bytes put at a place, one after the other, and after the end.
-use Rattle.std.proofs.Common.{◌≡◌, ℕ, ◌+◌, ◌-◌, ◌≤◌, max, List, ◌++◌, length, take, drop, sym, ◌∙◌, ap, arith, length-append, length-take, length-drop, append_assoc}
-use Rattle.std.specs.Prelude.{replicate}
-use Rattle.std.proofs.lemmas.List.{take_at, drop_at, drop-drop, drop_all, take_all, length-replicate, append-nil}
-use Rattle.nb_host.specs.Files.{padded, put_at}
+use Rattle.std.proofs.Common.{◌≡◌, ℕ, ◌+◌, ◌-◌, ◌≤◌, max, List, ◌++◌, length, take, drop, sym, ◌∙◌, ap, arith, length-append, length-take, length-drop, append_assoc, replicate}
+use Rattle.nb_file.proofs.Common.{take_at, drop_at, drop-drop, drop_all, take_all, length-replicate, append-nil, padded, put_at}
 
 pub padded-short : (bytes : List ℕ) (len : ℕ) → len ≤ length bytes → padded bytes len ≡ bytes
 unfolding padded

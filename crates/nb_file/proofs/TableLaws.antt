@@ -1,12 +1,11 @@
 -- Where a list that grew by one has its new element.
 use Rattle.std.proofs.Common.{◌≡◌, ℕ, ◌+◌, List, [], ◌∷◌, ◌++◌, length, IsTrue, IsSomeAnd, Some, slice_get, subst, sym, ap, ◌∙◌, arith, length-append, ◌<◌, get_or, refl, Option, None, inl, inr, Result, Ok, Err, OnOk}
+use Rattle.nb_file.proofs.Common.{cases_lt, IsFreeFor}
 use Rattle.std.proofs.Math.Seq.{get_or-append_seam}
 use Rattle.std.proofs.lemmas.Option.{slice_get_read, slice_get_past}
-use Rattle.std.proofs.lemmas.Bool.{cases_lt}
 use Rattle.std.specs.Cmp.Lexicographic.{nat_list_eq_equiv}
 use Rattle.nb_host.specs.Names.{same_name}
 use Rattle.nb_file.specs.Named.{IsNamedAt}
-use Rattle.nb_file.specs.Gathered.{IsFreeFor}
 
 -- the last element of a list that grew by one
 pub slice_get-append_last : {X : Type 0} (xs : List X) (x : X) → slice_get (xs ++ x ∷ []) (length xs) ≡ Some x

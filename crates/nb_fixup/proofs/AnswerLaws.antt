@@ -1,14 +1,6 @@
 -- What is answered, passed on.
-use Rattle.std.proofs.Common.{◌≡◌, ℕ, ◌≤◌, List, length, take, refl, sym, ap, subst, ◌∙◌, arith}
-use Rattle.std.specs.Prelude.{Option, Some, None, option_map, is_some, Result, Ok, Err, IfOk, IsErr, IsErrAnd}
-use Rattle.std.proofs.lemmas.List.{take-take, length-take}
-use Rattle.nb_fields.specs.Header.{size_of}
-use Rattle.nb_host.specs.Files.{File}
-use Rattle.nb_host.specs.declared.faults.Fault.{Fault}
-use Rattle.nb_host.specs.declared.faults.Fault.TheVariants.{Refused, Device, Memory}
-use Rattle.nb_host.specs.declared.refusals.Refusal.{Refusal}
-use Rattle.nb_model.specs.Causes.{Cause}
-use Rattle.nb_fixup.specs.Tests.{IsPageOf, Tested}
+use Rattle.std.proofs.Common.{◌≡◌, ℕ, ◌≤◌, List, length, take, refl, sym, ap, subst, ◌∙◌, arith, Option, Some, None, option_map, is_some, Result, Ok, Err, IfOk, IsErr, IsErrAnd}
+use Rattle.nb_fixup.proofs.Common.{take-take, length-take, size_of, File, Fault, Refused, Device, Memory, Refusal, Cause, IsPageOf, Tested}
 
 -- a fault that is passed on
 pub passed : (T : Type 0) (P : Result T Fault → Type 0) (result : Result T Fault) (fault : Fault) → IsErr result × IsErrAnd result (λ f. f ≡ fault) → P (Err fault) → P result

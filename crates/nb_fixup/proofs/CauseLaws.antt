@@ -1,26 +1,12 @@
 -- Why a copy isn't fixed, test by test.
-use Rattle.std.proofs.Common.{◌≡◌, ◌≢◌, inl, inr, ℕ, ◌*◌, ◌/◌, ◌%◌, ◌<◌, ◌≤◌, List, [], ◌∷◌, length, take, refl, sym, ap, ◌∙◌, arith, div-add-mod'}
-use Rattle.std.specs.Prelude.{Bool, true, false, not, ◌||◌, ◌==◌, nat_lt, IsTrue, Some, None, is_some, min}
-use Rattle.std.proofs.Math.Nat.{div-eq_of_lt}
+use Rattle.std.proofs.Common.{◌≡◌, ◌≢◌, inl, inr, ℕ, ◌*◌, ◌/◌, ◌%◌, ◌<◌, ◌≤◌, List, [], ◌∷◌, length, take, refl, sym, ap, ◌∙◌, arith, div-add-mod', Bool, true, false, not, ◌||◌, ◌==◌, nat_lt, IsTrue, Some, None, is_some, min}
+use Rattle.nb_fixup.proofs.Common.{div-eq_of_lt, take-take, length-take, is_header, state_of, size_of, is_page_size, most_pages, size_facts, File, Refusal, NoFile, NotDatabase, WrongState, DeltaPresent, Cause, first_cause, when, not_database, not_fixable, delta_name, no_cause, same-header, same-number, copy_cause, file_cause}
 use Rattle.std.proofs.lemmas.Bool.Decides.{eqb_tells}
-use Rattle.std.proofs.lemmas.List.{take-take, length-take}
-use Rattle.nb_fields.specs.Header.{is_header, state_of, size_of}
-use Rattle.nb_fields.specs.Places.{is_page_size, most_pages}
 use Rattle.nb_fields.proofs.HeaderLaws.{is_header-short}
-use Rattle.nb_fields.proofs.SizeLaws.{size_facts}
 use Rattle.nb_fields.specs.States.{stalled_state}
-use Rattle.nb_host.specs.Files.{File}
-use Rattle.nb_host.specs.declared.refusals.Refusal.{Refusal}
-use Rattle.nb_host.specs.declared.refusals.Refusal.TheVariants.{NoFile, NotDatabase, WrongState, DeltaPresent}
 use Rattle.nb_page.specs.Header.{header_in}
 use Rattle.nb_page.specs.declared.header.Header.{Header}
-use Rattle.nb_model.specs.Causes.{Cause, first_cause, when, not_database}
-use Rattle.nb_model.specs.Jobs.{not_fixable}
-use Rattle.nb_model.specs.Owner.{delta_name}
-use Rattle.nb_model.proofs.FormLaws.{no_cause}
-use Rattle.nb_model.proofs.HeaderLaws.{same-header, same-number}
 use Rattle.nb_model.proofs.ReadLaws.{lt_yes, eq_no}
-use Rattle.nb_fixup.specs.Tests.{copy_cause, file_cause}
 use Rattle.nb_host.proofs.PlainLaws.{some_none}
 
 -- a file without a header

@@ -1,37 +1,14 @@
 -- A fold is a level file, and a chain that ends with it is accepted exactly where one is that ends with the files it was made of.
-use Rattle.std.proofs.Common.{◌≡◌, ◌≢◌, inl, inr, ℕ, ◌+◌, ◌^◌, ◌<◌, ◌≤◌, List, [], ◌∷◌, ◌++◌, length, refl, sym, ap, subst, ◌∙◌, arith}
-use Rattle.std.specs.Prelude.{true, ◌&&◌, ◌==◌, Option, Some, None, Result, Ok, Err}
-use Rattle.std.specs.List.{AllByRecursion}
-use Rattle.std.proofs.lemmas.Bool.{and_parts, eqb-true}
-use Rattle.std.proofs.lemmas.Bool.Decides.{eqb_tells}
-use Rattle.nb_fields.specs.Header.{is_header, state_of, size_of, scn_of, guid_of}
-use Rattle.nb_fields.specs.Places.{most_pages}
-use Rattle.nb_fields.specs.States.{stalled_state}
-use Rattle.nb_host.specs.Files.{File, Files}
+use Rattle.std.proofs.Common.{◌≡◌, ◌≢◌, inl, inr, ℕ, ◌+◌, ◌^◌, ◌<◌, ◌≤◌, List, [], ◌∷◌, ◌++◌, length, refl, sym, ap, subst, ◌∙◌, arith, true, ◌&&◌, ◌==◌, Option, Some, None, Result, Ok, Err}
+use Rattle.nb_fold.proofs.Common.{AllByRecursion, and_parts, eqb-true, eqb_tells, is_header, state_of, size_of, scn_of, guid_of, most_pages, stalled_state, File, Files, Refusal, NoFile, ChainLevel, Cause, Image, Page, Numbered, AreOfSize, AreRising, Contents, Head, begins_level, is_first_page, level_bytes, read_level, Link, applied, first_link, level_link, linked, next_link, next_links, not_behind, verdict, header-room, eq_yes, err_ok, ok_same, GoesBehind, goes_behind, bytes_for, folded, folded_head, folded_pages, last_head, last_page, or_before, page_of, pages_of_each, AllOfSize, GiveTheSame, Gives, IsFoldOf, links_of, chained, files_after, HasPages, level_pages, some_none, some_same}
 use Rattle.nb_host.specs.Names.{same_name}
-use Rattle.nb_host.specs.declared.refusals.Refusal.{Refusal}
-use Rattle.nb_host.specs.declared.refusals.Refusal.TheVariants.{NoFile, ChainLevel}
-use Rattle.nb_model.specs.Causes.{Cause}
-use Rattle.nb_model.specs.Image.{Image, Page, Numbered}
-use Rattle.nb_model.specs.Levels.{AreOfSize, AreRising, Contents, Head, begins_level, is_first_page, level_bytes, read_level}
-use Rattle.nb_model.specs.Restoring.{Link, applied, first_link, level_link, linked, next_link, next_links, not_behind, verdict}
 use Rattle.nb_model.proofs.ChainLaws.{when_not, accepts, four_none, none_left}
-use Rattle.nb_model.proofs.HeaderLaws.{header-room}
 use Rattle.nb_model.proofs.LevelLaws.{level_read}
-use Rattle.nb_model.proofs.ReadLaws.{eq_yes}
-use Rattle.nb_restore.proofs.AnswerLaws.{err_ok, ok_same}
 use Rattle.nb_restore.proofs.KeptChains.{verdict_first, level_begins, level_refused}
-use Rattle.nb_restore.proofs.ChainLaws.{GoesBehind, goes_behind}
-use Rattle.nb_fold.specs.Folding.{bytes_for, folded, folded_head, folded_pages, last_head, last_page, or_before, page_of, pages_of_each}
-use Rattle.nb_fold.specs.Merging.{AllOfSize}
-use Rattle.nb_fold.specs.Same.{GiveTheSame, Gives, IsFoldOf, links_of}
-use Rattle.nb_fold.specs.Verdict.{chained, files_after}
 use Rattle.nb_fold.proofs.FoldedLaws.{folded_rises, folded_sizes, none_below}
 use Rattle.nb_model.proofs.LevelWalk.{FirstIsZero}
-use Rattle.nb_level.proofs.PagesLaws.{HasPages, level_pages}
 use Rattle.nb_fold.proofs.SameLaws.{AreNextFiles, AreOf, files_rise, folded_page, goes_after, next_files, no_files, same_image, sizes_alike}
 use Rattle.nb_host.proofs.NameLaws.{same_self}
-use Rattle.nb_host.proofs.PlainLaws.{some_none, some_same}
 
 -- ---- what each file holds
 

@@ -1,24 +1,9 @@
 -- A file that is added after others that go on from one another.
-use Rattle.std.proofs.Common.{◌≡◌, ℕ, suc, ◌+◌, ◌-◌, ◌<◌, ◌≤◌, List, [], ◌∷◌, ◌++◌, length, get_or, drop, refl, sym, ap, subst, ◌∙◌, arith, append_assoc}
-use Rattle.std.specs.Prelude.{Some, None, Option, Result, Ok, Err, false, ◌==◌}
-use Rattle.std.proofs.lemmas.Bool.{true≢false}
-use Rattle.std.proofs.lemmas.List.{append-nil, drop_all}
-use Rattle.nb_host.specs.Files.{File, Files}
-use Rattle.nb_host.specs.declared.faults.Fault.{Fault}
-use Rattle.nb_host.specs.declared.faults.Fault.TheVariants.{Refused, Device, Memory}
-use Rattle.nb_host.specs.declared.refusals.Refusal.{Refusal}
-use Rattle.nb_model.specs.Causes.{Cause}
-use Rattle.nb_model.specs.Levels.{Contents, read_level}
-use Rattle.nb_model.specs.Restoring.{level_link, not_behind}
-use Rattle.nb_level.specs.Heads.{head_of}
-use Rattle.nb_level.specs.declared.head.LevelHead.{LevelHead}
-use Rattle.nb_chain.specs.First.{Tested}
+use Rattle.std.proofs.Common.{◌≡◌, ℕ, suc, ◌+◌, ◌-◌, ◌<◌, ◌≤◌, List, [], ◌∷◌, ◌++◌, length, get_or, drop, refl, sym, ap, subst, ◌∙◌, arith, append_assoc, Some, None, Option, Result, Ok, Err, false, ◌==◌}
+use Rattle.nb_fold.proofs.Common.{true≢false, append-nil, drop_all, File, Files, Fault, Refused, Device, Memory, Refusal, Cause, Contents, read_level, level_link, not_behind, head_of, LevelHead, Tested, AddSays, AreAlike, AreChained, IsAdded, IsLast, open_reads, first_size, Held, IsGiven, IsOpened, AreOpened, AreOfPages, chained, file_after, files_after, not_after, with_files}
 use Rattle.nb_chain.specs.Level.{WholeSays, LevelRefused, IsWhole}
 use Rattle.nb_chain.specs.Next.{tip_link}
 use Rattle.nb_chain.specs.declared.tip.Tip.{Tip}
-use Rattle.nb_fold.specs.Checking.{AddSays, AreAlike, AreChained, IsAdded, IsLast, open_reads, first_size}
-use Rattle.nb_fold.specs.Sources.{Held, IsGiven, IsOpened, AreOpened, AreOfPages}
-use Rattle.nb_fold.specs.Verdict.{chained, file_after, files_after, not_after, with_files}
 
 -- the last of some files
 pub last_there : (ss : List Held) (s : Held) (last : Option Contents) → 0 < length ss → s ≡ get_or ss (length ss - 1) s → IsLast ss last → (c : Contents) × (last ≡ Some c) × (head_of s.reader.head ≡ c.head)

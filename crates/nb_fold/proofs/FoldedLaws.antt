@@ -1,16 +1,6 @@
 -- The pages of files side by side: how they go on by the least number, that they rise, and their sizes.
-use Rattle.std.proofs.Common.{◌≡◌, ◌≢◌, inl, inr, ℕ, zero, suc, ◌+◌, ◌-◌, ◌<◌, ◌≤◌, List, [], ◌∷◌, ◌++◌, length, refl, sym, ap, subst, ◌∙◌, arith}
-use Rattle.std.specs.Prelude.{true, false, ◌==◌, Option, Some, None}
-use Rattle.std.specs.List.{AllByRecursion}
-use Rattle.std.proofs.lemmas.Bool.Decides.{eqb_tells}
-use Rattle.nb_fields.specs.Places.{most_pages}
-use Rattle.nb_model.specs.Image.{Page, Numbered}
-use Rattle.nb_model.specs.Levels.{AreRising, AreOfSize}
-use Rattle.nb_model.proofs.ReadLaws.{eq_no}
-use Rattle.nb_fold.specs.Merging.{AllRise, AllOfSize, pages_left}
-use Rattle.nb_fold.specs.Sources.{Held, Waits, AllWait, WaitsBy, IsLeast, AreAtEnd, waiting_page, waits_at, count_at, counts_at, rest_after, rests}
-use Rattle.nb_host.specs.Files.{Files, bytes_of}
-use Rattle.nb_fold.specs.Folding.{page_of, or_before, last_page, with_number, folded_from, folded_pages}
+use Rattle.std.proofs.Common.{◌≡◌, ◌≢◌, inl, inr, ℕ, zero, suc, ◌+◌, ◌-◌, ◌<◌, ◌≤◌, List, [], ◌∷◌, ◌++◌, length, refl, sym, ap, subst, ◌∙◌, arith, true, false, ◌==◌, Option, Some, None}
+use Rattle.nb_fold.proofs.Common.{AllByRecursion, eqb_tells, most_pages, Page, Numbered, AreRising, AreOfSize, eq_no, AllRise, AllOfSize, pages_left, Held, Waits, AllWait, WaitsBy, IsLeast, AreAtEnd, waiting_page, waits_at, count_at, counts_at, rest_after, rests, Files, bytes_of, page_of, or_before, last_page, with_number, folded_from, folded_pages}
 use Rattle.nb_model.proofs.SpelledLaws.{rise_lower}
 
 -- no page below the first

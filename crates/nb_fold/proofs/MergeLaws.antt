@@ -1,31 +1,13 @@
 -- A page more of the files is folded.
-use Rattle.std.proofs.Common.{◌≡◌, ◌≢◌, ◌⊎◌, inl, inr, ⊎_elim, ℕ, ◌+◌, ◌<◌, ◌≤◌, List, [], ◌∷◌, ◌++◌, refl, sym, ap, subst, ◌∙◌, arith, append_assoc}
-use Rattle.std.specs.Prelude.{Bool, IsTrue, Some, None, Option, Result, Ok, Err, true, false}
-use Rattle.std.proofs.lemmas.List.{append-nil}
-use Rattle.nb_fields.specs.Places.{most_pages}
-use Rattle.nb_host.specs.Files.{File, Files, bytes_of}
-use Rattle.nb_host.specs.World.{World}
-use Rattle.nb_host.specs.Crash.{Leaves, LeavesAll}
+use Rattle.std.proofs.Common.{◌≡◌, ◌≢◌, ◌⊎◌, inl, inr, ⊎_elim, ℕ, ◌+◌, ◌<◌, ◌≤◌, List, [], ◌∷◌, ◌++◌, refl, sym, ap, subst, ◌∙◌, arith, append_assoc, Bool, IsTrue, Some, None, Option, Result, Ok, Err, true, false}
+use Rattle.nb_fold.proofs.Common.{append-nil, most_pages, File, Files, bytes_of, World, Leaves, LeavesAll, Only, NoNames, Remade, rested, kept_on, Quiet, LevelHead, head_of, Page, Numbered, level_bytes, LevelWriting, HasTaken, MayHave, IsUnfinished, IsUnfinishedOr, named, remade_twice, or_before, folded_pages, AllRise, AreApart, HasFolded, IsFolding, IsReady, Makes, MakesOr, Held, AllWait, AreAtEnd, IsLeast, WaitsBy, count_at, counts_at, rests, waiting_page, waits_at}
 use Rattle.nb_host.specs.Moments.{IsTimely, Passes}
 use Rattle.nb_host.specs.Calls.{Remakes}
-use Rattle.nb_change.specs.Changes.{Only, NoNames, Remade}
-use Rattle.nb_change.proofs.ChangesLaws.{rested, kept_on}
 use Rattle.nb_change.proofs.MovedLaws.{remade_begun, remade_weaker}
 use Rattle.nb_change.proofs.CallLaws.{remade_alone}
-use Rattle.nb_page.specs.Quiet.{Quiet}
-use Rattle.nb_level.specs.declared.head.LevelHead.{LevelHead}
-use Rattle.nb_level.specs.Heads.{head_of}
-use Rattle.nb_model.specs.Image.{Page, Numbered}
-use Rattle.nb_model.specs.Levels.{level_bytes}
-use Rattle.nb_gather.specs.Gathering.{LevelWriting, HasTaken, MayHave}
-use Rattle.nb_gather.specs.Making.{IsUnfinished, IsUnfinishedOr}
 use Rattle.nb_gather.proofs.CloseLaws.{still_unfinished}
 use Rattle.nb_gather.proofs.FitLaws.{may_front}
-use Rattle.nb_gather.proofs.QuietLaws.{named, remade_twice}
 use Rattle.nb_gather.proofs.BlankLaws.{blank_empty, blank_free}
-use Rattle.nb_fold.specs.Folding.{or_before, folded_pages}
-use Rattle.nb_fold.specs.Merging.{AllRise, AreApart, HasFolded, IsFolding, IsReady, Makes, MakesOr}
-use Rattle.nb_fold.specs.Sources.{Held, AllWait, AreAtEnd, IsLeast, WaitsBy, count_at, counts_at, rests, waiting_page, waits_at}
 use Rattle.nb_fold.proofs.FoldedLaws.{all_end, all_from, folded_ends, folded_least, left_after, page_is, rests_next}
 
 -- Nothing was made yet, and what reads is unfinished.

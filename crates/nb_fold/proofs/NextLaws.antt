@@ -1,10 +1,6 @@
 -- Which page comes next.
-use Rattle.std.proofs.Common.{◌≡◌, ℕ, ◌<◌, ◌≤◌, List, [], ◌∷◌, refl, sym, ap, ◌∙◌, arith}
-use Rattle.std.specs.Prelude.{Bool, true, false, Option, Some, None}
-use Rattle.nb_model.specs.Image.{Page}
-use Rattle.nb_model.proofs.ReadLaws.{eq_no, eq_yes}
-use Rattle.nb_fold.specs.Folding.{or_before}
-use Rattle.nb_fold.specs.Sources.{Held, AreAtEnd, IsLeast, waiting_page, waits_at}
+use Rattle.std.proofs.Common.{◌≡◌, ℕ, ◌<◌, ◌≤◌, List, [], ◌∷◌, refl, sym, ap, ◌∙◌, arith, Bool, true, false, Option, Some, None}
+use Rattle.nb_fold.proofs.Common.{Page, eq_no, eq_yes, or_before, Held, AreAtEnd, IsLeast, waiting_page, waits_at}
 
 -- a page, where it is the one
 abbrev page_if : Bool → Page → Option Page

@@ -1,17 +1,9 @@
 -- A level file is read to its end, and then again.
-use Rattle.std.proofs.Common.{◌≡◌, ℕ, List, sym, ap, subst, ◌∙◌}
-use Rattle.std.specs.Prelude.{Bool, IsTrue, Some, None, Result, Ok, Err, IsErr, IsErrAnd}
-use Rattle.nb_host.specs.Files.{File, Files, bytes_of}
-use Rattle.nb_host.specs.declared.faults.Fault.{Fault}
-use Rattle.nb_host.specs.declared.faults.Fault.TheVariants.{Refused, Device, Memory}
-use Rattle.nb_host.specs.declared.refusals.Refusal.TheVariants.{BadLevel, NoFile}
-use Rattle.nb_model.specs.Levels.{Contents, read_level, with_head}
+use Rattle.std.proofs.Common.{◌≡◌, ℕ, List, sym, ap, subst, ◌∙◌, Bool, IsTrue, Some, None, Result, Ok, Err, IsErr, IsErrAnd}
+use Rattle.nb_fold.proofs.Common.{File, Files, bytes_of, Fault, Refused, Device, Memory, BadLevel, NoFile, Contents, read_level, with_head, head_of, Held, IsGiven, IsTaken, IsOpened, Waits, some_same}
 use Rattle.nb_level.specs.Answers.{StartSays}
-use Rattle.nb_level.specs.Heads.{head_of}
 use Rattle.nb_level.specs.Reading.{Reading, still_to_come}
 use Rattle.nb_level.proofs.ToldLaws.{with_head-is}
-use Rattle.nb_fold.specs.Sources.{Held, IsGiven, IsTaken, IsOpened, Waits}
-use Rattle.nb_host.proofs.PlainLaws.{some_same}
 
 none_some : (a : List ℕ) (f : File) → f ≡ None → f ≡ Some a → ⊥
 none_some a f e g = cc

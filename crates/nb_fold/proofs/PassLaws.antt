@@ -1,13 +1,6 @@
 -- The files are read on where the page of a number waits, one after another.
-use Rattle.std.proofs.Common.{◌≡◌, ℕ, zero, suc, ◌+◌, ◌<◌, ◌≤◌, List, [], ◌∷◌, ◌++◌, length, get_or, set, take, drop, sym, ap, subst, ◌∙◌, arith, drop-cons}
-use Rattle.std.proofs.lemmas.List.{take_more, drop-set-lt, drop-drop}
-use Rattle.std.specs.Prelude.{Err}
-use Rattle.nb_host.specs.Files.{Files}
-use Rattle.nb_host.specs.declared.faults.Fault.{Fault}
-use Rattle.nb_host.specs.declared.faults.Fault.TheVariants.{Refused, Device, Memory}
-use Rattle.nb_model.specs.Image.{Numbered}
-use Rattle.nb_fold.specs.Merging.{AreApart}
-use Rattle.nb_fold.specs.Sources.{Held, AllWait, AreOfPages, IsTaken, Waits, count_at, counts_at, due, due_by, rest_after, rests}
+use Rattle.std.proofs.Common.{◌≡◌, ℕ, zero, suc, ◌+◌, ◌<◌, ◌≤◌, List, [], ◌∷◌, ◌++◌, length, get_or, set, take, drop, sym, ap, subst, ◌∙◌, arith, drop-cons, Err}
+use Rattle.nb_fold.proofs.Common.{take_more, drop-set-lt, drop-drop, Files, Fault, Refused, Device, Memory, Numbered, AreApart, Held, AllWait, AreOfPages, IsTaken, Waits, count_at, counts_at, due, due_by, rest_after, rests}
 
 -- the rests of so many files, and the others as they were
 abbrev pub rests_upto : (i n : ℕ) → List (List Numbered) → List (List Numbered)

@@ -1,30 +1,8 @@
 -- Files that are written over an image one after the other, and all at once by their fold.
-use Rattle.std.proofs.Common.{◌≡◌, ◌≢◌, inl, inr, ℕ, zero, suc, ◌+◌, ◌<◌, ◌≤◌, List, [], ◌∷◌, ◌++◌, refl, sym, ap, subst, ◌∙◌, arith}
-use Rattle.std.specs.Prelude.{true, false, Option, Some, None, Result, Ok, Err}
-use Rattle.std.specs.List.{AllByRecursion}
-use Rattle.std.proofs.lemmas.Bool.Decides.{eqb_tells, leb_tells}
-use Rattle.nb_fields.specs.Places.{most_pages}
-use Rattle.nb_host.specs.Files.{File, Files}
-use Rattle.nb_host.specs.declared.refusals.Refusal.{Refusal}
-use Rattle.nb_host.specs.declared.refusals.Refusal.TheVariants.{NoFile, BadLevel}
-use Rattle.nb_model.specs.Causes.{Cause}
-use Rattle.nb_model.specs.Image.{Page, Image, Numbered, trimmed, written_at, overwritten}
-use Rattle.nb_model.specs.Levels.{Contents, Head, AreRising, read_level}
-use Rattle.nb_model.specs.Owner.{main_page}
-use Rattle.nb_model.specs.Restoring.{Link, all_over, applied, level_link}
-use Rattle.nb_model.proofs.OwnerLaws.{other_page}
-use Rattle.nb_model.proofs.ReadLaws.{eq_no}
-use Rattle.nb_model.proofs.TrimLaws.{trimmed_alike}
+use Rattle.std.proofs.Common.{◌≡◌, ◌≢◌, inl, inr, ℕ, zero, suc, ◌+◌, ◌<◌, ◌≤◌, List, [], ◌∷◌, ◌++◌, refl, sym, ap, subst, ◌∙◌, arith, true, false, Option, Some, None, Result, Ok, Err}
+use Rattle.nb_fold.proofs.Common.{AllByRecursion, eqb_tells, leb_tells, most_pages, File, Files, Refusal, NoFile, BadLevel, Cause, Page, Image, Numbered, trimmed, written_at, overwritten, Contents, Head, AreRising, read_level, main_page, Link, all_over, applied, level_link, other_page, eq_no, trimmed_alike, ok_same, err_ok, goes_behind, folded, folded_from, folded_pages, last_page, or_before, page_of, pages_of_each, with_number, AllRise, links_of, chained, file_after, files_after, not_after, with_files, level_pages, all_over-append}
 use Rattle.nb_inplace.proofs.PagesLaws.{written_page}
-use Rattle.nb_restore.proofs.AnswerLaws.{ok_same, err_ok}
-use Rattle.nb_restore.proofs.ChainLaws.{goes_behind}
-use Rattle.nb_fold.specs.Folding.{folded, folded_from, folded_pages, last_page, or_before, page_of, pages_of_each, with_number}
-use Rattle.nb_fold.specs.Merging.{AllRise}
-use Rattle.nb_fold.specs.Same.{links_of}
-use Rattle.nb_fold.specs.Verdict.{chained, file_after, files_after, not_after, with_files}
 use Rattle.nb_fold.proofs.FoldedLaws.{folded_rises, none_above, none_below}
-use Rattle.nb_level.proofs.PagesLaws.{level_pages}
-use Rattle.nb_restore.proofs.CopiedLaws.{all_over-append}
 
 -- the page that is seen where one is written, or none
 abbrev pub seen : Option Page → (before : Page) → Page

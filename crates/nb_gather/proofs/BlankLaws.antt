@@ -1,13 +1,8 @@
 -- While page 0 isn't written, the file begins with zeros, so its name is free.
-use Rattle.std.proofs.Common.{◌≡◌, inl, inr, ℕ, zero, suc, ◌+◌, ◌-◌, ◌*◌, ◌≤◌, List, [], ◌∷◌, ◌++◌, length, take, drop, replicate, refl, sym, ap, subst, ◌∙◌, arith, length-append}
-use Rattle.std.specs.Prelude.{true, None, Some, ◌==◌}
-use Rattle.std.proofs.lemmas.Bool.{or_left, and_from, and_parts}
-use Rattle.std.proofs.lemmas.List.{take-append-le, take-take, length-take-le, length-replicate}
-use Rattle.nb_fields.specs.Bytes.{is_zeros}
+use Rattle.std.proofs.Common.{◌≡◌, inl, inr, ℕ, zero, suc, ◌+◌, ◌-◌, ◌*◌, ◌≤◌, List, [], ◌∷◌, ◌++◌, length, take, drop, replicate, refl, sym, ap, subst, ◌∙◌, arith, length-append, true, None, Some, ◌==◌}
+use Rattle.nb_gather.proofs.Common.{or_left, and_from, and_parts, take-append-le, take-take, length-take-le, length-replicate, is_zeros, File, padded, put_at, with_page, PageLeft, IsBlank}
 use Rattle.nb_fields.specs.Free.{is_free_file, is_unfinished}
-use Rattle.nb_host.specs.Files.{File, bytes_of, padded, put_at, with_page}
-use Rattle.nb_host.specs.Crash.{PageLeft}
-use Rattle.nb_gather.specs.Making.{IsBlank}
+use Rattle.nb_host.specs.Files.{bytes_of}
 
 -- zeros
 pub zeros-take : (k n : ℕ) → is_zeros (take k (replicate n 0)) ≡ true

@@ -1,17 +1,8 @@
 -- The runs of pages that a level file may have are such as a level file may have.
-use Rattle.std.proofs.Common.{◌≡◌, ◌⊎◌, inl, inr, ℕ, ◌+◌, ◌<◌, ◌≤◌, List, [], ◌∷◌, ◌++◌, length, refl, sym, ap, subst, arith, length-append}
-use Rattle.std.specs.Prelude.{true, ◌&&◌, ◌==◌, nat_lt}
-use Rattle.std.proofs.lemmas.Bool.{and_parts, eqb-true}
-use Rattle.nb_fields.specs.Places.{most_pages}
-use Rattle.nb_level.specs.declared.head.LevelHead.{LevelHead}
-use Rattle.nb_model.specs.Image.{Page, Numbered}
-use Rattle.nb_model.specs.Levels.{AreRising, AreOfSize, Stretch, runs_behind, runs_of}
-use Rattle.nb_model.proofs.GatherLaws.{total, gathered_total}
-use Rattle.nb_model.proofs.ImageLaws.{all-append}
-use Rattle.nb_gather.specs.Gathering.{MayHave, complete, incomplete}
+use Rattle.std.proofs.Common.{◌≡◌, ◌⊎◌, inl, inr, ℕ, ◌+◌, ◌<◌, ◌≤◌, List, [], ◌∷◌, ◌++◌, length, refl, sym, ap, subst, arith, length-append, true, ◌&&◌, ◌==◌, nat_lt}
+use Rattle.nb_gather.proofs.Common.{and_parts, eqb-true, most_pages, LevelHead, Page, Numbered, AreRising, AreOfSize, Stretch, runs_behind, runs_of, total, gathered_total, all-append, MayHave, complete, incomplete, lt_holds, true_or_false}
 use Rattle.nb_gather.proofs.RunLaws.{joins, parts}
 use Rattle.nb_gather.proofs.UnfinishedLaws.{IsFit, AreFit}
-use Rattle.nb_host.proofs.PlainLaws.{lt_holds, true_or_false}
 use Rattle.nb_model.proofs.LevelLaws.{rising_few}
 
 fit_longer : (size first : ℕ) (ps : List Page) (p : Page) → IsFit size (record { first = first; pages = ps }) → length ps < 16 → first + length ps < most_pages → length p ≡ size → IsFit size (record { first = first; pages = ps ++ p ∷ [] })

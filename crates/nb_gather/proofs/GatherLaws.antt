@@ -1,27 +1,12 @@
 -- A level file takes a page.
-use Rattle.std.proofs.Common.{◌≡◌, ◌≢◌, ◌⊎◌, inl, inr, ℕ, ◌+◌, ◌<◌, List, [], ◌∷◌, ◌++◌, length, refl, sym, ap, subst, ◌∙◌, arith}
-use Rattle.std.specs.Prelude.{Bool, true, false, ◌&&◌, ◌||◌, ◌==◌, nat_lt, Result, Ok}
-use Rattle.std.proofs.lemmas.Bool.{and_parts, eqb-true}
-use Rattle.std.proofs.lemmas.Bool.Decides.{eqb_tells}
-use Rattle.nb_fields.specs.Bytes.{bytes_of}
-use Rattle.nb_host.specs.World.{World}
-use Rattle.nb_host.specs.Moments.{IsTimely}
-use Rattle.nb_change.specs.Changes.{Changes, Only, Remade}
-use Rattle.nb_level.specs.declared.head.LevelHead.{LevelHead}
-use Rattle.nb_level.specs.Adding.{AddsTwo}
-use Rattle.nb_model.specs.Image.{Numbered}
-use Rattle.nb_model.specs.Levels.{Stretch, runs_of}
-use Rattle.nb_model.proofs.GatherLaws.{total}
-use Rattle.nb_model.proofs.ReadLaws.{eq_yes}
-use Rattle.nb_gather.specs.Gathering.{LevelWriting, Waiting, Holds, HoldsAll, Reads, HasTaken, MayHave, complete, incomplete, level_front}
-use Rattle.nb_gather.specs.Making.{IsUnfinished}
+use Rattle.std.proofs.Common.{◌≡◌, ◌≢◌, ◌⊎◌, inl, inr, ℕ, ◌+◌, ◌<◌, List, [], ◌∷◌, ◌++◌, length, refl, sym, ap, subst, ◌∙◌, arith, Bool, true, false, ◌&&◌, ◌||◌, ◌==◌, nat_lt, Result, Ok}
+use Rattle.nb_gather.proofs.Common.{and_parts, eqb-true, eqb_tells, bytes_of, World, IsTimely, Changes, Only, Remade, LevelHead, AddsTwo, Numbered, Stretch, runs_of, total, eq_yes, LevelWriting, Waiting, Holds, HoldsAll, Reads, HasTaken, MayHave, complete, incomplete, level_front, IsUnfinished, lt_holds, not_both}
 use Rattle.nb_gather.proofs.AppendLaws.{run_read, run_reads, run_left}
 use Rattle.nb_gather.proofs.FitLaws.{RunsFit, runs_fit, may_front}
 use Rattle.nb_gather.proofs.QuietLaws.{renamed}
 use Rattle.nb_gather.proofs.RunLaws.{one_run, longer_run, goes_on, Grows, runs_added, grown_none, grown_other, grown_more, grown_full}
 use Rattle.nb_gather.proofs.UnfinishedLaws.{AreFit}
 use Rattle.nb_gather.proofs.WaitingLaws.{none_waits, one_waits, holds_one, holds_longer, goes_as, taken_still, taken_with}
-use Rattle.nb_host.proofs.PlainLaws.{lt_holds, not_both}
 
 -- the page may go into the run
 abbrev pub may_join : Waiting → Numbered → Bool

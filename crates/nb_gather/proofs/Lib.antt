@@ -12,3 +12,4 @@ pub mod TornLaws
 pub mod UnfinishedLaws
 pub mod ReadAgain
 pub mod BlankLaws
+mod Common

@@ -1,22 +1,11 @@
 -- What is left of a level file before its end is whole is no backup.
-use Rattle.std.proofs.Common.{◌≡◌, ◌⊎◌, inl, inr, ⊎_elim, ℕ, suc, ◌+◌, ◌/◌, ◌%◌, ◌<◌, List, [], ◌∷◌, ◌++◌, length, take, drop, refl, sym, ap, subst, ◌∙◌, arith, length-append, append_assoc}
-use Rattle.std.specs.Prelude.{true, false, ◌||◌, ◌==◌, nat_le, IsTrue, Some, Ok}
-use Rattle.std.proofs.lemmas.Bool.{eqb-true, or_cases}
-use Rattle.std.proofs.lemmas.List.{drop_at, drop_all, drop-drop}
-use Rattle.nb_fields.specs.Bytes.{number_of, bytes_of, number_in}
+use Rattle.std.proofs.Common.{◌≡◌, ◌⊎◌, inl, inr, ⊎_elim, ℕ, suc, ◌+◌, ◌/◌, ◌%◌, ◌<◌, List, [], ◌∷◌, ◌++◌, length, take, drop, refl, sym, ap, subst, ◌∙◌, arith, length-append, append_assoc, true, false, ◌||◌, ◌==◌, nat_le, IsTrue, Some, Ok}
+use Rattle.nb_gather.proofs.Common.{eqb-true, or_cases, drop_at, drop_all, drop-drop, number_of, bytes_of, number_in, is_page_size, size_facts, decide, Head, Stretch, Contents, head_then, run_bytes, end_bytes, end_mark, read_level, read_pages, read_runs, and_no_right, total, IsHeaded, IsNoBackup, not_both}
 use Rattle.nb_fields.specs.Header.{is_header, is_marked}
-use Rattle.nb_fields.specs.Places.{is_page_size}
-use Rattle.nb_fields.proofs.SizeLaws.{size_facts}
-use Rattle.nb_change.proofs.NameLaws.{decide}
-use Rattle.nb_model.specs.Levels.{Head, Stretch, Contents, head_then, head_in, run_bytes, end_bytes, end_mark, read_level, read_pages, read_runs}
-use Rattle.nb_model.proofs.ReadLaws.{and_no_right}
-use Rattle.nb_model.proofs.GatherLaws.{total}
+use Rattle.nb_model.specs.Levels.{head_in}
 use Rattle.nb_level.proofs.ToldLaws.{level_told}
-use Rattle.nb_gather.specs.Gathering.{IsHeaded}
-use Rattle.nb_gather.specs.Making.{IsNoBackup}
 use Rattle.nb_gather.proofs.TornLaws.{Torn, torn_take, torn_drop, torn_short, torn_self, torn_longer, torn_more}
 use Rattle.nb_gather.proofs.UnfinishedLaws.{small_torn, AreFit, torn_runs}
-use Rattle.nb_host.proofs.PlainLaws.{not_both}
 
 -- what stands after a head goes on
 pub head_more : (version : ℕ) (h : Head) (a b : List ℕ) → head_then version h a ++ b ≡ head_then version h (a ++ b)

@@ -1,20 +1,9 @@
 -- Calls on the one file that is made, after calls that change nothing.
-use Rattle.std.proofs.Common.{◌≡◌, refl, inl, inr, ⊎_elim, ℕ, List, [], ap, subst, ◌∙◌}
-use Rattle.std.specs.Prelude.{Bool, IsTrue, Result, Ok, Some, OnOk}
-use Rattle.nb_host.specs.Files.{File, Files, with_file}
-use Rattle.nb_host.specs.World.{World}
-use Rattle.nb_host.specs.Crash.{IsDurable, Leaves}
-use Rattle.nb_host.specs.Calls.{Remakes, Syncs}
-use Rattle.nb_host.specs.Moments.{Passes}
-use Rattle.nb_change.specs.Changes.{Changes, Only, Remade}
+use Rattle.std.proofs.Common.{◌≡◌, refl, inl, inr, ⊎_elim, ℕ, List, [], ap, subst, ◌∙◌, Bool, IsTrue, Result, Ok, Some, OnOk}
+use Rattle.nb_gather.proofs.Common.{File, Files, with_file, World, IsDurable, Leaves, Remakes, Syncs, Passes, Changes, Only, Remade, rested, composed, remade_on, still_more, left_before, with_file-same, Quiet, IsKept, IsMade}
 use Rattle.nb_change.specs.Gave.{GaveNothing}
-use Rattle.nb_change.proofs.ChangesLaws.{rested, composed, remade_on, still_more}
-use Rattle.nb_change.proofs.MomentLaws.{left_before}
-use Rattle.nb_change.proofs.NameLaws.{with_file-same}
 use Rattle.nb_change.proofs.ResultLaws.{on_ok_then}
 use Rattle.nb_change.proofs.SettledLaws.{synced}
-use Rattle.nb_page.specs.Quiet.{Quiet}
-use Rattle.nb_gather.specs.Making.{IsKept, IsMade}
 
 module _ (name : List ℕ) (made : File → Type 0) where
   -- calls that change nothing

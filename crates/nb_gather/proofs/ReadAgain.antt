@@ -1,13 +1,7 @@
 -- What it says of bytes that they are read as runs.
-use Rattle.std.proofs.Common.{◌≡◌, ◌≢◌, ◌⊎◌, inl, inr, ℕ, suc, ◌+◌, ◌*◌, ◌≤◌, List, length, drop, refl, sym, ap, ◌∙◌, arith}
-use Rattle.std.specs.Prelude.{Bool, true, false, not, ◌||◌, ◌==◌, nat_lt, Option, None, Some, Result, Ok, Err}
-use Rattle.std.proofs.lemmas.Bool.Decides.{eqb_tells}
-use Rattle.nb_fields.specs.Bytes.{number_in}
-use Rattle.nb_model.specs.Image.{Numbered}
-use Rattle.nb_model.specs.Levels.{Head, Test, first_fault, behind, read_end, read_runs, pages_in, barred_after, end_mark}
-use Rattle.nb_model.proofs.ReadLaws.{AreClear, eq_yes, run_tests, end_tests}
+use Rattle.std.proofs.Common.{◌≡◌, ◌≢◌, ◌⊎◌, inl, inr, ℕ, suc, ◌+◌, ◌*◌, ◌≤◌, List, length, drop, refl, sym, ap, ◌∙◌, arith, Bool, true, false, not, ◌||◌, ◌==◌, nat_lt, Option, None, Some, Result, Ok, Err}
+use Rattle.nb_gather.proofs.Common.{eqb_tells, number_in, Numbered, Head, Test, first_fault, behind, read_end, read_runs, pages_in, barred_after, end_mark, AreClear, eq_yes, run_tests, end_tests, not_both, true_or_false}
 use Rattle.nb_model.proofs.LevelWalk.{none_clear, not_long}
-use Rattle.nb_host.proofs.PlainLaws.{not_both, true_or_false}
 
 -- a broken place is no value
 pub no_value : {A : Type 0} (at : ℕ) (value : A) → ◌≡◌ {A = Result A ℕ} (Err at) (Ok value) → ⊥

@@ -1,13 +1,6 @@
 -- How the runs of the pages that were taken go on by one page more.
-use Rattle.std.proofs.Common.{◌≡◌, ◌⊎◌, inl, inr, ℕ, suc, ◌+◌, ◌<◌, ◌≤◌, List, [], ◌∷◌, ◌++◌, length, refl, sym, ap, subst, ◌∙◌, arith, length-append}
-use Rattle.std.specs.Prelude.{Bool, true, false, ◌&&◌, ◌==◌, nat_lt}
-use Rattle.std.proofs.lemmas.Bool.Decides.{leb_tells}
-use Rattle.std.proofs.lemmas.List.{append-nil}
-use Rattle.nb_model.specs.Image.{Page, Numbered}
-use Rattle.nb_model.specs.Levels.{Stretch, runs_behind, runs_of}
-use Rattle.nb_model.proofs.ReadLaws.{and_no_right}
-use Rattle.nb_gather.specs.Gathering.{complete, incomplete}
-use Rattle.nb_host.proofs.PlainLaws.{not_both, true_or_false}
+use Rattle.std.proofs.Common.{◌≡◌, ◌⊎◌, inl, inr, ℕ, suc, ◌+◌, ◌<◌, ◌≤◌, List, [], ◌∷◌, ◌++◌, length, refl, sym, ap, subst, ◌∙◌, arith, length-append, Bool, true, false, ◌&&◌, ◌==◌, nat_lt}
+use Rattle.nb_gather.proofs.Common.{leb_tells, append-nil, Page, Numbered, Stretch, runs_behind, runs_of, and_no_right, complete, incomplete, not_both, true_or_false}
 
 -- a run of one page
 abbrev pub one_run : Numbered → Stretch

@@ -1,19 +1,10 @@
 -- A level file without its end, or with a torn one, is no level file, whatever of it was torn.
-use Rattle.std.proofs.Common.{◌≡◌, ◌≢◌, ◌⊎◌, inl, inr, ⊎_elim, ℕ, zero, suc, ◌+◌, ◌*◌, ◌/◌, ◌%◌, ◌<◌, ◌≤◌, List, [], ◌∷◌, ◌++◌, length, take, drop, refl, sym, ap, subst, ◌∙◌, arith, length-append}
-use Rattle.std.specs.Prelude.{Ok}
-use Rattle.std.proofs.lemmas.List.{append-nil, drop_at, take_all, drop-drop, length-take-le, length-drop, take-append-drop}
-use Rattle.std.proofs.Math.Nat.{suc-mul}
-use Rattle.nb_fields.specs.Bytes.{number_of, bytes_of, number_in}
+use Rattle.std.proofs.Common.{◌≡◌, ◌≢◌, ◌⊎◌, inl, inr, ⊎_elim, ℕ, zero, suc, ◌+◌, ◌*◌, ◌/◌, ◌%◌, ◌<◌, ◌≤◌, List, [], ◌∷◌, ◌++◌, length, take, drop, refl, sym, ap, subst, ◌∙◌, arith, length-append, Ok}
+use Rattle.nb_gather.proofs.Common.{append-nil, drop_at, take_all, drop-drop, length-take-le, length-drop, take-append-drop, suc-mul, number_of, bytes_of, number_in, most_pages, Numbered, Head, Stretch, run_bytes, end_bytes, end_mark, joined, read_runs, barred_after, length-joined, total, run_front, eight_bytes}
 use Rattle.nb_fields.proofs.NumberLaws.{number_of-bytes_of, length-bytes_of}
-use Rattle.nb_fields.specs.Places.{most_pages}
-use Rattle.nb_model.specs.Image.{Numbered}
-use Rattle.nb_model.specs.Levels.{Head, Stretch, run_bytes, end_bytes, end_mark, joined, read_runs, barred_after}
 use Rattle.nb_model.specs.Sound.{IsOfSize}
-use Rattle.nb_model.proofs.ImageLaws.{length-joined}
-use Rattle.nb_model.proofs.GatherLaws.{total, run_front}
 use Rattle.nb_gather.proofs.TornLaws.{Torn, torn_take, torn_drop, torn_short, torn_number}
 use Rattle.nb_gather.proofs.ReadAgain.{no_value, run_facts, runs_are, end_facts}
-use Rattle.nb_model.proofs.ReadLaws.{eight_bytes}
 
 -- a number of one byte is whole or zero
 pub small_torn : (w b : ℕ) (ts : List ℕ) → b < 256 → Torn (bytes_of (suc w) b) ts → (number_of ts ≡ b) ⊎ (number_of ts ≡ 0)

@@ -1,17 +1,14 @@
 -- The script of a number creates its database, where it is one that can be asked.
-use Rattle.std.proofs.Common.{◌≡◌, ℕ, ◌+◌, List, [], ◌∷◌, ◌++◌, length, refl, sym, ap, ◌∙◌, codes}
-use Rattle.std.specs.Prelude.{Bool, true, false, nat_lt, Option, Some, None, Result, Ok, Err, if◌then◌else◌}
-use Rattle.std.specs.Fmt.{decimal}
+use Rattle.std.proofs.Common.{◌≡◌, ℕ, ◌+◌, List, [], ◌∷◌, ◌++◌, length, refl, sym, ap, ◌∙◌, codes, Bool, true, false, nat_lt, Option, Some, None, Result, Ok, Err, if◌then◌else◌}
+use Rattle.nb_gen.proofs.Common.{decimal, ended, generated, lines_from, IsScriptText, generated_first}
 use Rattle.nb_host.specs.declared.refusals.Refusal.{Refusal}
 use Rattle.nb_host.specs.declared.refusals.Refusal.TheVariants.{BadScript, ScriptLong}
 use Rattle.nb_model.specs.declared.statement.Statement.{Statement}
-use Rattle.nb_model.specs.Generated.{ended, generated, lines_from}
 use Rattle.nb_script.specs.Words.{Bytes, after, number_at, within, named, name_at}
 use Rattle.nb_script.specs.Lines.{lines_of, numbered, left}
 use Rattle.nb_script.specs.FirstLine.{cache_at, page_size_at, sizes_at, create_at, database_at, first_at}
 use Rattle.nb_script.specs.Statements.{session_line, statement_at}
 use Rattle.nb_script.specs.Scripts.{Plan, Numbered, started, with_statement, or_bad, with_lines, order_in, with_order, of_lines, script_of}
-use Rattle.nb_gen.specs.Texts.{IsScriptText, generated_first}
 
 abbrev first_line : Bytes
 first_line = codes "1: create database 'gen.db' page_size 4096 raw 100"

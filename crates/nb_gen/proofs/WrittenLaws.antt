@@ -1,6 +1,6 @@
 -- A text is written to a new file.
-use Rattle.std.proofs.Common.{◌≡◌, ◌⊎◌, inl, inr, ⊎_elim, ℕ, suc, List, [], ◌∷◌, ◌++◌, length, refl, sym, ap, subst, ◌∙◌}
-use Rattle.std.specs.Prelude.{Bool, false, ◌&&◌, ◌==◌, nat_le, IsTrue, Some, Result, Ok}
+use Rattle.std.proofs.Common.{◌≡◌, ◌⊎◌, inl, inr, ⊎_elim, ℕ, suc, List, [], ◌∷◌, ◌++◌, length, refl, sym, ap, subst, ◌∙◌, Bool, false, ◌&&◌, ◌==◌, nat_le, IsTrue, Some, Result, Ok}
+use Rattle.nb_gen.proofs.Common.{IsNoBackup, IsUnfinished, IsUnfinishedOr, IsScriptText}
 use Rattle.nb_fields.specs.Bytes.{is_zeros, number_in, number_of}
 use Rattle.nb_fields.specs.Free.{is_free_file}
 use Rattle.nb_fields.specs.Header.{is_header, is_marked, pending_of, state_of}
@@ -15,11 +15,9 @@ use Rattle.nb_change.proofs.NameLaws.{with_file-same}
 use Rattle.nb_model.specs.Levels.{begins_level}
 use Rattle.nb_model.proofs.ReadLaws.{and_no_right}
 use Rattle.nb_model.proofs.StandsLaws.{not_level}
-use Rattle.nb_gather.specs.Making.{IsNoBackup, IsUnfinished, IsUnfinishedOr}
 use Rattle.nb_gather.proofs.BlankLaws.{blank_empty, blank_free}
 use Rattle.nb_gather.proofs.ReadAgain.{no_value}
 use Rattle.nb_gather.proofs.TornLaws.{Torn, torn_of}
-use Rattle.nb_gen.specs.Texts.{IsScriptText}
 
 empty_unfinished : IsUnfinished (Some [])
 empty_unfinished = inl (blank_free (Some []) blank_empty)

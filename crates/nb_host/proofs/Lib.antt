@@ -1,3 +1,4 @@
 pub mod Ascii
 pub mod NameLaws
 pub mod PlainLaws
+mod Common

@@ -1,8 +1,7 @@
 -- Names that are equal and others, and files under them.
-use Rattle.std.proofs.Common.{◌≡◌, ◌≢◌, ◌⊎◌, inl, inr, ℕ, Bool, true, false, List, refl, sym, ◌∙◌, ap, subst}
-use Rattle.std.specs.Prelude.{if◌then◌else◌, MatchBool}
+use Rattle.std.proofs.Common.{◌≡◌, ◌≢◌, ◌⊎◌, inl, inr, ℕ, Bool, true, false, List, refl, sym, ◌∙◌, ap, subst, if◌then◌else◌, MatchBool}
+use Rattle.nb_host.proofs.Common.{same_name}
 use Rattle.std.specs.Cmp.Lexicographic.{told_text, nat_list_eq_equiv}
-use Rattle.nb_host.specs.Names.{same_name}
 use Rattle.nb_host.specs.Files.{File, Files, with_file}
 use mathlib.Core.Path.{fun_ext}
 

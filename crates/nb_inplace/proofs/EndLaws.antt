@@ -1,21 +1,6 @@
 -- Page 0 of a standby makes the file the database that the merge gives.
-use Rattle.std.proofs.Common.{◌≡◌, ℕ, ◌*◌, ◌≤◌, [], ◌∷◌, ◌++◌, length, sym, ap, subst, ◌∙◌, arith}
-use Rattle.std.specs.Prelude.{true, IsTrue, Some}
-use Rattle.nb_fields.specs.Header.{is_header, size_of}
-use Rattle.nb_fields.specs.Places.{is_page_size, most_pages}
-use Rattle.nb_fields.proofs.SizeLaws.{size_facts}
-use Rattle.nb_host.specs.Files.{File, put_at, with_page}
-use Rattle.nb_model.specs.Image.{Page, Image, trimmed}
-use Rattle.nb_model.specs.Levels.{joined}
-use Rattle.nb_model.specs.Main.{HoldsMain}
-use Rattle.nb_model.specs.Sound.{IsOfSize}
-use Rattle.nb_model.specs.Strokes.{standby_page, as_standby}
-use Rattle.nb_model.proofs.HeaderLaws.{header-other}
-use Rattle.nb_model.proofs.ImageLaws.{Trimming, trimming, trimmed-other, trimmed-before}
-use Rattle.nb_model.proofs.MainLaws.{main_laid}
-use Rattle.nb_model.proofs.PutLaws.{put-first}
-use Rattle.nb_restore.specs.Copied.{Holds}
-use Rattle.nb_restore.proofs.HeadLaws.{HasHead}
+use Rattle.std.proofs.Common.{◌≡◌, ℕ, ◌*◌, ◌≤◌, [], ◌∷◌, ◌++◌, length, sym, ap, subst, ◌∙◌, arith, true, IsTrue, Some}
+use Rattle.nb_inplace.proofs.Common.{is_header, size_of, is_page_size, most_pages, size_facts, File, put_at, with_page, Page, Image, trimmed, joined, HoldsMain, IsOfSize, standby_page, as_standby, header-other, Trimming, trimming, trimmed-other, trimmed-before, main_laid, put-first, Holds, HasHead}
 use Rattle.nb_inplace.proofs.ControlLaws.{standby-long, standby-state, standby-size, standby-header}
 
 whole : (size : ℕ) (p : Page) (ps : Image) → IsTrue (is_page_size size) → IsOfSize size (p ∷ ps) → is_header p ≡ true → size_of p ≡ size → 5 ≤ length (p ∷ ps) → length (p ∷ ps) ≤ most_pages

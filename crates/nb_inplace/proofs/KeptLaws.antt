@@ -1,25 +1,13 @@
 -- A level file whose record is kept: which record it goes on from, and what it holds.
-use Rattle.std.proofs.Common.{◌≡◌, ◌≢◌, ◌⊎◌, inl, inr, ℕ, ◌≤◌, List, [], ◌∷◌, length, refl, sym, ap, subst, ◌∙◌}
-use Rattle.std.specs.Prelude.{false, nat_le, Some, None, Ok, Contains}
-use Rattle.std.proofs.lemmas.Bool.{and_parts, true≢false}
+use Rattle.std.proofs.Common.{◌≡◌, ◌≢◌, ◌⊎◌, inl, inr, ℕ, ◌≤◌, List, [], ◌∷◌, length, refl, sym, ap, subst, ◌∙◌, false, nat_le, Some, None, Ok, Contains}
+use Rattle.nb_inplace.proofs.Common.{and_parts, true≢false, Files, is_delta, Ask, Kept, Account, image_size, Head, Contents, taken, head_in, head_for, level_bytes, read_level, Link, level_link, next_link, next_links, IsSoundImage, nil, to_record, IsKeptAs, IsBegun, IsLineTo, IsAncestor, IsSpan, Stands, ok_same, level_told, some_same}
 use Rattle.std.proofs.lemmas.Bool.Decides.{leb_tells}
-use Rattle.nb_host.specs.Files.{Files}
-use Rattle.nb_host.specs.Names.{is_delta}
-use Rattle.nb_model.specs.Account.{Ask, Kept, Account}
-use Rattle.nb_model.specs.Image.{image_size}
-use Rattle.nb_model.specs.Levels.{Head, Contents, taken, head_in, head_for, level_bytes, read_level}
-use Rattle.nb_model.specs.Restoring.{Link, level_link, next_link, next_links}
-use Rattle.nb_model.specs.Sound.{IsSoundImage}
-use Rattle.nb_model.specs.Stands.{nil, to_record, IsKeptAs, IsBegun, IsLineTo, IsAncestor, IsSpan, Stands}
 use Rattle.nb_model.proofs.ChainLaws.{kept_accepted}
-use Rattle.nb_restore.proofs.AnswerLaws.{ok_same}
 use Rattle.nb_restore.proofs.AskLaws.{with_ask, guid_long}
 use Rattle.nb_restore.proofs.ChainLaws.{split_next}
 use Rattle.nb_restore.proofs.KeptNext.{HoldsKeptNext, kept_next, file_level, own_file}
 use Rattle.nb_restore.proofs.ParentLaws.{LeadsTo, AsksFrom, own_asks, span_asks}
-use Rattle.nb_level.proofs.ToldLaws.{level_told}
 use Rattle.nb_restore.proofs.ReadLaws.{reads_previous}
-use Rattle.nb_host.proofs.PlainLaws.{some_same}
 
 -- an ancestor is kept
 pub ancestor_there : (kept : List Kept) (between : List Kept) (q r : Kept) → IsLineTo kept q r between → Contains kept q

@@ -1,21 +1,6 @@
 -- A merge of a kept backup: it gives the image that the begin of the backup kept, and what is half merged can be gone on with.
-use Rattle.std.proofs.Common.{◌≡◌, ◌≢◌, inr, ℕ, ◌<◌, ◌≤◌, List, length, refl, sym, ap, subst, ◌∙◌, arith}
-use Rattle.std.specs.Prelude.{Some, Ok, Contains}
-use Rattle.nb_fields.specs.Page.{stamp_of}
-use Rattle.nb_fields.specs.Header.{state_of, size_of, guid_of, pending_of}
-use Rattle.nb_fields.specs.States.{normal_state, applying_state}
-use Rattle.nb_host.specs.Files.{File, Files}
-use Rattle.nb_model.specs.Account.{Kept, Base, base_of, Plain, IsBase, Account, with_entry}
-use Rattle.nb_model.specs.Image.{Image, Numbered, first_page, image_guid, image_in, trimmed, overwritten}
-use Rattle.nb_model.specs.InPlace.{written_since, other_pages}
-use Rattle.nb_model.specs.Levels.{Contents}
-use Rattle.nb_model.specs.Owner.{delta_name, owner, entry_of_files}
-use Rattle.nb_model.specs.Sound.{IsSoundImage}
-use Rattle.nb_model.specs.Stands.{nil, IsKeptAs, to_base, to_record, IsBegun, GoesOn, NamesItsPast, HoldsItsRecord, IsStopped, Stands}
-use Rattle.nb_model.specs.Strokes.{as_standby, merged}
-use Rattle.nb_model.proofs.MainLaws.{owner_main}
-use Rattle.nb_model.proofs.StandsLaws.{header_no_level, opened_entry, StandsUnder, stands_with_both}
-use Rattle.nb_inplace.specs.Half.{IsBetween, IsHalf}
+use Rattle.std.proofs.Common.{◌≡◌, ◌≢◌, inr, ℕ, ◌<◌, ◌≤◌, List, length, refl, sym, ap, subst, ◌∙◌, arith, Some, Ok, Contains}
+use Rattle.nb_inplace.proofs.Common.{stamp_of, state_of, size_of, guid_of, pending_of, normal_state, applying_state, File, Files, Kept, Base, base_of, Plain, IsBase, Account, with_entry, Image, Numbered, first_page, image_guid, image_in, trimmed, overwritten, written_since, other_pages, Contents, delta_name, owner, entry_of_files, IsSoundImage, nil, IsKeptAs, to_base, to_record, IsBegun, GoesOn, NamesItsPast, HoldsItsRecord, IsStopped, Stands, as_standby, merged, owner_main, header_no_level, opened_entry, StandsUnder, stands_with_both, IsBetween, IsHalf, formed, some_same}
 use Rattle.nb_inplace.specs.Kept.{MergesBackup}
 use Rattle.nb_inplace.proofs.ClosedLaws.{closed_entry, is_applying_so, half_header, half_applying, half_closed}
 use Rattle.nb_inplace.proofs.HalfLaws.{front_size, front_guid, half_state, half_pending, half_size, half_previous}
@@ -23,8 +8,6 @@ use Rattle.nb_inplace.proofs.KeptLaws.{IsOfRecord, of_record, ancestor_there}
 use Rattle.nb_inplace.proofs.SeenLaws.{image_seen, none_seen, none_there}
 use Rattle.nb_inplace.proofs.VerdictLaws.{GoesOnFrom, IsTheSame, IsFor, as_it_stands, begun, IsAccepted, accepted}
 use Rattle.nb_inplace.proofs.WayLaws.{IsOnTheWay, way_gives, way_on, way_begins}
-use Rattle.nb_model.proofs.FormLaws.{formed}
-use Rattle.nb_host.proofs.PlainLaws.{some_same}
 
 module _ (files : Files) (account : Account) (stands : Stands files account) (standby name bytes : List ℕ) (c : Contents) (merges : MergesBackup files standby name bytes c) where
   abbrev its : IsAccepted files name bytes c

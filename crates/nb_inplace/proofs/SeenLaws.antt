@@ -1,24 +1,9 @@
 -- What the bytes of a database are seen as, page by page: after their end zeros are seen.
-use Rattle.std.proofs.Common.{◌≡◌, inl, inr, ℕ, ◌+◌, ◌-◌, ◌*◌, ◌<◌, ◌≤◌, List, [], ◌++◌, length, take, drop, replicate, sym, ap, subst, ◌∙◌, arith, length-drop, add-mul, mul-le-mul_right, take_all}
-use Rattle.std.specs.Prelude.{true, None, IsTrue}
+use Rattle.std.proofs.Common.{◌≡◌, inl, inr, ℕ, ◌+◌, ◌-◌, ◌*◌, ◌<◌, ◌≤◌, List, [], ◌++◌, length, take, drop, replicate, sym, ap, subst, ◌∙◌, arith, length-drop, add-mul, mul-le-mul_right, take_all, true, None, IsTrue}
+use Rattle.nb_inplace.proofs.Common.{cases_lt, take-append-le, length-replicate, get_or-drop, drop-replicate, take-replicate, replicate-append-replicate, is_zeros, size_of, not_database, Page, Image, page_at, image_in, joined, main_page, IsOfSize, all_zeros, length-joined, drop-joined, page-joined, zeros-are, all-right, IsLaid, laid, main_here, main_past, all_from, zeros_behind}
 use Rattle.std.proofs.Math.Seq.{drop-drop}
 use Rattle.std.proofs.Math.ListN.{drop_of_length-le}
-use Rattle.std.proofs.lemmas.Bool.{cases_lt}
-use Rattle.std.proofs.lemmas.List.{take-append-le, length-replicate, get_or-drop, drop-replicate, take-replicate, replicate-append-replicate}
-use Rattle.nb_fields.specs.Bytes.{is_zeros}
-use Rattle.nb_fields.specs.Header.{size_of}
 use Rattle.nb_fields.specs.Table.{page_in}
-use Rattle.nb_model.specs.Causes.{not_database}
-use Rattle.nb_model.specs.Image.{Page, Image, page_at, image_in}
-use Rattle.nb_model.specs.Levels.{joined}
-use Rattle.nb_model.specs.Owner.{main_page}
-use Rattle.nb_model.specs.Sound.{IsOfSize}
-use Rattle.nb_model.proofs.HeadSound.{all_zeros}
-use Rattle.nb_model.proofs.ImageLaws.{length-joined, drop-joined, page-joined, zeros-are, all-right}
-use Rattle.nb_model.proofs.MainLaws.{IsLaid, laid}
-use Rattle.nb_model.proofs.OwnerLaws.{main_here, main_past}
-use Rattle.nb_model.proofs.SoundLaws.{all_from}
-use Rattle.nb_model.proofs.TrimLaws.{zeros_behind}
 use Rattle.nb_inplace.proofs.HalfLaws.{front_size}
 use Rattle.nb_model.proofs.OpenedLaws.{pages_zeros}
 

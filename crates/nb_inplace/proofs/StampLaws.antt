@@ -1,31 +1,6 @@
 -- Stamps above an SCN, one piece of pages after another.
-use Rattle.std.proofs.Common.{◌≡◌, inl, inr, ℕ, zero, suc, ◌+◌, ◌-◌, ◌*◌, ◌/◌, ◌<◌, ◌≤◌, List, [], ◌∷◌, ◌++◌, length, take, drop, replicate, refl, sym, ap, ◌∙◌, arith, length-drop, mul-le-mul_right, div-add-mod'}
-use Rattle.std.specs.Prelude.{true, false, Some, None, Err}
-use Rattle.std.proofs.lemmas.Bool.{cases_lt}
-use Rattle.std.proofs.lemmas.List.{take-append-le, take-replicate, drop-replicate, length-replicate, drop-drop, drop_all, take-append-drop, take_all}
-use Rattle.std.proofs.Math.Nat.{mul-div_cancel}
-use Rattle.nb_fields.specs.Bytes.{number_of, number_in, is_zeros}
-use Rattle.nb_fields.specs.Header.{is_header, size_of}
-use Rattle.nb_fields.specs.Page.{stamp_of}
-use Rattle.nb_fields.proofs.PartLaws.{number_in-take}
-use Rattle.nb_fields.proofs.SizeLaws.{size_facts}
-use Rattle.nb_host.specs.declared.faults.Fault.{Fault}
-use Rattle.nb_host.specs.declared.faults.Fault.TheVariants.{Refused, Device, Memory}
-use Rattle.nb_host.specs.declared.refusals.Refusal.{Refusal}
-use Rattle.nb_host.specs.declared.refusals.Refusal.TheVariants.{ChainScn}
-use Rattle.nb_model.specs.Causes.{Cause, not_database}
-use Rattle.nb_model.specs.Image.{Page, Image, page_at, image_in, trimmed}
-use Rattle.nb_model.specs.InPlace.{written_since, other_pages}
-use Rattle.nb_model.specs.Levels.{joined}
-use Rattle.nb_model.specs.Sound.{IsOfSize}
-use Rattle.nb_model.proofs.FormLaws.{Formed, formed}
-use Rattle.nb_model.proofs.HeadSound.{all_zeros}
-use Rattle.nb_model.proofs.HeaderLaws.{header-long, header-other, same-header}
-use Rattle.nb_model.proofs.MainLaws.{image_in-is}
-use Rattle.nb_model.proofs.ImageLaws.{AreZeros, trimming, trimmed-other, all-drop, length-joined, drop-joined, take-joined, page-joined}
-use Rattle.nb_model.proofs.ReadLaws.{lt_no, lt_yes}
-use Rattle.nb_restore.specs.Copied.{IsDone}
-use Rattle.nb_fixup.specs.Tests.{Tested}
+use Rattle.std.proofs.Common.{◌≡◌, inl, inr, ℕ, zero, suc, ◌+◌, ◌-◌, ◌*◌, ◌/◌, ◌<◌, ◌≤◌, List, [], ◌∷◌, ◌++◌, length, take, drop, replicate, refl, sym, ap, ◌∙◌, arith, length-drop, mul-le-mul_right, div-add-mod', true, false, Some, None, Err}
+use Rattle.nb_inplace.proofs.Common.{cases_lt, take-append-le, take-replicate, drop-replicate, length-replicate, drop-drop, drop_all, take-append-drop, take_all, mul-div_cancel, number_of, number_in, is_zeros, is_header, size_of, stamp_of, number_in-take, size_facts, Fault, Refused, Device, Memory, Refusal, ChainScn, Cause, not_database, Page, Image, page_at, image_in, trimmed, written_since, other_pages, joined, IsOfSize, Formed, formed, all_zeros, header-long, header-other, same-header, image_in-is, AreZeros, trimming, trimmed-other, all-drop, length-joined, drop-joined, take-joined, page-joined, lt_no, lt_yes, IsDone, Tested}
 use Rattle.nb_fields.proofs.NumberLaws.{number_of-zeros}
 
 module _ (name : List ℕ) (scn : ℕ) where

@@ -1,31 +1,9 @@
 -- What the first bytes of a standby tell, and its length.
-use Rattle.std.proofs.Common.{◌≡◌, ◌≢◌, inl, inr, ℕ, ◌+◌, ◌<◌, ◌≤◌, List, [], ◌∷◌, ◌++◌, length, take, refl, sym, ap, ◌∙◌, arith}
-use Rattle.std.specs.Prelude.{Bool, true, false, not, ◌||◌, ◌==◌, nat_eq, Option, option_map, Some, None}
-use Rattle.std.proofs.lemmas.Bool.{true≢false}
-use Rattle.std.proofs.lemmas.List.{take-take, take_at, length-take}
-use Rattle.nb_fields.specs.Bytes.{number_in}
-use Rattle.nb_fields.specs.Header.{is_header, state_of, size_of, guid_of}
-use Rattle.nb_fields.proofs.PartLaws.{number_in-take}
-use Rattle.nb_fields.proofs.SizeLaws.{size_facts}
-use Rattle.nb_fields.specs.States.{normal_state, applying_state}
-use Rattle.nb_host.specs.Files.{File}
-use Rattle.nb_host.specs.Names.{same_name}
-use Rattle.nb_host.specs.declared.refusals.Refusal.{Refusal}
-use Rattle.nb_host.specs.declared.refusals.Refusal.TheVariants.{NoFile, NotDatabase, Unfinished, ChainGuid}
-use Rattle.nb_page.specs.Header.{header_in}
-use Rattle.nb_model.specs.Causes.{Cause, first_cause, when, not_database}
-use Rattle.nb_model.specs.Image.{Page, Image, first_page, image_size, image_in, is_read_only}
-use Rattle.nb_model.specs.InPlace.{is_another, not_finishing, not_mergeable, not_next, not_standby}
-use Rattle.nb_model.specs.Levels.{Contents, joined}
-use Rattle.nb_model.proofs.HeaderLaws.{header-size, same-header}
-use Rattle.nb_model.proofs.MainLaws.{IsLaid, laid, laid-wide, some_page}
-use Rattle.nb_cases.specs.Events.{IsFileIn, OnApply}
+use Rattle.std.proofs.Common.{◌≡◌, ◌≢◌, inl, inr, ℕ, ◌+◌, ◌<◌, ◌≤◌, List, [], ◌∷◌, ◌++◌, length, take, refl, sym, ap, ◌∙◌, arith, Bool, true, false, not, ◌||◌, ◌==◌, nat_eq, Option, option_map, Some, None}
+use Rattle.nb_inplace.proofs.Common.{true≢false, take-take, take_at, length-take, number_in, is_header, state_of, size_of, guid_of, number_in-take, size_facts, normal_state, applying_state, File, same_name, Refusal, NoFile, NotDatabase, Unfinished, ChainGuid, header_in, Cause, first_cause, when, not_database, Page, Image, first_page, image_size, image_in, is_read_only, is_another, not_finishing, not_mergeable, not_next, not_standby, Contents, joined, header-size, same-header, IsLaid, laid, laid-wide, some_page, IsFileIn, OnApply, header_same, unheaded, no_page, same_other}
 use Rattle.nb_cases.specs.declared.events.Case.{Case}
 use Rattle.nb_cases.specs.declared.events.Case.TheVariants.{NoCall, Go, WrongState as refused, Unfinished as unfinished, Main, Delta, BothOrMain, GoWithDelta, GoWithoutDelta, GoOrUnfinished}
-use Rattle.nb_chain.proofs.StartLaws.{header_same}
-use Rattle.nb_fixup.proofs.CauseLaws.{unheaded, no_page}
 use Rattle.nb_inplace.proofs.VerdictLaws.{by_state, mergeable_by, standby_state}
-use Rattle.nb_host.proofs.NameLaws.{same_other}
 
 -- page 0 of the image is what the file begins with
 module _ (bytes : List ℕ) (none : not_database bytes ≡ None) where

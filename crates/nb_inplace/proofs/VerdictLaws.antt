@@ -1,23 +1,7 @@
 -- What an accepted merge is: a standby in the normal or the applying state, and the level file that goes on from it.
-use Rattle.std.proofs.Common.{◌≡◌, ◌⊎◌, inl, inr, ℕ, zero, suc, ◌-◌, ◌≤◌, List, refl, sym, ap, ◌∙◌, arith}
-use Rattle.std.specs.Prelude.{Bool, true, false, not, ◌==◌, Some, None, Result, Ok, Err}
+use Rattle.std.proofs.Common.{◌≡◌, ◌⊎◌, inl, inr, ℕ, zero, suc, ◌-◌, ◌≤◌, List, refl, sym, ap, ◌∙◌, arith, Bool, true, false, not, ◌==◌, Some, None, Result, Ok, Err}
+use Rattle.nb_inplace.proofs.Common.{eqb-true, eqb-false, or_parts, state_of, size_of, scn_of, guid_of, pending_of, normal_state, stalled_state, merge_state, applying_state, File, Files, same_name, Refusal, NoFile, WrongState, BadLevel, Unfinished, ChainGuid, ChainSize, ChainScn, Access, Cause, not_database, image_in, is_read_only, written_since, other_pages, not_next, not_finishing, not_mergeable, in_place_of, not_standby, bytes_in, in_place, Contents, read_level, formed, header-state, ok_same, err_ok, IsMergeable, not_false}
 use Rattle.std.specs.Cmp.Lexicographic.{told_text}
-use Rattle.std.proofs.lemmas.Bool.{eqb-true, eqb-false, or_parts}
-use Rattle.nb_fields.specs.Header.{state_of, size_of, scn_of, guid_of, pending_of}
-use Rattle.nb_fields.specs.States.{normal_state, stalled_state, merge_state, applying_state}
-use Rattle.nb_host.specs.Files.{File, Files}
-use Rattle.nb_host.specs.Names.{same_name}
-use Rattle.nb_host.specs.declared.refusals.Refusal.{Refusal}
-use Rattle.nb_host.specs.declared.refusals.Refusal.TheVariants.{NoFile, WrongState, BadLevel, Unfinished, ChainGuid, ChainSize, ChainScn, Access}
-use Rattle.nb_model.specs.Causes.{Cause, not_database}
-use Rattle.nb_model.specs.Image.{image_in, is_read_only}
-use Rattle.nb_model.specs.InPlace.{written_since, other_pages, not_next, not_finishing, not_mergeable, in_place_of, not_standby, bytes_in, in_place}
-use Rattle.nb_model.specs.Levels.{Contents, read_level}
-use Rattle.nb_model.proofs.FormLaws.{formed}
-use Rattle.nb_model.proofs.HeaderLaws.{header-state}
-use Rattle.nb_restore.proofs.AnswerLaws.{ok_same, err_ok}
-use Rattle.nb_inplace.specs.Verdict.{IsMergeable}
-use Rattle.nb_host.proofs.PlainLaws.{not_false}
 use Rattle.nb_model.proofs.PutSound.{no_first, not_when}
 use Rattle.nb_model.proofs.TurnCases.{is_so}
 

@@ -1,21 +1,8 @@
 -- Images on their way to that of a record: a merge gives it, and what a crash leaves half merged is on the way still.
-use Rattle.std.proofs.Common.{◌≡◌, ◌⊎◌, inl, inr, ℕ, zero, suc, ◌+◌, ◌<◌, ◌≤◌, List, [], ◌∷◌, length, replicate, refl, sym, ap, subst, ◌∙◌, arith}
-use Rattle.std.specs.Prelude.{None, Some, Contains}
-use Rattle.std.proofs.lemmas.Bool.{cases_lt}
-use Rattle.nb_fields.specs.Page.{stamp_of}
+use Rattle.std.proofs.Common.{◌≡◌, ◌⊎◌, inl, inr, ℕ, zero, suc, ◌+◌, ◌<◌, ◌≤◌, List, [], ◌∷◌, length, replicate, refl, sym, ap, subst, ◌∙◌, arith, None, Some, Contains}
+use Rattle.nb_inplace.proofs.Common.{cases_lt, stamp_of, Page, Image, Numbered, page_at, first_page, trimmed, overwritten, written_since, other_pages, taken_from, taken, main_page, HasNoZeros, ChainScn, trimmed-no_zeros, main_here, main_past, lt_no, lt_yes, trimmed_alike, IsBetween}
 use Rattle.nb_model.specs.Follows.{Follows}
-use Rattle.nb_model.specs.Image.{Page, Image, Numbered, page_at, first_page, trimmed, overwritten}
-use Rattle.nb_model.specs.InPlace.{written_since, other_pages}
-use Rattle.nb_model.specs.Levels.{taken_from, taken}
-use Rattle.nb_model.specs.Owner.{main_page}
-use Rattle.nb_model.specs.Sound.{HasNoZeros}
-use Rattle.nb_host.specs.declared.refusals.Refusal.TheVariants.{ChainScn}
 use Rattle.nb_model.proofs.FollowsLaws.{follows_overwritten}
-use Rattle.nb_model.proofs.ImageLaws.{trimmed-no_zeros}
-use Rattle.nb_model.proofs.OwnerLaws.{main_here, main_past}
-use Rattle.nb_model.proofs.ReadLaws.{lt_no, lt_yes}
-use Rattle.nb_model.proofs.TrimLaws.{trimmed_alike}
-use Rattle.nb_inplace.specs.Half.{IsBetween}
 use Rattle.nb_inplace.proofs.PagesLaws.{over_alike}
 use Rattle.nb_inplace.proofs.StampLaws.{since_first, since_behind}
 

@@ -1,16 +1,7 @@
 -- What is read of a level file: its pages rise and have the size that its head names, the first is page 0, and its head is of the form.
-use Rattle.std.proofs.Common.{◌≡◌, ◌≢◌, ℕ, zero, suc, ◌+◌, ◌*◌, ◌<◌, ◌≤◌, List, [], ◌∷◌, ◌++◌, length, take, drop, refl, sym, ap, subst, ◌∙◌, arith, length-drop}
-use Rattle.std.specs.Prelude.{Bool, true, false, ◌&&◌, ◌||◌, ◌==◌, nat_lt, nat_le, Option, Some, None, Result, Ok, Err}
-use Rattle.std.proofs.lemmas.Bool.{or_parts}
-use Rattle.std.proofs.lemmas.List.{length-take-le}
-use Rattle.nb_fields.specs.Bytes.{number_in, part}
-use Rattle.nb_fields.specs.Places.{is_page_size, most_pages}
-use Rattle.nb_model.specs.Image.{Numbered}
-use Rattle.nb_model.specs.Levels.{Head, Contents, AreRising, AreOfSize, first_fault, head_in, end_mark, read_level, read_pages, read_end, read_singles, read_runs, pages_in, is_bad_number, is_first_page}
-use Rattle.nb_model.proofs.LevelWalk.{FirstIsZero, none_clear, not_long, not_same, zero_tells, good, ok_is, no_pages, singles_are, runs_are}
-use Rattle.nb_model.proofs.ReadLaws.{AreClear, single_tests, run_tests, end_tests}
+use Rattle.std.proofs.Common.{◌≡◌, ◌≢◌, ℕ, zero, suc, ◌+◌, ◌*◌, ◌<◌, ◌≤◌, List, [], ◌∷◌, ◌++◌, length, take, drop, refl, sym, ap, subst, ◌∙◌, arith, length-drop, Bool, true, false, ◌&&◌, ◌||◌, ◌==◌, nat_lt, nat_le, Option, Some, None, Result, Ok, Err}
+use Rattle.nb_level.proofs.Common.{or_parts, length-take-le, number_in, part, is_page_size, most_pages, Numbered, Head, Contents, AreRising, AreOfSize, first_fault, head_in, end_mark, read_level, read_pages, read_end, read_singles, read_runs, pages_in, is_bad_number, is_first_page, FirstIsZero, none_clear, not_long, not_same, zero_tells, good, ok_is, no_pages, singles_are, runs_are, AreClear, single_tests, run_tests, end_tests, length-part}
 use Rattle.nb_level.proofs.ToldLaws.{level_told}
-use Rattle.nb_fields.proofs.PartLaws.{length-part}
 
 -- at the end there are no more, and there were some
 end_is : (at count : ℕ) (rest : List ℕ) (rs : List Numbered) → read_end at count rest ≡ Ok rs → (count ≢ 0) × (rs ≡ [])

@@ -1,13 +1,7 @@
 -- What stands in a file that is read as a level file.
-use Rattle.std.proofs.Common.{◌≡◌, ℕ, ◌<◌, ◌≤◌, List, length, refl, sym, ap, subst}
-use Rattle.std.specs.Prelude.{true, ◌&&◌, ◌||◌, ◌==◌, nat_le, nat_lt, Option, Some, None, Result, Ok, Err}
-use Rattle.nb_fields.specs.Bytes.{number_in}
-use Rattle.nb_fields.specs.Places.{is_page_size}
-use Rattle.nb_model.specs.Image.{Numbered}
-use Rattle.nb_model.specs.Levels.{Head, Contents, first_fault, head_in, read_level, read_pages, with_head}
+use Rattle.std.proofs.Common.{◌≡◌, ℕ, ◌<◌, ◌≤◌, List, length, refl, sym, ap, subst, true, ◌&&◌, ◌||◌, ◌==◌, nat_le, nat_lt, Option, Some, None, Result, Ok, Err}
+use Rattle.nb_level.proofs.Common.{number_in, is_page_size, Numbered, Head, Contents, first_fault, head_in, read_level, read_pages, with_head, none_clear, not_long, AreClear}
 use Rattle.nb_model.proofs.LevelLaws.{head_tests}
-use Rattle.nb_model.proofs.LevelWalk.{none_clear, not_long}
-use Rattle.nb_model.proofs.ReadLaws.{AreClear}
 use Rattle.nb_host.proofs.PlainLaws.{lt_holds, not_false}
 
 pub with_head-is : (version : ℕ) (h : Head) (r : Result (List Numbered) ℕ) (c : Contents) → with_head version h r ≡ Ok c → (r ≡ Ok c.pages) × (c.head ≡ h)

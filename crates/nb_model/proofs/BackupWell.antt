@@ -1,29 +1,6 @@
 -- The start and the close of a backup keep what was seen well: the row that the close writes names the record that the begin has kept.
-use Rattle.std.proofs.Common.{◌≡◌, inl, inr, ℕ, ◌+◌, ◌*◌, ◌<◌, ◌≤◌, List, [], ◌∷◌, ◌++◌, length, take, drop, refl, sym, ap, subst, ◌∙◌, arith, append_assoc}
-use Rattle.std.specs.Prelude.{Bool, true, false, ◌&&◌, Option, Some, None, Contains}
-use Rattle.std.specs.List.{AllByRecursion}
-use Rattle.std.proofs.lemmas.Bool.{and_parts, cases_lt}
-use Rattle.std.proofs.lemmas.List.{take_at}
-use Rattle.std.proofs.lemmas.List.Elements.{Contains-append_right}
-use Rattle.nb_fields.specs.Bytes.{bytes_of, number_in, padded, with_part}
-use Rattle.nb_fields.specs.Page.{stamped}
-use Rattle.nb_fields.proofs.NumberLaws.{number_of-bytes_of}
-use Rattle.nb_fields.specs.States.{normal_state, stalled_state}
-use Rattle.nb_fields.specs.Kinds.{data_kind}
-use Rattle.nb_model.specs.Account.{Ask, Kept, Base, Entry}
-use Rattle.nb_model.specs.Backups.{room_in, ask_of}
-use Rattle.nb_model.specs.Causes.{broken_at}
-use Rattle.nb_model.specs.Chains.{History, Slot, Spot, is_used, level_in, scn_in, guid_in, slots_in, spots_on, spots_of, spots, pages_of, found_pages, last_such, backup_spot, backup_slot, put_slot, is_in_chain}
-use Rattle.nb_model.specs.Forms.{drafted}
-use Rattle.nb_model.specs.Image.{Page, Image, page_at, image_size, image_state, image_scn}
-use Rattle.nb_model.specs.Making.{kept_of}
-use Rattle.nb_model.specs.Outcomes.{Backing, Given, Seen, next_guid}
-use Rattle.nb_model.specs.Sound.{HasHeader}
-use Rattle.nb_model.specs.Stands.{is_history_page, GoesOn, GoesOnFrom, IsRemembered, HasRows, NamesPast}
-use Rattle.nb_model.specs.Steps.{Step, makes, after_step, after_steps, made}
-use Rattle.nb_model.specs.Strokes.{Stroke, begin, on_base, base_after, records_of}
-use Rattle.nb_model.specs.Trail.{Trail, settled, settles_at, after_stroke}
-use Rattle.nb_model.specs.WellTrail.{AllGoOn, IsWellTrail}
+use Rattle.std.proofs.Common.{◌≡◌, inl, inr, ℕ, ◌+◌, ◌*◌, ◌<◌, ◌≤◌, List, [], ◌∷◌, ◌++◌, length, take, drop, refl, sym, ap, subst, ◌∙◌, arith, append_assoc, Bool, true, false, ◌&&◌, Option, Some, None, Contains}
+use Rattle.nb_model.proofs.Common.{AllByRecursion, and_parts, cases_lt, take_at, Contains-append_right, bytes_of, number_in, padded, with_part, stamped, number_of-bytes_of, normal_state, stalled_state, data_kind, Ask, Kept, Base, Entry, room_in, ask_of, broken_at, History, Slot, Spot, is_used, level_in, scn_in, guid_in, slots_in, spots_on, spots_of, spots, pages_of, found_pages, last_such, backup_spot, backup_slot, put_slot, is_in_chain, drafted, Page, Image, page_at, image_size, image_state, image_scn, kept_of, Backing, Given, Seen, next_guid, HasHeader, is_history_page, GoesOn, GoesOnFrom, IsRemembered, HasRows, NamesPast, Step, makes, after_step, after_steps, made, Stroke, begin, on_base, base_after, records_of, Trail, settled, settles_at, after_stroke, AllGoOn, IsWellTrail}
 use Rattle.nb_model.proofs.ControlMay.{may_begin}
 use Rattle.nb_model.proofs.ControlSound.{control_rest, control_long, control_goes_on, new_size, new_free}
 use Rattle.nb_model.proofs.ControlWell.{goes_on_now}

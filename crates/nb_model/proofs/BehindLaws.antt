@@ -1,20 +1,6 @@
 -- What files that are behind may leave is what may be left of what was seen, also on the way on which the pages that wait go out.
-use Rattle.std.proofs.Common.{◌≡◌, ◌≢◌, ◌⊎◌, inl, inr, ⊎_elim, ℕ, ◌+◌, ◌/◌, ◌<◌, ◌≤◌, List, [], ◌∷◌, ◌++◌, length, refl, sym, ap, subst, ◌∙◌, arith, append_assoc, length-append}
-use Rattle.std.specs.Prelude.{Bool, true, false, Option, Some, None, Contains, IsTrue}
-use Rattle.std.proofs.lemmas.Bool.{true≢false}
-use Rattle.std.proofs.lemmas.List.{append-nil}
-use Rattle.std.proofs.lemmas.List.Elements.{Contains-append_left, Contains-append_right}
-use Rattle.nb_fields.specs.Places.{is_page_size, is_scn_place, entries_in}
-use Rattle.nb_fields.specs.Header.{state_of, size_of, scn_of}
-use Rattle.nb_fields.specs.States.{stalled_state}
-use Rattle.nb_model.specs.Image.{Page, Image, page_at, first_page, image_size, image_state, image_scn}
-use Rattle.nb_model.specs.Account.{Base}
-use Rattle.nb_model.specs.Forms.{scn_page_of, scn_entry, has_entry}
-use Rattle.nb_model.specs.Owner.{entry_for}
-use Rattle.nb_model.specs.Stands.{IsRaised}
-use Rattle.nb_model.specs.Earlier.{IsEarlier, IsCovered, AreInStep}
-use Rattle.nb_model.specs.Trail.{Trail, bases_of, HasPage, IsMixture, IsRest, IsLeft, IsFirm}
-use Rattle.nb_model.specs.Behind.{IsBehind, IsRewritten, IsOnTheWay, IsEntering}
+use Rattle.std.proofs.Common.{◌≡◌, ◌≢◌, ◌⊎◌, inl, inr, ⊎_elim, ℕ, ◌+◌, ◌/◌, ◌<◌, ◌≤◌, List, [], ◌∷◌, ◌++◌, length, refl, sym, ap, subst, ◌∙◌, arith, append_assoc, length-append, Bool, true, false, Option, Some, None, Contains, IsTrue}
+use Rattle.nb_model.proofs.Common.{true≢false, append-nil, Contains-append_left, Contains-append_right, is_page_size, is_scn_place, entries_in, state_of, size_of, scn_of, stalled_state, Page, Image, page_at, first_page, image_size, image_state, image_scn, Base, scn_page_of, scn_entry, has_entry, entry_for, IsRaised, IsEarlier, IsCovered, AreInStep, Trail, bases_of, HasPage, IsMixture, IsRest, IsLeft, IsFirm, IsBehind, IsRewritten, IsOnTheWay, IsEntering}
 use Rattle.nb_model.proofs.SoundLaws.{scn_page_there, scn_no_entry}
 use Rattle.nb_model.proofs.MixtureLaws.{has_same, scn_page_same, entry_same}
 use Rattle.nb_model.proofs.EntryLaws.{for_front}

@@ -1,19 +1,8 @@
 -- One bit of an inventory page is written: the page fits, and what is kept.
-use Rattle.std.proofs.Common.{◌≡◌, ◌≢◌, inl, inr, ℕ, zero, suc, ◌+◌, ◌-◌, ◌*◌, ◌/◌, ◌%◌, ◌^◌, ◌<◌, ◌≤◌, List, ◌++◌, length, get_or, drop, refl, sym, ap, ◌∙◌, arith, length-drop, set, length-set, get_or-set_same, get_or-set_other}
-use Rattle.std.specs.Prelude.{IsTrue, slice_index}
+use Rattle.std.proofs.Common.{◌≡◌, ◌≢◌, inl, inr, ℕ, zero, suc, ◌+◌, ◌-◌, ◌*◌, ◌/◌, ◌%◌, ◌^◌, ◌<◌, ◌≤◌, List, ◌++◌, length, get_or, drop, refl, sym, ap, ◌∙◌, arith, length-drop, set, length-set, get_or-set_same, get_or-set_other, IsTrue, slice_index}
+use Rattle.nb_model.proofs.Common.{pow-suc, eqb_tells, get_or-append_right, get_or-drop, padded, is_page_size, bits_in, inventory_place, head_of, page_of, generation_of, stamped, bit_of, length-head_of, padded_whole, bits-least, inventory_index, Page, with_bit}
 use Rattle.std.specs.Int.{bit_at}
-use Rattle.std.proofs.Math.Nat.{pow-suc}
 use Rattle.std.proofs.lemmas.Nat.Bits.{bit_at_lowest, bit_at-suc}
-use Rattle.std.proofs.lemmas.Bool.Decides.{eqb_tells}
-use Rattle.std.proofs.lemmas.List.{get_or-append_right, get_or-drop}
-use Rattle.nb_fields.specs.Bytes.{padded}
-use Rattle.nb_fields.specs.Places.{is_page_size, bits_in, inventory_place}
-use Rattle.nb_fields.specs.Page.{head_of, page_of, generation_of, stamped}
-use Rattle.nb_fields.specs.Payloads.{bit_of}
-use Rattle.nb_fields.proofs.PageLaws.{length-head_of, padded_whole}
-use Rattle.nb_fields.proofs.PlaceLaws.{bits-least, inventory_index}
-use Rattle.nb_model.specs.Image.{Page}
-use Rattle.nb_model.specs.Forms.{with_bit}
 
 -- a number with bit m so
 abbrev with_number_bit : (n m b : ℕ) → ℕ

@@ -1,24 +1,10 @@
 -- The files of kept backups that go on from one another are accepted as a chain.
-use Rattle.std.proofs.Common.{◌≡◌, inl, inr, ℕ, suc, ◌+◌, ◌<◌, ◌≤◌, List, [], ◌∷◌, length, refl, sym, ap, subst, ◌∙◌, arith}
-use Rattle.std.specs.Prelude.{Bool, true, false, not, ◌&&◌, ◌||◌, ◌==◌, Some, None, Ok}
-use Rattle.std.proofs.lemmas.Bool.Decides.{leb_tells, eqb_tells}
-use Rattle.nb_fields.specs.Page.{stamp_of}
-use Rattle.nb_fields.specs.Places.{most_pages}
-use Rattle.nb_host.specs.Files.{Files}
-use Rattle.nb_host.specs.Names.{same_name}
-use Rattle.nb_host.specs.declared.refusals.Refusal.{Refusal}
-use Rattle.nb_model.specs.Image.{Page, Image, Numbered, image_size, first_page}
-use Rattle.nb_model.specs.Account.{Ask, Kept}
-use Rattle.nb_model.specs.Causes.{Cause, first_cause, when}
-use Rattle.nb_model.specs.Levels.{Head, IsHead, IsLevel, Contents, AreRising, AreOfSize, taken_from, taken, changed, head_for, file_for, file_of, level_bytes, begins_level, read_level, is_first_page}
-use Rattle.nb_model.specs.Restoring.{Link, level_link, not_behind, next_link, next_links, linked}
-use Rattle.nb_model.specs.Sound.{IsOfSize, IsSoundImage}
-use Rattle.nb_model.specs.Stands.{IsBegun}
-use Rattle.nb_model.specs.Line.{IsLine, IsKeptNext, HoldsNext, HoldLine, next_files}
+use Rattle.std.proofs.Common.{◌≡◌, inl, inr, ℕ, suc, ◌+◌, ◌<◌, ◌≤◌, List, [], ◌∷◌, length, refl, sym, ap, subst, ◌∙◌, arith, Bool, true, false, not, ◌&&◌, ◌||◌, ◌==◌, Some, None, Ok}
+use Rattle.nb_model.proofs.Common.{leb_tells, eqb_tells, stamp_of, most_pages, Files, same_name, Refusal, Page, Image, Numbered, image_size, first_page, Ask, Kept, Cause, first_cause, when, Head, IsHead, IsLevel, Contents, AreRising, AreOfSize, taken_from, taken, changed, head_for, file_for, file_of, level_bytes, begins_level, read_level, is_first_page, Link, level_link, not_behind, next_link, next_links, IsOfSize, IsSoundImage, IsBegun, IsLine, IsKeptNext, HoldsNext, HoldLine, next_files, same_self}
+use Rattle.nb_model.specs.Restoring.{linked}
 use Rattle.nb_model.proofs.ChangedLaws.{sound_changed}
 use Rattle.nb_model.proofs.ReadLaws.{eq_yes}
 use Rattle.nb_model.proofs.LevelLaws.{level_read, begins_there}
-use Rattle.nb_host.proofs.NameLaws.{same_self}
 
 pub weaker : (n : ℕ) (rs : List Numbered) → AreRising (n + 1) rs → AreRising n rs
 weaker n [] h = tt

@@ -1,14 +1,6 @@
 -- A chain is the same chain in another image that has its pages, or pages that lead on as they did.
-use Rattle.std.proofs.Common.{◌≡◌, ℕ, zero, suc, ◌<◌, ◌≤◌, List, [], ◌∷◌, ◌++◌, length, refl, sym, ap, subst, ◌∙◌, arith}
-use Rattle.std.specs.Prelude.{Bool, true, false, ◌==◌, nat_lt, Result, Ok, Err, None}
-use Rattle.std.specs.List.{AllByRecursion, list_all}
-use Rattle.std.proofs.lemmas.Bool.{and_parts, and_from, lt-ltb, ltb-true, eq-eqb, eqb-true}
-use Rattle.nb_fields.specs.Page.{kind_of}
-use Rattle.nb_fields.specs.Kinds.{data_kind}
-use Rattle.nb_model.specs.Causes.{broken_at}
-use Rattle.nb_model.specs.Chains.{Chain, first_of, owner_of, owner_in, next_in, is_slot, slots_in, is_in_chain, linked, walk, pages_of, found_pages, spots_on, spots_of, spots}
-use Rattle.nb_model.specs.Image.{Page, Image, page_at}
-use Rattle.nb_host.proofs.PlainLaws.{err_ok}
+use Rattle.std.proofs.Common.{◌≡◌, ℕ, zero, suc, ◌<◌, ◌≤◌, List, [], ◌∷◌, ◌++◌, length, refl, sym, ap, subst, ◌∙◌, arith, Bool, true, false, ◌==◌, nat_lt, Result, Ok, Err, None}
+use Rattle.nb_model.proofs.Common.{AllByRecursion, list_all, and_parts, and_from, lt-ltb, ltb-true, eq-eqb, eqb-true, kind_of, data_kind, broken_at, Chain, first_of, owner_of, owner_in, next_in, is_slot, slots_in, is_in_chain, linked, walk, pages_of, found_pages, spots_on, spots_of, spots, Page, Image, page_at, err_ok}
 
 -- a page has the form of those of the chain
 pub record HasForm (chain : Chain) (page : Page) : Type 0 where

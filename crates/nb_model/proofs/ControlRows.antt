@@ -1,14 +1,6 @@
 -- The control strokes of a backup change no row of a table: they write page 0 alone.
-use Rattle.std.proofs.Common.{◌≡◌, ◌≢◌, ℕ, ◌+◌, ◌≤◌, List, [], ◌∷◌, length, refl, sym, ap, subst, arith}
-use Rattle.std.specs.Prelude.{Option}
-use Rattle.nb_fields.specs.States.{normal_state, stalled_state, merge_state}
-use Rattle.nb_model.specs.Account.{Ask, Base}
-use Rattle.nb_model.specs.Chains.{Catalogue, History}
-use Rattle.nb_model.specs.Image.{Page, Image, image_state, image_scn, image_guid}
-use Rattle.nb_model.specs.RowChanges.{KeepsRows}
-use Rattle.nb_model.specs.Rows.{rows, IsNeat}
-use Rattle.nb_model.specs.Sound.{HasHeader, IsSoundImage}
-use Rattle.nb_model.specs.Strokes.{Stroke, begin, ends, finish, on_base, with_control}
+use Rattle.std.proofs.Common.{◌≡◌, ◌≢◌, ℕ, ◌+◌, ◌≤◌, List, [], ◌∷◌, length, refl, sym, ap, subst, arith, Option}
+use Rattle.nb_model.proofs.Common.{normal_state, stalled_state, merge_state, Ask, Base, Catalogue, History, Page, Image, image_state, image_scn, image_guid, KeepsRows, rows, IsNeat, HasHeader, IsSoundImage, Stroke, begin, ends, finish, on_base, with_control}
 use Rattle.nb_model.proofs.Along.{Along, along_front}
 use Rattle.nb_model.proofs.ControlMay.{may_begin, may_end, may_finish}
 use Rattle.nb_model.proofs.ControlSound.{MayControl, control_rest, control_long, new_size, new_free}

@@ -1,19 +1,6 @@
 -- A table is created: its page is made first, and it is there once its slot stands in the catalogue.
-use Rattle.std.proofs.Common.{◌≡◌, ◌≢◌, ◌⊎◌, inr, ℕ, ◌+◌, ◌≤◌, ◌<◌, List, [], ◌++◌, length, refl, sym, ap, subst, ◌∙◌, arith}
-use Rattle.std.specs.Prelude.{true, false, Option, None, is_some, Result, Ok, Err}
-use Rattle.std.specs.List.{AllByRecursion}
-use Rattle.std.proofs.lemmas.Bool.{or_parts}
-use Rattle.nb_fields.specs.Payloads.{data_payload}
-use Rattle.nb_fields.specs.Places.{is_system_place}
-use Rattle.nb_model.specs.Account.{Base}
-use Rattle.nb_model.specs.Chains.{Catalogue, History, RowsFrom, Slot, owner_in, next_in, is_slot, slots_in, Spot, pages_of, found_pages, spots_of, spots, free_spot, table_spot, table_slot, place_at, place_slot}
-use Rattle.nb_model.specs.Forms.{Draft, drafted, old_page}
-use Rattle.nb_model.specs.Image.{Page, Image, page_at, image_scn}
-use Rattle.nb_model.specs.RowChanges.{GivesRows}
-use Rattle.nb_model.specs.Rows.{chains, pages_of_all, rows, IsNeat}
-use Rattle.nb_model.specs.Sound.{HasHeader, IsSoundImage}
-use Rattle.nb_model.specs.Strokes.{base_after}
-use Rattle.nb_model.specs.TableNames.{is_table_name}
+use Rattle.std.proofs.Common.{◌≡◌, ◌≢◌, ◌⊎◌, inr, ℕ, ◌+◌, ◌≤◌, ◌<◌, List, [], ◌++◌, length, refl, sym, ap, subst, ◌∙◌, arith, true, false, Option, None, is_some, Result, Ok, Err}
+use Rattle.nb_model.proofs.Common.{AllByRecursion, or_parts, data_payload, is_system_place, Base, Catalogue, History, RowsFrom, Slot, owner_in, next_in, is_slot, slots_in, Spot, pages_of, found_pages, spots_of, spots, free_spot, table_spot, table_slot, place_at, place_slot, Draft, drafted, old_page, Page, Image, page_at, image_scn, GivesRows, chains, pages_of_all, rows, IsNeat, HasHeader, IsSoundImage, base_after, is_table_name}
 use Rattle.nb_model.proofs.Along.{Along, along_append, along_more}
 use Rattle.nb_model.proofs.ChainWalks.{HasForm}
 use Rattle.nb_model.proofs.DraftJoin.{joined}

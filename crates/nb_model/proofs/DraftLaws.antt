@@ -1,13 +1,6 @@
 -- What one write of the short forms keeps, every form keeps.
-use Rattle.std.proofs.Common.{◌≡◌, ℕ, zero, suc, List, [], ◌∷◌, refl, ap, ◌∙◌}
-use Rattle.std.specs.Prelude.{Bool, Option, Some, None, true, false, ◌==◌, nat_lt}
-use Rattle.nb_fields.specs.Places.{is_system_place, most_pages}
-use Rattle.nb_model.specs.Image.{Page, Image, image_size, image_scn, with_page}
-use Rattle.nb_model.specs.Account.{Base}
-use Rattle.nb_model.specs.Chains.{Chain, Slot, Spot, spots_of, free_spot, put_slot, last_of, grown, place_at, place_slot}
-use Rattle.nb_model.specs.Tables.{all_given}
-use Rattle.nb_model.specs.Strokes.{page, base_after, on_base, merged_page}
-use Rattle.nb_model.specs.Forms.{Draft, drafted, wrote, written, needs, is_kind, has_entry, scn_entry, entry_written, entry_raised, raised, put, set_bit, give_page, lowest_free, first_not, needed_at, system_kind, system_page, no_page, new_within}
+use Rattle.std.proofs.Common.{◌≡◌, ℕ, zero, suc, List, [], ◌∷◌, refl, ap, ◌∙◌, Bool, Option, Some, None, true, false, ◌==◌, nat_lt}
+use Rattle.nb_model.proofs.Common.{is_system_place, most_pages, Page, Image, image_size, image_scn, with_page, Base, Chain, Slot, Spot, spots_of, free_spot, put_slot, last_of, grown, place_at, place_slot, all_given, page, base_after, on_base, merged_page, Draft, drafted, wrote, written, needs, is_kind, has_entry, scn_entry, entry_written, entry_raised, raised, put, set_bit, give_page, lowest_free, first_not, needed_at, system_kind, system_page, no_page, new_within}
 use Rattle.nb_model.proofs.StrokeLaws.{base_after-append}
 
 -- What is kept by each write, and says nothing of what was read.

@@ -1,18 +1,6 @@
 -- A table is dropped: its slot in the catalogue is emptied first, and its pages are given back then, which changes nothing for the others.
-use Rattle.std.proofs.Common.{◌≡◌, ◌≢◌, ◌⊎◌, inl, inr, ℕ, zero, suc, ◌+◌, ◌*◌, ◌≤◌, List, [], ◌∷◌, ◌++◌, map, length, drop, refl, sym, ap, subst, ◌∙◌, arith}
-use Rattle.std.specs.Prelude.{false, None, Contains}
-use Rattle.std.specs.List.{AllByRecursion}
-use Rattle.nb_fields.specs.Bytes.{with_part}
-use Rattle.nb_model.specs.Account.{Base, base_of}
-use Rattle.nb_model.specs.Chains.{Chain, Catalogue, History, Spot, is_used, found_pages, spots, table_spot, free_slot, put_slot}
-use Rattle.nb_model.specs.Forms.{Draft, drafted, raised, give_page}
-use Rattle.nb_model.specs.Image.{Page, Image, page_at}
-use Rattle.nb_model.specs.Outcomes.{Seen}
-use Rattle.nb_model.specs.RowChanges.{GivesRows}
-use Rattle.nb_model.specs.Rows.{used, table_chains, chains, pages_of_all, rows, AreDistinct, IsNeat}
-use Rattle.nb_model.specs.Sound.{HasHeader, IsSoundImage}
-use Rattle.nb_model.specs.Strokes.{Stroke, on_base, base_after}
-use Rattle.nb_model.specs.Tables.{all_given}
+use Rattle.std.proofs.Common.{◌≡◌, ◌≢◌, ◌⊎◌, inl, inr, ℕ, zero, suc, ◌+◌, ◌*◌, ◌≤◌, List, [], ◌∷◌, ◌++◌, map, length, drop, refl, sym, ap, subst, ◌∙◌, arith, false, None, Contains}
+use Rattle.nb_model.proofs.Common.{AllByRecursion, with_part, Base, base_of, Chain, Catalogue, History, Spot, is_used, found_pages, spots, table_spot, free_slot, put_slot, Draft, drafted, raised, give_page, Page, Image, page_at, Seen, GivesRows, used, table_chains, chains, pages_of_all, rows, AreDistinct, IsNeat, HasHeader, IsSoundImage, Stroke, on_base, base_after, all_given}
 use Rattle.nb_model.proofs.Along.{Along, along_append, along_more, along_end, put_along}
 use Rattle.nb_model.proofs.DraftJoin.{Joins, joined, join_none, join_then, join_set_bit}
 use Rattle.nb_model.proofs.DraftLaws.{IsOf, drafted_is, drafts_are, set_bit_keeps}

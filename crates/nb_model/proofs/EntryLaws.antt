@@ -1,12 +1,6 @@
 -- Laws of the table of a difference file: which entry names a page.
-use Rattle.std.proofs.Common.{◌≡◌, ◌≢◌, ◌⊎◌, inl, inr, ℕ, suc, ◌<◌, List, [], ◌∷◌, ◌++◌, length, refl, sym, ap, subst, ◌∙◌, arith}
-use Rattle.std.specs.Prelude.{Bool, true, false, ◌||◌, nat_eq, Option, Some, None}
-use Rattle.std.specs.List.{list_any}
-use Rattle.std.proofs.lemmas.Bool.{true≢false}
-use Rattle.std.proofs.lemmas.Bool.Decides.{eqb_tells}
-use Rattle.nb_model.specs.Strokes.{noted}
-use Rattle.nb_model.specs.Owner.{entry_for}
-use Rattle.nb_host.proofs.PlainLaws.{none_some, some_same}
+use Rattle.std.proofs.Common.{◌≡◌, ◌≢◌, ◌⊎◌, inl, inr, ℕ, suc, ◌<◌, List, [], ◌∷◌, ◌++◌, length, refl, sym, ap, subst, ◌∙◌, arith, Bool, true, false, ◌||◌, nat_eq, Option, Some, None}
+use Rattle.nb_model.proofs.Common.{list_any, true≢false, eqb_tells, noted, entry_for, none_some, some_same}
 
 -- an entry after another
 abbrev behind_one : Option ℕ → Option ℕ

@@ -1,29 +1,7 @@
 -- A page of the SCN inventory stays one through every turn on pages, whatever else stands in the image: so a page that has its SCN entry goes on having
 -- it.
-use Rattle.std.proofs.Common.{◌≡◌, ◌≢◌, inl, inr, ℕ, zero, suc, ◌/◌, ◌≤◌, List, [], ◌∷◌, refl, sym, ap, subst, ◌∙◌, arith}
-use Rattle.std.specs.Prelude.{Bool, true, false, IsTrue, ◌==◌, nat_lt, Option, Some, None}
-use Rattle.std.specs.List.{AllByRecursion}
-use Rattle.std.proofs.lemmas.Bool.{true≢false, false_from_ne_true}
-use Rattle.std.proofs.lemmas.Bool.Decides.{eqb_tells}
-use Rattle.nb_fields.specs.Page.{kind_of}
-use Rattle.nb_fields.specs.Places.{is_page_size, bits_in, entries_in, is_inventory_place, is_scn_place, is_system_place, most_pages}
-use Rattle.nb_fields.specs.Kinds.{scn_kind}
-use Rattle.nb_host.specs.declared.refusals.Refusal.{Refusal}
-use Rattle.nb_model.specs.declared.statement.Statement.{Statement}
-use Rattle.nb_model.specs.declared.statement.Statement.TheVariants.{CreateDb, OpenDb, PageNew, Write, Free, Reclaim, CreateTable, DropTable, Insert, Update, Delete, Get, Scan, Forced, Access, ShowCache}
-use Rattle.nb_model.specs.Causes.{broken_at, not_raw}
-use Rattle.nb_model.specs.Chains.{Chain, Catalogue, Slot, Spot, spots, spots_of, found_pages, pages_of, is_in_chain, first_such, last_of, free_spot, table_spot, row_spot, put_slot, grown, place_at, place_slot}
-use Rattle.nb_model.specs.Forms.{HasItsEntry, Draft, drafted, wrote, written, old_page, needs, is_kind, has_entry, scn_entry, scn_page_of, inventory_of, entry_written, entry_raised, raised, put, set_bit, give_page, take_page, lowest_free, first_not, needed_at, system_kind, system_page, no_page, new_within}
-use Rattle.nb_model.specs.Image.{Page, Image, page_at, first_page, image_size, image_scn, with_page}
-use Rattle.nb_model.specs.Outcomes.{Seen, Outcome}
-use Rattle.nb_model.specs.Pages.{new_turn, write_turn, free_turn, forced_turn, access_turn, byte_strokes, cache_turn}
-use Rattle.nb_model.specs.Sound.{HasHeader}
-use Rattle.nb_model.specs.Strokes.{Stroke, merged_page, on_base, base_after}
-use Rattle.nb_model.specs.Tables.{all_given}
-use Rattle.nb_model.specs.Checks.{reclaim_turn, reclaimed}
-use Rattle.nb_model.specs.Leaks.{leaked}
-use Rattle.nb_model.specs.Turns.{first_turn}
-use Rattle.nb_model.specs.Well.{is_on_pages}
+use Rattle.std.proofs.Common.{◌≡◌, ◌≢◌, inl, inr, ℕ, zero, suc, ◌/◌, ◌≤◌, List, [], ◌∷◌, refl, sym, ap, subst, ◌∙◌, arith, Bool, true, false, IsTrue, ◌==◌, nat_lt, Option, Some, None}
+use Rattle.nb_model.proofs.Common.{AllByRecursion, true≢false, false_from_ne_true, eqb_tells, kind_of, is_page_size, bits_in, entries_in, is_inventory_place, is_scn_place, is_system_place, most_pages, scn_kind, Refusal, Statement, CreateDb, OpenDb, PageNew, Write, Free, Reclaim, CreateTable, DropTable, Insert, Update, Delete, Get, Scan, Forced, Access, ShowCache, broken_at, not_raw, Chain, Catalogue, Slot, Spot, spots, spots_of, found_pages, pages_of, is_in_chain, first_such, last_of, free_spot, table_spot, row_spot, put_slot, grown, place_at, place_slot, HasItsEntry, Draft, drafted, wrote, written, old_page, needs, is_kind, has_entry, scn_entry, scn_page_of, inventory_of, entry_written, entry_raised, raised, put, set_bit, give_page, take_page, lowest_free, first_not, needed_at, system_kind, system_page, no_page, new_within, Page, Image, page_at, first_page, image_size, image_scn, with_page, Seen, Outcome, new_turn, write_turn, free_turn, forced_turn, access_turn, byte_strokes, cache_turn, HasHeader, Stroke, merged_page, on_base, base_after, all_given, reclaim_turn, reclaimed, leaked, first_turn, is_on_pages}
 use Rattle.nb_model.proofs.ToldTurns.{does_more, told_strokes, pages_cases}
 use Rattle.nb_model.proofs.DraftLaws.{IsOf, drafts_are, drafted_is, either, put_keeps, set_bit_keeps, new_keeps, slot_keeps, at_keeps, place_keeps, given_keeps}
 use Rattle.nb_model.proofs.HeaderLaws.{header-size}

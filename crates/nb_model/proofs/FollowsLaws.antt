@@ -1,13 +1,6 @@
 -- Laws of lineage.
-use Rattle.std.proofs.Common.{◌≡◌, ◌≢◌, inl, inr, ℕ, zero, suc, ◌+◌, ◌-◌, ◌<◌, ◌≤◌, List, [], ◌∷◌, ◌++◌, length, drop, refl, sym, ap, subst, ◌∙◌, set, arith, length-append, length-set, get_or-set_same, get_or-set_other, append_assoc}
-use Rattle.std.specs.Prelude.{Contains}
-use Rattle.std.proofs.lemmas.List.{append-nil, get_or_append_left}
-use Rattle.std.proofs.lemmas.Bool.Decides.{eqb_tells, leb_tells}
-use Rattle.std.proofs.Math.Seq.{set-append_seam, get_or-append_seam}
-use Rattle.nb_fields.specs.Page.{stamp_of}
-use Rattle.nb_model.specs.Image.{Page, Image, page_at, image_size, first_page, written_at, overwritten}
-use Rattle.nb_model.specs.Levels.{taken_from, taken}
-use Rattle.nb_model.specs.Follows.{Follows, IsMixed}
+use Rattle.std.proofs.Common.{◌≡◌, ◌≢◌, inl, inr, ℕ, zero, suc, ◌+◌, ◌-◌, ◌<◌, ◌≤◌, List, [], ◌∷◌, ◌++◌, length, drop, refl, sym, ap, subst, ◌∙◌, set, arith, length-append, length-set, get_or-set_same, get_or-set_other, append_assoc, Contains}
+use Rattle.nb_model.proofs.Common.{append-nil, get_or_append_left, eqb_tells, leb_tells, set-append_seam, get_or-append_seam, stamp_of, Page, Image, page_at, image_size, first_page, written_at, overwritten, taken_from, taken, Follows, IsMixed}
 
 -- lineage goes on
 pub follows_on : {a b c : Image} {s t : ℕ} → Follows a s b → Follows b t c → s ≤ t → Follows a s c

@@ -1,17 +1,8 @@
 -- The form of a database: what it says of a file's bytes.
-use Rattle.std.proofs.Common.{◌≡◌, inl, inr, ℕ, suc, ◌*◌, ◌/◌, ◌%◌, ◌<◌, ◌≤◌, List, [], ◌∷◌, length, refl, sym, ap, ◌∙◌, arith, div-add-mod', mul-div_cancel}
-use Rattle.std.specs.Prelude.{Bool, true, false, IsTrue, not, ◌||◌, ◌==◌, nat_lt, Some, None, min}
-use Rattle.std.proofs.lemmas.Bool.{true≢false, or_parts, or_from}
-use Rattle.std.proofs.lemmas.Bool.Decides.{leb_tells, eqb_tells}
-use Rattle.std.proofs.Math.Nat.{mul-mod_left}
-use Rattle.nb_fields.specs.Header.{is_header, size_of}
-use Rattle.nb_fields.specs.Places.{is_page_size, most_pages}
-use Rattle.nb_host.specs.declared.refusals.Refusal.{Refusal}
-use Rattle.nb_host.specs.declared.refusals.Refusal.TheVariants.{NotDatabase}
-use Rattle.nb_model.specs.Causes.{Cause, first_cause, when, not_database}
+use Rattle.std.proofs.Common.{◌≡◌, inl, inr, ℕ, suc, ◌*◌, ◌/◌, ◌%◌, ◌<◌, ◌≤◌, List, [], ◌∷◌, length, refl, sym, ap, ◌∙◌, arith, div-add-mod', mul-div_cancel, Bool, true, false, IsTrue, not, ◌||◌, ◌==◌, nat_lt, Some, None, min}
+use Rattle.nb_model.proofs.Common.{true≢false, or_parts, or_from, leb_tells, eqb_tells, mul-mod_left, is_header, size_of, is_page_size, most_pages, Refusal, NotDatabase, Cause, first_cause, when, not_database, not_lt}
 use Rattle.nb_model.proofs.ReadLaws.{lt_no}
 use Rattle.nb_model.proofs.HeaderLaws.{header-size}
-use Rattle.nb_host.proofs.PlainLaws.{not_lt}
 
 -- what the form of a database says of a file's bytes
 pub record Formed (bytes : List ℕ) : Type 0 where

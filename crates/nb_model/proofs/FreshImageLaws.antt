@@ -1,30 +1,7 @@
 -- A new database: its image, and the file that holds it.
-use Rattle.std.proofs.Common.{◌≡◌, ℕ, zero, suc, ◌+◌, ◌-◌, ◌*◌, ◌/◌, ◌<◌, ◌≤◌, List, [], ◌∷◌, ◌++◌, length, drop, map, refl, sym, ap, subst, ◌∙◌, arith, append-nil}
-use Rattle.std.specs.Prelude.{Bool, true, false, IsTrue, not, ◌&&◌, ◌||◌, ◌==◌, nat_le, nat_lt, Some, if◌then◌else◌}
-use Rattle.std.specs.List.{AllByRecursion, flat_map, range_with_len}
-use Rattle.std.proofs.lemmas.Bool.{cond_both}
+use Rattle.std.proofs.Common.{◌≡◌, ℕ, zero, suc, ◌+◌, ◌-◌, ◌*◌, ◌/◌, ◌<◌, ◌≤◌, List, [], ◌∷◌, ◌++◌, length, drop, map, refl, sym, ap, subst, ◌∙◌, arith, append-nil, Bool, true, false, IsTrue, not, ◌&&◌, ◌||◌, ◌==◌, nat_le, nat_lt, Some, if◌then◌else◌}
+use Rattle.nb_model.proofs.Common.{AllByRecursion, flat_map, range_with_len, cond_both, PageKind, Header, Inventory, Data, Raw, ScnInventory, bytes_of, number_of, number_in, padded, is_zeros, code_of, is_page_size, is_system_place, entries_in, bits_in, head_of, page_of, control_block, header_payload, inventory_payload, same_entries, scn_payload, data_payload, text_payload, is_header, is_marked, is_sound, state_of, size_of, scn_of, next_plain, length_after, fresh_count, fresh_kind, fresh_payload, fresh_page, fresh, number_of-bytes_of, SizeFacts, size_facts, is_header-long, length-page_of, fresh_count-most, length-taken_bits, normal_state, put_at, Page, Image, page_at, first_page, image_size, image_state, image_scn, is_forced, is_read_only, joined, HasNoZeros, IsOfSize, HoldsMain}
 use Rattle.std.proofs.lemmas.List.FromFn.{length-map-range_with_len, get_or-map-range_with_len}
-use Rattle.nb_fields.specs.declared.kinds.PageKind.{PageKind}
-use Rattle.nb_fields.specs.declared.kinds.PageKind.TheVariants.{Header, Inventory, Data, Raw, ScnInventory}
-use Rattle.nb_fields.specs.Bytes.{bytes_of, number_of, number_in, padded, is_zeros}
-use Rattle.nb_fields.specs.Kinds.{code_of}
-use Rattle.nb_fields.specs.Places.{is_page_size, is_system_place, entries_in, bits_in}
-use Rattle.nb_fields.specs.Page.{head_of, page_of}
-use Rattle.nb_fields.specs.Payloads.{control_block, header_payload, inventory_payload, same_entries, scn_payload, data_payload, text_payload}
-use Rattle.nb_fields.specs.Header.{is_header, is_marked, is_sound, state_of, size_of, scn_of}
-use Rattle.nb_fields.specs.Fresh.{next_plain, length_after, fresh_count, fresh_kind, fresh_payload, fresh_page, fresh}
-use Rattle.nb_fields.proofs.NumberLaws.{number_of-bytes_of}
-use Rattle.nb_fields.proofs.SizeLaws.{SizeFacts, size_facts}
-use Rattle.nb_fields.proofs.HeaderLaws.{is_header-long}
-use Rattle.nb_fields.proofs.PageLaws.{length-page_of}
-use Rattle.nb_fields.proofs.LengthLaws.{fresh_count-most}
-use Rattle.nb_fields.proofs.FreshLaws.{length-taken_bits}
-use Rattle.nb_fields.specs.States.{normal_state}
-use Rattle.nb_host.specs.Files.{put_at}
-use Rattle.nb_model.specs.Image.{Page, Image, page_at, first_page, image_size, image_state, image_scn, is_forced, is_read_only}
-use Rattle.nb_model.specs.Levels.{joined}
-use Rattle.nb_model.specs.Sound.{HasNoZeros, IsOfSize}
-use Rattle.nb_model.specs.Main.{HoldsMain}
 use Rattle.nb_model.proofs.ImageLaws.{joined-flat_map, trimmed-no_zeros}
 use Rattle.nb_model.proofs.MainLaws.{IsLaid, main_laid}
 use Rattle.nb_model.proofs.PutLaws.{put-first}

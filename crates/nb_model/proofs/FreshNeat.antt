@@ -1,23 +1,6 @@
 -- A new database is neat: its catalogue and its history are a page each, without a used slot.
-use Rattle.std.proofs.Common.{◌≡◌, ℕ, zero, suc, ◌+◌, ◌-◌, ◌/◌, ◌%◌, ◌<◌, ◌≤◌, List, [], ◌∷◌, ◌++◌, length, drop, replicate, refl, sym, ap, subst, ◌∙◌, arith}
-use Rattle.std.specs.Prelude.{Bool, true, false, ◌==◌, nat_lt, IsTrue, if◌then◌else◌, Ok}
-use Rattle.std.specs.List.{AllByRecursion}
-use Rattle.std.proofs.Math.Nat.{mod-eq_of_lt}
-use Rattle.std.proofs.lemmas.Bool.{cond-true, cond-false, ne_eqb, eq-eqb, lt-ltb, and_right}
-use Rattle.std.proofs.lemmas.List.{append-nil}
-use Rattle.nb_fields.specs.declared.kinds.PageKind.{PageKind}
-use Rattle.nb_fields.specs.declared.kinds.PageKind.TheVariants.{Data}
-use Rattle.nb_fields.specs.Bytes.{bytes_of, number_of, number_in, padded, is_zeros}
-use Rattle.nb_fields.specs.Fresh.{fresh_kind, fresh_payload, fresh_page, fresh}
-use Rattle.nb_fields.specs.Kinds.{code_of, data_kind}
-use Rattle.nb_fields.specs.Page.{head_of, page_of, kind_of}
-use Rattle.nb_fields.specs.Payloads.{data_payload, bit_of}
-use Rattle.nb_fields.specs.Places.{is_page_size, entries_in, bits_in, inventory_place, is_inventory_place, is_scn_place}
-use Rattle.nb_fields.proofs.PlaceLaws.{entries-least, bits-least}
-use Rattle.nb_model.specs.Chains.{Chain, Catalogue, History, Spot, first_of, owner_of, owner_in, next_in, is_slot, slots_in, walk, pages_of, found_pages, spots_on, spots_of, spots}
-use Rattle.nb_model.specs.Forms.{is_free_page}
-use Rattle.nb_model.specs.Image.{Page, Image, page_at}
-use Rattle.nb_model.specs.Rows.{used, table_chains, chains, pages_of_all, AreDistinct, names_of, IsNeat}
+use Rattle.std.proofs.Common.{◌≡◌, ℕ, zero, suc, ◌+◌, ◌-◌, ◌/◌, ◌%◌, ◌<◌, ◌≤◌, List, [], ◌∷◌, ◌++◌, length, drop, replicate, refl, sym, ap, subst, ◌∙◌, arith, Bool, true, false, ◌==◌, nat_lt, IsTrue, if◌then◌else◌, Ok}
+use Rattle.nb_model.proofs.Common.{AllByRecursion, mod-eq_of_lt, cond-true, cond-false, ne_eqb, eq-eqb, lt-ltb, and_right, append-nil, PageKind, Data, bytes_of, number_of, number_in, padded, is_zeros, fresh_kind, fresh_payload, fresh_page, fresh, code_of, data_kind, head_of, page_of, kind_of, data_payload, bit_of, is_page_size, entries_in, bits_in, inventory_place, is_inventory_place, is_scn_place, entries-least, bits-least, Chain, Catalogue, History, Spot, first_of, owner_of, owner_in, next_in, is_slot, slots_in, walk, pages_of, found_pages, spots_on, spots_of, spots, is_free_page, Page, Image, page_at, used, table_chains, chains, pages_of_all, AreDistinct, names_of, IsNeat}
 use Rattle.nb_model.proofs.ChainWalks.{HasForm, there_by, walk_on_is, onward, found_is, spots_are}
 use Rattle.nb_model.proofs.FreshImageLaws.{fresh_count-least, fresh_length}
 use Rattle.nb_model.proofs.FreshSound.{fresh_rest, shows, fresh_at, size_is}

@@ -1,10 +1,6 @@
 -- The database of an entry of the account is that of its files.
-use Rattle.std.proofs.Common.{◌≡◌, ℕ, List, refl, ap, ◌∙◌}
-use Rattle.std.specs.Prelude.{Result, Ok, Err, Some, None}
-use Rattle.nb_host.specs.Files.{File}
-use Rattle.nb_host.specs.declared.refusals.Refusal.{Refusal}
-use Rattle.nb_model.specs.Account.{Base, Entry, Missing, Plain, IsBase}
-use Rattle.nb_model.specs.Owner.{owner, entry_of_files}
+use Rattle.std.proofs.Common.{◌≡◌, ℕ, List, refl, ap, ◌∙◌, Result, Ok, Err, Some, None}
+use Rattle.nb_model.proofs.Common.{File, Refusal, Base, Entry, Missing, Plain, IsBase, owner, entry_of_files}
 
 -- the database of an entry is that of the files
 pub owner_of_entry : (name : List ℕ) (main delta : File) (b : Base) → entry_of_files name main delta ≡ IsBase b → owner name main delta ≡ Ok b

@@ -1,31 +1,8 @@
 -- What holds between two turns holds after each turn.
-use Rattle.std.proofs.Common.{◌≡◌, ◌≢◌, inl, inr, ◌⊎◌, ℕ, zero, suc, ◌+◌, ◌-◌, ◌<◌, ◌≤◌, List, [], ◌∷◌, ◌++◌, length, map, drop, replicate, get_or, set, refl, sym, ap, subst, ◌∙◌, arith, append_assoc}
-use Rattle.std.specs.Prelude.{Bool, Option, Some, None, true, false, ◌==◌, ◌&&◌}
-use Rattle.std.specs.List.{AllByRecursion, slice_index_or}
+use Rattle.std.proofs.Common.{◌≡◌, ◌≢◌, inl, inr, ◌⊎◌, ℕ, zero, suc, ◌+◌, ◌-◌, ◌<◌, ◌≤◌, List, [], ◌∷◌, ◌++◌, length, map, drop, replicate, get_or, set, refl, sym, ap, subst, ◌∙◌, arith, append_assoc, Bool, Option, Some, None, true, false, ◌==◌, ◌&&◌}
+use Rattle.nb_model.proofs.Common.{AllByRecursion, slice_index_or, true≢false, eqb-true, eqb-false, leb-true, eqb_tells, leb_tells, get_or_past, get_or-set_same, get_or-set_other, is_header, scn_of, guid_of, normal_state, stalled_state, merge_state, is_name, Refusal, HasItsEntry, Reply, Statement, Base, Account, Ask, room_in, close_backup, close_copy, is_free_entry, runs_other, broken_at, not_of_form, short_for, History, pages_of, spots, free_spot, AreBeginnings, AreMerging, IsNamed, AreNamed, HasRoom, Runs, IsAt, waits, backs_up, copies, merges, IsGoing, IsMaking, Page, Image, first_page, image_size, image_state, image_scn, image_guid, trimmed, Turn, Begins, Copies, ClosesBackup, ClosesCopy, Ends, Merges, Finishes, Backing, Seen, Outcome, Given, next_guid, passes, ends_by, end_strokes, Now, Played, base_now, account_after, outcome, stands_then, take_turn, one_turn, play, event_of, begun, files_made, HasHeader, IsSoundImage, Stroke, begin, ends, finish, on_base, base_after, with_control, first_turn, turn, is_on_pages, some_same}
 use Rattle.std.proofs.Math.ListN.{get_or-map}
-use Rattle.std.proofs.lemmas.Bool.{true≢false, eqb-true, eqb-false, leb-true}
-use Rattle.std.proofs.lemmas.Bool.Decides.{eqb_tells, leb_tells}
-use Rattle.std.proofs.lemmas.List.{get_or_past, get_or-set_same, get_or-set_other}
-use Rattle.nb_fields.specs.Header.{is_header, scn_of, guid_of}
-use Rattle.nb_fields.specs.States.{normal_state, stalled_state, merge_state}
-use Rattle.nb_host.specs.Names.{is_name}
-use Rattle.nb_host.specs.declared.refusals.Refusal.{Refusal}
-use Rattle.nb_model.specs.Forms.{HasItsEntry}
-use Rattle.nb_model.specs.declared.reply.Reply.{Reply}
-use Rattle.nb_model.specs.declared.statement.Statement.{Statement}
-use Rattle.nb_model.specs.Account.{Base, Account, Ask}
-use Rattle.nb_model.specs.Backups.{room_in, close_backup, close_copy}
-use Rattle.nb_model.specs.Causes.{is_free_entry, runs_other, broken_at, not_of_form, short_for}
-use Rattle.nb_model.specs.Chains.{History, pages_of, spots, free_spot}
-use Rattle.nb_model.specs.Going.{AreBeginnings, AreMerging, IsNamed, AreNamed, HasRoom, Runs, IsAt, waits, backs_up, copies, ends as ending, merges, IsGoing, IsMaking}
-use Rattle.nb_model.specs.Image.{Page, Image, first_page, image_size, image_state, image_scn, image_guid, trimmed}
-use Rattle.nb_model.specs.Outcomes.{Turn, Begins, Copies, ClosesBackup, ClosesCopy, Ends, Merges, Finishes, Backing, Seen, Outcome, Given, next_guid, passes}
-use Rattle.nb_model.specs.Pages.{ends_by, end_strokes}
-use Rattle.nb_model.specs.Run.{Now, Played, base_now, account_after, outcome, stands_then, take_turn, one_turn, play, event_of, begun, files_made}
-use Rattle.nb_model.specs.Sound.{HasHeader, IsSoundImage}
-use Rattle.nb_model.specs.Strokes.{Stroke, begin, ends, finish, on_base, base_after, with_control}
-use Rattle.nb_model.specs.Turns.{first_turn, turn}
-use Rattle.nb_model.specs.Well.{is_on_pages}
+use Rattle.nb_model.specs.Going.{ends as ending}
 use Rattle.nb_model.proofs.ControlMay.{may_begin, may_end, may_finish}
 use Rattle.nb_model.proofs.ControlSound.{MayControl, state_then, header_then}
 use Rattle.nb_model.proofs.EntryStays.{entry_stays}
@@ -42,7 +19,6 @@ use Rattle.nb_model.proofs.TurnCases as cases
 use Rattle.nb_model.proofs.StrokeLaws.{base_after-append}
 use Rattle.nb_model.proofs.TrimLaws.{trimmed_front, finish_base}
 use Rattle.nb_model.proofs.UnseenLaws.{free_unseen}
-use Rattle.nb_host.proofs.PlainLaws.{some_same}
 
 -- the GUIDs that may still be given have 16 bytes
 abbrev AreSixteen : List (List ℕ) → Type 0

@@ -1,14 +1,6 @@
 -- A page that is held stays along the strokes that put another page, take one, and make a new one.
-use Rattle.std.proofs.Common.{◌≡◌, ◌≢◌, ℕ, zero, suc, ◌/◌, ◌<◌, ◌≤◌, List, [], ◌∷◌, length, drop, refl, sym, ap, subst, ◌∙◌, arith}
-use Rattle.std.specs.Prelude.{Bool, true, false, ◌==◌}
-use Rattle.std.proofs.lemmas.Bool.{true≢false, or_parts}
-use Rattle.nb_fields.specs.Payloads.{bit_of}
-use Rattle.nb_fields.specs.Places.{bits_in, is_system_place}
-use Rattle.nb_fields.specs.Kinds.{inventory_kind}
-use Rattle.nb_model.specs.Account.{Base}
-use Rattle.nb_model.specs.Forms.{Draft, drafted, is_kind, put, with_bit, set_bit, take_page, inventory_of, bit_number, lowest_free, system_kind, system_payload, system_page, new_within}
-use Rattle.nb_model.specs.Image.{Page, Image, page_at, image_size}
-use Rattle.nb_model.specs.Strokes.{Stroke, on_base, base_after}
+use Rattle.std.proofs.Common.{◌≡◌, ◌≢◌, ℕ, zero, suc, ◌/◌, ◌<◌, ◌≤◌, List, [], ◌∷◌, length, drop, refl, sym, ap, subst, ◌∙◌, arith, Bool, true, false, ◌==◌}
+use Rattle.nb_model.proofs.Common.{true≢false, or_parts, bit_of, bits_in, is_system_place, inventory_kind, Base, Draft, drafted, is_kind, put, with_bit, set_bit, take_page, inventory_of, bit_number, lowest_free, system_kind, system_payload, system_page, new_within, Page, Image, page_at, image_size, Stroke, on_base, base_after}
 use Rattle.nb_model.proofs.Along.{Along, along_append, put_along}
 use Rattle.nb_model.proofs.DraftJoin.{joined_new}
 use Rattle.nb_model.proofs.DraftLaws.{IsOf, drafted_is, drafts_are, put_keeps, system_keeps, set_bit_keeps}

@@ -1,14 +1,6 @@
 -- In a neat image each page of a chain is taken, so what keeps such pages keeps the chains.
-use Rattle.std.proofs.Common.{◌≡◌, ◌≢◌, ◌⊎◌, inl, inr, ⊎_elim, ℕ, suc, ◌<◌, ◌≤◌, List, [], ◌∷◌, ◌++◌, length, refl, sym, ap, subst, ◌∙◌, arith}
-use Rattle.std.specs.Prelude.{true, false, ◌==◌, Result, Ok, None, Contains}
-use Rattle.std.specs.List.{AllByRecursion}
-use Rattle.std.proofs.lemmas.Bool.Decides.{eqb_tells}
-use Rattle.nb_model.specs.Causes.{broken_at}
-use Rattle.nb_model.specs.Chains.{Chain, History, next_in, is_in_chain, pages_of, found_pages, spots}
-use Rattle.nb_model.specs.Forms.{is_free_page}
-use Rattle.nb_model.specs.Image.{Page, Image, page_at, image_size}
-use Rattle.nb_model.specs.Rows.{chains, pages_of_all, IsNeat}
-use Rattle.nb_model.specs.Sound.{HasHeader, IsSoundImage}
+use Rattle.std.proofs.Common.{◌≡◌, ◌≢◌, ◌⊎◌, inl, inr, ⊎_elim, ℕ, suc, ◌<◌, ◌≤◌, List, [], ◌∷◌, ◌++◌, length, refl, sym, ap, subst, ◌∙◌, arith, true, false, ◌==◌, Result, Ok, None, Contains}
+use Rattle.nb_model.proofs.Common.{AllByRecursion, eqb_tells, broken_at, Chain, History, next_in, is_in_chain, pages_of, found_pages, spots, is_free_page, Page, Image, page_at, image_size, chains, pages_of_all, IsNeat, HasHeader, IsSoundImage}
 use Rattle.nb_model.proofs.ChainWalks.{HasForm, there_by, StaysLinked, linked_same, pages_stay, found_is, spots_same, spots_are}
 use Rattle.nb_model.proofs.HeldLaws.{IsHeld}
 use Rattle.nb_model.proofs.NeatLaws.{all_go, all_both, once_chain, ChangesChain}

@@ -1,22 +1,6 @@
 -- Where room is made for a row of the history, its page is held, and each row on it is one that stood on a page of the history.
-use Rattle.std.proofs.Common.{◌≡◌, ◌≢◌, inl, inr, ℕ, ◌+◌, ◌/◌, ◌<◌, ◌≤◌, List, [], ◌∷◌, length, drop, refl, sym, ap, subst, ◌∙◌, arith}
-use Rattle.std.specs.Prelude.{Bool, true, false, Contains, Option, Some, None}
-use Rattle.std.specs.List.{AllByRecursion}
-use Rattle.std.proofs.lemmas.Bool.{true≢false}
-use Rattle.std.proofs.lemmas.Bool.Decides.{eqb_tells}
-use Rattle.nb_fields.specs.Bytes.{bytes_of, with_part}
-use Rattle.nb_fields.specs.Page.{stamped}
-use Rattle.nb_fields.specs.Payloads.{data_payload}
-use Rattle.nb_fields.specs.Places.{bits_in, entries_in, is_inventory_place, is_system_place, most_pages}
-use Rattle.nb_fields.proofs.SizeLaws.{SizeFacts, size_facts}
-use Rattle.nb_fields.specs.Kinds.{data_kind}
-use Rattle.nb_model.specs.Account.{Base}
-use Rattle.nb_model.specs.Backups.{Room, needs_taken, room_in}
-use Rattle.nb_model.specs.Causes.{broken_at, not_of_form, lowest_broken}
-use Rattle.nb_model.specs.Chains.{History, Slot, Spot, next_in, owner_in, is_used, slots_in, spots, pages_of, found_pages, free_spot, is_in_chain, last_of, grown}
-use Rattle.nb_model.specs.Forms.{Draft, drafted, old_page, put, needs, is_free_page, inventory_of, scn_page_of, new_page, wants}
-use Rattle.nb_model.specs.Image.{Page, Image, page_at, image_size, image_scn}
-use Rattle.nb_model.specs.Sound.{HasHeader, IsSoundImage}
+use Rattle.std.proofs.Common.{◌≡◌, ◌≢◌, inl, inr, ℕ, ◌+◌, ◌/◌, ◌<◌, ◌≤◌, List, [], ◌∷◌, length, drop, refl, sym, ap, subst, ◌∙◌, arith, Bool, true, false, Contains, Option, Some, None}
+use Rattle.nb_model.proofs.Common.{AllByRecursion, true≢false, eqb_tells, bytes_of, with_part, stamped, data_payload, bits_in, entries_in, is_inventory_place, is_system_place, most_pages, SizeFacts, size_facts, data_kind, Base, Room, needs_taken, room_in, broken_at, not_of_form, lowest_broken, History, Slot, Spot, next_in, owner_in, is_used, slots_in, spots, pages_of, found_pages, free_spot, is_in_chain, last_of, grown, Draft, drafted, old_page, put, needs, is_free_page, inventory_of, scn_page_of, new_page, wants, Page, Image, page_at, image_size, image_scn, HasHeader, IsSoundImage}
 use Rattle.nb_model.proofs.DraftJoin.{join_put}
 use Rattle.nb_model.proofs.FitLaws.{IsWhole, form_page}
 use Rattle.nb_model.proofs.HeldLaws.{IsHeld, IsOfHistory, IsMade, held_put, new_is_made}

@@ -1,14 +1,6 @@
 -- Lists of pages: their bytes joined and cut again, and the pages of zeros at their end.
-use Rattle.std.proofs.Common.{◌≡◌, inl, inr, ℕ, zero, suc, ◌+◌, ◌*◌, ◌<◌, ◌≤◌, List, [], ◌∷◌, ◌++◌, length, take, drop, replicate, refl, sym, ap, ◌∙◌, arith, length-append, append_assoc, suc-mul}
-use Rattle.std.specs.Prelude.{Bool, true, false}
-use Rattle.std.specs.List.{AllByRecursion, flat_map}
-use Rattle.std.proofs.lemmas.Bool.{cases_Bool}
-use Rattle.std.proofs.lemmas.Bool.Decides.{leb_tells}
-use Rattle.std.proofs.lemmas.List.{take_at, drop_at, length-drop, length-take-le, take-append-drop, replicate-append-replicate}
-use Rattle.nb_fields.specs.Bytes.{is_zeros}
-use Rattle.nb_model.specs.Image.{Page, Image, page_at, cut, trimmed}
-use Rattle.nb_model.specs.Levels.{joined}
-use Rattle.nb_model.specs.Sound.{HasNoZeros, IsOfSize}
+use Rattle.std.proofs.Common.{◌≡◌, inl, inr, ℕ, zero, suc, ◌+◌, ◌*◌, ◌<◌, ◌≤◌, List, [], ◌∷◌, ◌++◌, length, take, drop, replicate, refl, sym, ap, ◌∙◌, arith, length-append, append_assoc, suc-mul, Bool, true, false}
+use Rattle.nb_model.proofs.Common.{AllByRecursion, flat_map, cases_Bool, leb_tells, take_at, drop_at, length-drop, length-take-le, take-append-drop, replicate-append-replicate, is_zeros, Page, Image, page_at, cut, trimmed, joined, HasNoZeros, IsOfSize}
 
 -- each page is all zeros
 abbrev pub AreZeros : List Page → Type 0

@@ -1,11 +1,6 @@
 -- A list with one element more, somewhere.
-use Rattle.std.proofs.Common.{◌≡◌, ◌≢◌, ◌⊎◌, inl, inr, ℕ, List, [], ◌∷◌, ◌++◌, map, refl, sym, ap, subst, ◌∙◌}
-use Rattle.std.specs.Prelude.{Bool, true, false}
-use Rattle.std.specs.List.{AllByRecursion}
-use Rattle.std.proofs.lemmas.Bool.{true≢false}
-use Rattle.nb_model.specs.Chains.{Spot, is_used, table_of, found_pages}
-use Rattle.nb_model.specs.Image.{Image}
-use Rattle.nb_model.specs.Rows.{used, table_chains, pages_of_all, names_of, AreDistinct}
+use Rattle.std.proofs.Common.{◌≡◌, ◌≢◌, ◌⊎◌, inl, inr, ℕ, List, [], ◌∷◌, ◌++◌, map, refl, sym, ap, subst, ◌∙◌, Bool, true, false}
+use Rattle.nb_model.proofs.Common.{AllByRecursion, true≢false, Spot, is_used, table_of, found_pages, Image, used, table_chains, pages_of_all, names_of, AreDistinct}
 use Rattle.nb_model.proofs.NeatLaws.{pages_first, tables_first, used_yes, used_not}
 use Rattle.nb_model.proofs.SpotKeys.{ChangesOnce}
 use Rattle.nb_model.proofs.TableCases.{chain_at}

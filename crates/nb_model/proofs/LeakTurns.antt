@@ -1,25 +1,6 @@
 -- Leaked pages are given back: the strokes fit, each at its point, and a page that the history leads to stays taken.
-use Rattle.std.proofs.Common.{◌≡◌, ◌≢◌, inl, inr, ℕ, zero, suc, ◌+◌, ◌<◌, ◌≤◌, List, [], ◌∷◌, ◌++◌, length, refl, sym, ap, subst, ◌∙◌, arith}
-use Rattle.std.specs.Prelude.{Bool, true, false, cond, ◌||◌, ◌==◌, not, nat_eq, Contains, Some, None}
-use Rattle.std.specs.List.{AllByRecursion, filter, range_with_len}
-use Rattle.std.proofs.lemmas.List.Elements.{Contains-append_left, Contains-append_right}
-use Rattle.std.proofs.lemmas.Bool.{and_parts, cases_Bool, true≢false, eqb-true, or_cases}
-use Rattle.nb_fields.specs.Page.{kind_of}
-use Rattle.nb_fields.specs.Places.{is_inventory_place, is_scn_place, is_system_place}
-use Rattle.nb_fields.specs.Kinds.{data_kind}
-use Rattle.nb_model.specs.Account.{Base}
-use Rattle.nb_model.specs.declared.reply.Reply.TheVariants.{Freed, Refused}
-use Rattle.nb_model.specs.Causes.{Cause, broken_at}
-use Rattle.nb_model.specs.Chains.{Catalogue, History, pages_of, found_pages}
-use Rattle.nb_model.specs.Checks.{reclaim_cause, reclaimed, reclaim_turn}
-use Rattle.nb_model.specs.Forms.{Draft, drafted, give_page, is_free_page}
-use Rattle.nb_model.specs.Image.{Page, Image, page_at, first_page, image_size}
-use Rattle.nb_model.specs.Leaks.{is_among, is_taken_data, is_leaked, leaked, reached}
-use Rattle.nb_model.specs.Outcomes.{Seen, Outcome, says, unless}
-use Rattle.nb_model.specs.Rows.{used, table_chains, chains, pages_of_all}
-use Rattle.nb_model.specs.Sound.{HasHeader, IsSoundImage}
-use Rattle.nb_model.specs.Strokes.{Stroke, base_after}
-use Rattle.nb_model.specs.Tables.{all_given}
+use Rattle.std.proofs.Common.{◌≡◌, ◌≢◌, inl, inr, ℕ, zero, suc, ◌+◌, ◌<◌, ◌≤◌, List, [], ◌∷◌, ◌++◌, length, refl, sym, ap, subst, ◌∙◌, arith, Bool, true, false, cond, ◌||◌, ◌==◌, not, nat_eq, Contains, Some, None}
+use Rattle.nb_model.proofs.Common.{AllByRecursion, filter, range_with_len, Contains-append_left, Contains-append_right, and_parts, cases_Bool, true≢false, eqb-true, or_cases, kind_of, is_inventory_place, is_scn_place, is_system_place, data_kind, Base, Freed, Refused, Cause, broken_at, Catalogue, History, pages_of, found_pages, reclaim_cause, reclaimed, reclaim_turn, Draft, drafted, give_page, is_free_page, Page, Image, page_at, first_page, image_size, is_among, is_taken_data, is_leaked, leaked, reached, Seen, Outcome, says, unless, used, table_chains, chains, pages_of_all, HasHeader, IsSoundImage, Stroke, base_after, all_given}
 use Rattle.nb_model.proofs.BitSound.{bit_put}
 use Rattle.nb_model.proofs.DropTurns.{join_given}
 use Rattle.nb_model.proofs.FitLaws.{IsWhole, AreFitting, Fits, fits_first, fitting_append}

@@ -1,14 +1,7 @@
 -- The walk over the pages of a level file that is read: what holds at its end, and of pages before others that it holds of, holds of all.
-use Rattle.std.proofs.Common.{◌≡◌, ◌≢◌, inl, inr, ℕ, zero, suc, ◌+◌, ◌*◌, ◌<◌, ◌≤◌, List, [], ◌∷◌, ◌++◌, length, drop, refl, sym, ap, subst, ◌∙◌, arith}
-use Rattle.std.specs.Prelude.{Bool, true, false, not, ◌&&◌, ◌||◌, ◌==◌, nat_lt, nat_le, Option, Some, None, Result, Ok, Err}
-use Rattle.std.proofs.lemmas.Bool.{true≢false, eqb-true, or_parts}
-use Rattle.std.proofs.lemmas.Bool.Decides.{eqb_tells, leb_tells}
-use Rattle.nb_fields.specs.Bytes.{number_in, part}
-use Rattle.nb_fields.specs.Places.{most_pages}
-use Rattle.nb_model.specs.Image.{Numbered}
-use Rattle.nb_model.specs.Levels.{Head, Test, first_fault, behind, end_mark, read_end, read_singles, read_runs, pages_in, barred_after, is_bad_number, is_first_page}
+use Rattle.std.proofs.Common.{◌≡◌, ◌≢◌, inl, inr, ℕ, zero, suc, ◌+◌, ◌*◌, ◌<◌, ◌≤◌, List, [], ◌∷◌, ◌++◌, length, drop, refl, sym, ap, subst, ◌∙◌, arith, Bool, true, false, not, ◌&&◌, ◌||◌, ◌==◌, nat_lt, nat_le, Option, Some, None, Result, Ok, Err}
+use Rattle.nb_model.proofs.Common.{true≢false, eqb-true, or_parts, eqb_tells, leb_tells, number_in, part, most_pages, Numbered, Head, Test, first_fault, behind, end_mark, read_end, read_singles, read_runs, pages_in, barred_after, is_bad_number, is_first_page, not_le}
 use Rattle.nb_model.proofs.ReadLaws.{AreClear, single_tests, run_tests, single_there, run_there}
-use Rattle.nb_host.proofs.PlainLaws.{not_le}
 
 -- where no test fails each is passed
 clear_head : (t : Test) (ts : List Test) → first_fault (t ∷ ts) ≡ None → (t.0 ≡ false) × (first_fault ts ≡ None)

@@ -1,27 +1,7 @@
 -- The files go on to stand for the account where a backup or a copy makes files.
-use Rattle.std.proofs.Common.{◌≡◌, ◌≢◌, ◌≤◌, ◌⊎◌, inl, inr, ℕ, zero, suc, List, [], ◌∷◌, length, take, refl, sym, ap, subst, ◌∙◌, arith}
-use Rattle.std.specs.Prelude.{Bool, true, false, if◌then◌else◌, ◌==◌, Option, Some, None, Result, Ok, Err, IsTrue, Contains}
-use Rattle.std.specs.Cmp.Lexicographic.{told_text}
-use Rattle.std.proofs.lemmas.Bool.{true≢false, and_parts}
-use Rattle.std.proofs.lemmas.Bool.Decides.{eqb_tells}
-use Rattle.std.proofs.lemmas.List.{append-nil, take_at}
-use Rattle.nb_fields.specs.Bytes.{bytes_of, number_in, part}
-use Rattle.nb_fields.specs.Free.{is_free_file}
-use Rattle.nb_fields.specs.Header.{is_header, state_of, guid_of}
-use Rattle.nb_fields.proofs.NumberLaws.{number_of-bytes_of}
-use Rattle.nb_fields.proofs.PartLaws.{part-take, length-part}
-use Rattle.nb_fields.specs.States.{stalled_state, applying_state}
-use Rattle.nb_host.specs.Files.{File, Files, with_file}
-use Rattle.nb_host.specs.Names.{same_name, is_delta}
-use Rattle.nb_host.specs.declared.refusals.Refusal.{Refusal}
-use Rattle.nb_host.specs.declared.refusals.Refusal.TheVariants.{NoFile}
-use Rattle.nb_model.specs.Image.{Image, Numbered, first_page}
-use Rattle.nb_model.specs.Account.{Ask, Kept, Base, Entry, Plain, IsBase, Account, with_entry}
-use Rattle.nb_model.specs.Causes.{Cause, not_database}
-use Rattle.nb_model.specs.Levels.{Head, Contents, first_fault, head_for, head_in, head_then, joined, changed, level_bytes, file_for, file_of, read_level, read_pages, with_head}
-use Rattle.nb_model.specs.Making.{MadeFile, IsNoneOf, IsOfKept, its_file, its_pages, IsNoBackup}
-use Rattle.nb_model.specs.Owner.{delta_name, owner, owner_in, owner_with, entry_in, entry_of_files}
-use Rattle.nb_model.specs.Stands.{IsKeptAs, IsBegun, IsFileOf, IsCopyOf, IsSpan, HoldsItsRecord, is_applying, Stands}
+use Rattle.std.proofs.Common.{◌≡◌, ◌≢◌, ◌≤◌, ◌⊎◌, inl, inr, ℕ, zero, suc, List, [], ◌∷◌, length, take, refl, sym, ap, subst, ◌∙◌, arith, Bool, true, false, if◌then◌else◌, ◌==◌, Option, Some, None, Result, Ok, Err, IsTrue, Contains}
+use Rattle.nb_model.proofs.Common.{told_text, true≢false, and_parts, eqb_tells, append-nil, take_at, bytes_of, number_in, part, is_free_file, is_header, state_of, guid_of, number_of-bytes_of, part-take, length-part, stalled_state, applying_state, File, Files, with_file, same_name, is_delta, Refusal, NoFile, Image, Numbered, first_page, Ask, Kept, Base, Entry, Plain, IsBase, Account, with_entry, Cause, not_database, Head, Contents, first_fault, head_for, head_in, head_then, joined, changed, level_bytes, file_for, file_of, read_level, read_pages, with_head, MadeFile, IsNoneOf, IsOfKept, its_file, its_pages, IsNoBackup, delta_name, owner, owner_with, entry_in, entry_of_files, IsKeptAs, IsBegun, IsFileOf, IsCopyOf, IsSpan, HoldsItsRecord, is_applying, Stands, decide, same_self, some_same}
+use Rattle.nb_model.specs.Owner.{owner_in}
 use Rattle.nb_model.proofs.FreeLaws.{closed_under, free_under, stands_files}
 use Rattle.nb_model.proofs.FrontLaws.{owner_of_entry}
 use Rattle.nb_model.proofs.HeaderLaws.{header-long, same-header, same-number}
@@ -30,8 +10,6 @@ use Rattle.nb_model.proofs.MainLaws.{owner-formed, owner-refused, owner-none}
 use Rattle.nb_model.proofs.OpenedLaws.{joined_front, has_main}
 use Rattle.nb_model.proofs.SoundLaws.{kind_of_header}
 use Rattle.nb_model.proofs.StandsLaws.{delta_named, no_main, StandsUnder, formed_header, no_level_begins, header_no_level, state_of_applying, stands_with_both}
-use Rattle.nb_host.proofs.NameLaws.{decide, same_self}
-use Rattle.nb_host.proofs.PlainLaws.{some_same}
 
 -- Whole, the file holds the record that it names, isn't opened without a difference file, and waits for no merge.
 pub record IsWholeFile (kept : List Kept) (bytes : List ℕ) : Type 0 where

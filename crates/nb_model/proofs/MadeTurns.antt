@@ -1,20 +1,6 @@
 -- The files that turns make are those of records that are kept: of the backup that is under way, or of the one that stands stalled.
-use Rattle.std.proofs.Common.{◌≡◌, ⊎_elim, ℕ, zero, suc, ◌-◌, List, [], ◌∷◌, ◌++◌, map, take, get_or, refl, sym, ap, subst, ◌∙◌, arith}
-use Rattle.std.specs.Prelude.{Contains, true}
-use Rattle.std.proofs.lemmas.List.Elements.{Contains-append_left, Contains-append_cases}
-use Rattle.nb_model.specs.declared.statement.Statement.{Statement}
-use Rattle.nb_model.specs.Account.{Kept, Base}
-use Rattle.nb_model.specs.Going.{AreBeginnings, AreNamed, Runs, IsGoing}
-use Rattle.nb_model.specs.Image.{image_state}
-use Rattle.nb_model.specs.Levels.{joined}
-use Rattle.nb_model.specs.Making.{MadeFile, kept_of, making, IsOfKept, its_file, its_pages}
-use Rattle.nb_model.specs.Outcomes.{Turn, Begins, Copies, ClosesBackup, ClosesCopy, Ends, Merges, Finishes}
-use Rattle.nb_model.specs.Run.{Now, Event, Played, base_now, one_turn, play, begun, files_made, strokes_of}
-use Rattle.nb_model.specs.Steps.{Step, after_steps, steps_of, strokes_in}
-use Rattle.nb_model.specs.Strokes.{records_after}
-use Rattle.nb_model.specs.Trail.{Trail, settled}
-use Rattle.nb_model.specs.Well.{IsOfRecord}
-use Rattle.nb_model.specs.WellTrail.{IsWellTrail}
+use Rattle.std.proofs.Common.{◌≡◌, ⊎_elim, ℕ, zero, suc, ◌-◌, List, [], ◌∷◌, ◌++◌, map, take, get_or, refl, sym, ap, subst, ◌∙◌, arith, Contains, true}
+use Rattle.nb_model.proofs.Common.{Contains-append_left, Contains-append_cases, Statement, Kept, Base, AreBeginnings, AreNamed, Runs, IsGoing, image_state, joined, MadeFile, kept_of, making, IsOfKept, its_file, its_pages, Turn, Begins, Copies, ClosesBackup, ClosesCopy, Ends, Merges, Finishes, Now, Event, Played, base_now, one_turn, play, begun, files_made, strokes_of, Step, after_steps, steps_of, strokes_in, records_after, Trail, settled, IsOfRecord, IsWellTrail}
 use Rattle.nb_model.proofs.GuidLaws.{strokes_in_steps}
 use Rattle.nb_model.proofs.GoingLaws.{begun_at, going_turn, named_turn, none_made}
 use Rattle.nb_model.proofs.MakingLaws.{to_make, made_append, made_among}

@@ -1,25 +1,8 @@
 -- A main file in the normal state: the database of it, and where its pages stand.
-use Rattle.std.proofs.Common.{◌≡◌, ◌≢◌, ◌⊎◌, inl, inr, ℕ, zero, suc, ◌*◌, ◌<◌, ◌≤◌, List, [], ◌∷◌, ◌++◌, length, take, drop, refl, sym, ap, subst, ◌∙◌, arith, append_assoc, length-append, length-take-le, take-take, mul-le-mul_left}
-use Rattle.std.specs.Prelude.{Bool, true, false, IsTrue, ◌==◌, Option, Some, None, Result, Ok, Err, max}
-use Rattle.std.proofs.lemmas.Bool.{eqb-false}
-use Rattle.std.proofs.lemmas.Bool.Decides.{leb_tells}
-use Rattle.std.proofs.lemmas.List.{take-append-le, take_at}
-use Rattle.nb_fields.specs.Bytes.{is_zeros}
-use Rattle.nb_fields.specs.Header.{is_header, state_of, size_of}
-use Rattle.nb_fields.specs.Places.{is_page_size, most_pages}
+use Rattle.std.proofs.Common.{◌≡◌, ◌≢◌, ◌⊎◌, inl, inr, ℕ, zero, suc, ◌*◌, ◌<◌, ◌≤◌, List, [], ◌∷◌, ◌++◌, length, take, drop, refl, sym, ap, subst, ◌∙◌, arith, append_assoc, length-append, length-take-le, take-take, mul-le-mul_left, Bool, true, false, IsTrue, ◌==◌, Option, Some, None, Result, Ok, Err, max}
+use Rattle.nb_model.proofs.Common.{eqb-false, leb_tells, take-append-le, take_at, is_zeros, is_header, state_of, size_of, is_page_size, most_pages, size_facts, normal_state, stalled_state, merge_state, File, Refusal, NoFile, BadDelta, Unfinished, Page, Image, page_at, first_page, image_size, image_state, image_in, cut, trimmed, Cause, not_database, joined, IsOfSize, Base, base_of, delta_name, entry_for, behind_entries, slot_page, main_page, owned_page, owned_from, owned, diverted_base, owner_with, owner, HoldsMain}
 use Rattle.nb_fields.specs.Table.{table_of}
-use Rattle.nb_fields.proofs.SizeLaws.{size_facts}
-use Rattle.nb_fields.specs.States.{normal_state, stalled_state, merge_state}
-use Rattle.nb_host.specs.Files.{File}
-use Rattle.nb_host.specs.declared.refusals.Refusal.{Refusal}
-use Rattle.nb_host.specs.declared.refusals.Refusal.TheVariants.{NoFile, BadDelta, Unfinished}
-use Rattle.nb_model.specs.Image.{Page, Image, page_at, first_page, image_size, image_state, image_in, cut, trimmed}
-use Rattle.nb_model.specs.Causes.{Cause, not_database}
-use Rattle.nb_model.specs.Levels.{joined}
-use Rattle.nb_model.specs.Sound.{IsOfSize}
-use Rattle.nb_model.specs.Account.{Base, base_of}
-use Rattle.nb_model.specs.Owner.{delta_name, entry_for, behind_entries, slot_page, main_page, owned_page, owned_from, owned, diverted_base, owner_with, owner_in, owner}
-use Rattle.nb_model.specs.Main.{HoldsMain}
+use Rattle.nb_model.specs.Owner.{owner_in}
 use Rattle.nb_model.proofs.FormLaws.{Formed, formed, no_cause}
 use Rattle.nb_model.proofs.HeaderLaws.{header-long, header-state, header-other, same-header, same-number}
 use Rattle.nb_model.proofs.ImageLaws.{AreZeros, IsTrimmed, Pages, pages_of, cut-joined, page-joined, length-joined, trimming, trimmed-other, trimmed-append_zeros, all-append, all-left}

@@ -1,27 +1,7 @@
 -- The files that turns make: each was to be made before, under a name that was free, and each but once.
-use Rattle.std.proofs.Common.{◌≡◌, ◌≢◌, inl, inr, ⊎_elim, ◌⊎◌, ℕ, zero, suc, ◌-◌, List, [], ◌∷◌, ◌++◌, take, replicate, get_or, refl, sym, ap, subst, ◌∙◌, arith, append_assoc}
-use Rattle.std.specs.Prelude.{Bool, Option, Some, None, true, false, ◌==◌, Contains}
-use Rattle.std.proofs.lemmas.Bool.{true≢false, and_parts, false_from_ne_true}
-use Rattle.std.proofs.lemmas.Bool.Decides.{eqb_tells}
-use Rattle.std.proofs.lemmas.List.{append-nil}
-use Rattle.std.proofs.lemmas.List.Elements.{Contains-append_left, Contains-append_right, Contains-append_cases}
-use Rattle.nb_fields.specs.Free.{is_free_file}
-use Rattle.nb_fields.specs.Header.{is_header}
-use Rattle.nb_fields.specs.States.{stalled_state}
-use Rattle.nb_model.specs.declared.reply.Reply.{Reply}
-use Rattle.nb_model.specs.declared.statement.Statement.{Statement}
-use Rattle.nb_model.specs.Account.{Base, Plain, IsBase}
-use Rattle.nb_model.specs.Backups.{close_backup, close_copy}
-use Rattle.nb_model.specs.Causes.{is_free_entry}
-use Rattle.nb_model.specs.Going.{AreBeginnings, AreMerging, AreNamed, Runs, IsAt, waits, backs_up, copies, ends as ending, merges, IsGoing, IsMaking}
-use Rattle.nb_model.specs.Image.{Image, Numbered, first_page, image_state}
-use Rattle.nb_model.specs.Levels.{Head, head_then, level_bytes, head_for, changed, file_for, file_of, joined}
-use Rattle.nb_model.specs.Making.{MadeFile, kept_of, making, making_by, making_all, under_way, AreAmong, NamesOnce}
-use Rattle.nb_model.specs.Outcomes.{Turn, Begins, Copies, ClosesBackup, ClosesCopy, Ends, Merges, Finishes, Backing, Seen, Outcome}
-use Rattle.nb_model.specs.Pages.{ends_by}
-use Rattle.nb_model.specs.Run.{Now, Event, Played, base_now, with_made, account_after, outcome, stands_then, one_turn, play, event_of, files_made, AreFinished}
-use Rattle.nb_model.specs.Strokes.{base_in, base_after}
-use Rattle.nb_model.specs.Turns.{first_turn, turn}
+use Rattle.std.proofs.Common.{◌≡◌, ◌≢◌, inl, inr, ⊎_elim, ◌⊎◌, ℕ, zero, suc, ◌-◌, List, [], ◌∷◌, ◌++◌, take, replicate, get_or, refl, sym, ap, subst, ◌∙◌, arith, append_assoc, Bool, Option, Some, None, true, false, ◌==◌, Contains}
+use Rattle.nb_model.proofs.Common.{true≢false, and_parts, false_from_ne_true, eqb_tells, append-nil, Contains-append_left, Contains-append_right, Contains-append_cases, is_free_file, is_header, stalled_state, Reply, Statement, Base, Plain, IsBase, close_backup, close_copy, is_free_entry, AreBeginnings, AreMerging, AreNamed, Runs, IsAt, waits, backs_up, copies, merges, IsGoing, IsMaking, Image, Numbered, first_page, image_state, Head, head_then, level_bytes, head_for, changed, file_for, file_of, joined, MadeFile, kept_of, making, making_by, making_all, under_way, AreAmong, NamesOnce, Turn, Begins, Copies, ClosesBackup, ClosesCopy, Ends, Merges, Finishes, Backing, Seen, Outcome, ends_by, Now, Event, Played, base_now, with_made, account_after, outcome, stands_then, one_turn, play, event_of, files_made, AreFinished, base_in, base_after, first_turn, turn, decide}
+use Rattle.nb_model.specs.Going.{ends as ending}
 use Rattle.nb_model.proofs.FreeLaws.{free_cases}
 use Rattle.nb_model.proofs.GoingLaws.{IsUndisturbed, one_runs, one_cases, own_in_use, own_todo, then_base, going_turn, named_turn, making_turn, others_stay, none_made}
 use Rattle.nb_model.proofs.HeaderLaws.{first_byte, same-header, same-number}
@@ -32,7 +12,6 @@ use Rattle.nb_model.proofs.SoundLaws.{kind_of_header}
 use Rattle.nb_model.proofs.SoundTurns.{seen_now}
 use Rattle.nb_model.proofs.StandsLaws.{entry_other}
 use Rattle.nb_model.proofs.TurnCases.{begin_either, end_either, backup_either, since_either, copy_either, pages_once, statement_cases}
-use Rattle.nb_host.proofs.NameLaws.{decide}
 
 -- one element
 pub one_held : (f g : MadeFile) → Contains (f ∷ []) g → f ≡ g

@@ -1,11 +1,6 @@
 -- A page write and mixtures: whether it is kept or lost, what is left is a mixture with the database after it.
-use Rattle.std.proofs.Common.{◌≡◌, ◌≢◌, inl, inr, ℕ, ◌+◌, ◌<◌, ◌≤◌, List, [], ◌∷◌, ◌++◌, length, sym, ap, subst, ◌∙◌, arith}
-use Rattle.std.specs.Prelude.{max}
-use Rattle.std.proofs.lemmas.Bool.Decides.{eqb_tells}
-use Rattle.std.proofs.lemmas.List.Elements.{Contains-append_left}
-use Rattle.nb_model.specs.Image.{Page, Image, page_at, with_page}
-use Rattle.nb_model.specs.Account.{Base}
-use Rattle.nb_model.specs.Trail.{HasPage, IsMixture}
+use Rattle.std.proofs.Common.{◌≡◌, ◌≢◌, inl, inr, ℕ, ◌+◌, ◌<◌, ◌≤◌, List, [], ◌∷◌, ◌++◌, length, sym, ap, subst, ◌∙◌, arith, max}
+use Rattle.nb_model.proofs.Common.{eqb_tells, Contains-append_left, Page, Image, page_at, with_page, Base, HasPage, IsMixture}
 use Rattle.nb_model.proofs.SoundLaws.{with_page_length}
 use Rattle.nb_model.proofs.StrokeLaws.{with_page_same, with_page_other}
 use Rattle.nb_model.proofs.TrailLaws.{last_there}

@@ -1,15 +1,6 @@
 -- An image stays neat where the slot of a table in the catalogue is emptied: the table is gone then, and the others stay.
-use Rattle.std.proofs.Common.{◌≡◌, ◌≢◌, ◌⊎◌, inl, inr, ⊎_elim, ℕ, List, [], ◌∷◌, ◌++◌, map, refl, sym, ap, subst, ◌∙◌, append_assoc}
-use Rattle.std.specs.Prelude.{Bool, true, false, ◌&&◌, Option, Some, None, Ok}
-use Rattle.std.specs.List.{AllByRecursion}
-use Rattle.std.specs.Cmp.Lexicographic.{told_text}
-use Rattle.std.proofs.lemmas.Bool.{true≢false, and_parts, and_left}
-use Rattle.nb_host.specs.Names.{same_name}
-use Rattle.nb_model.specs.Chains.{Chain, Catalogue, History, Spot, is_used, table_of, first_such, pages_of, found_pages, spots, table_spot}
-use Rattle.nb_model.specs.Forms.{is_free_page}
-use Rattle.nb_model.specs.Image.{Image}
-use Rattle.nb_model.specs.RowChanges.{GivesRows}
-use Rattle.nb_model.specs.Rows.{rows_in, rows, used, table_chains, chains, pages_of_all, AreDistinct, names_of, IsNeat}
+use Rattle.std.proofs.Common.{◌≡◌, ◌≢◌, ◌⊎◌, inl, inr, ⊎_elim, ℕ, List, [], ◌∷◌, ◌++◌, map, refl, sym, ap, subst, ◌∙◌, append_assoc, Bool, true, false, ◌&&◌, Option, Some, None, Ok}
+use Rattle.nb_model.proofs.Common.{AllByRecursion, told_text, true≢false, and_parts, and_left, same_name, Chain, Catalogue, History, Spot, is_used, table_of, first_such, pages_of, found_pages, spots, table_spot, is_free_page, Image, GivesRows, rows_in, rows, used, table_chains, chains, pages_of_all, AreDistinct, names_of, IsNeat}
 use Rattle.nb_model.proofs.HeldChains.{split_all, join_all}
 use Rattle.nb_model.proofs.NeatGrows.{apart_front, distinct_both}
 use Rattle.nb_model.proofs.NeatLaws.{all_go, all_both, pages_first, distinct_left, distinct_right, chains_are, each_table, tables_each, table_found, IsFoundTable, used_each, used_yes, used_not, rows_of_none, rows_of_some, ChangesChain, same_pages, same_all}

@@ -1,21 +1,11 @@
 -- An image stays neat, and the rows of its tables stay, where the pages of its chains stay, or where one chain of rows changes.
-use Rattle.std.proofs.Common.{◌≡◌, ◌≢◌, ◌⊎◌, inl, inr, ⊎_elim, ℕ, zero, suc, ◌≤◌, List, [], ◌∷◌, ◌++◌, length, refl, sym, ap, subst, ◌∙◌, arith}
-use Rattle.std.specs.Prelude.{Bool, true, false, ◌&&◌, Option, Some, None, Result, Ok, Err, Contains}
-use Rattle.std.specs.List.{AllByRecursion}
-use Rattle.std.specs.Cmp.Lexicographic.{told_text}
-use Rattle.std.proofs.lemmas.Bool.{true≢false, and_parts}
-use Rattle.std.proofs.lemmas.List.Elements.{Contains-append_left, Contains-append_right}
-use Rattle.nb_host.specs.Names.{same_name}
-use Rattle.nb_model.specs.Chains.{Chain, Catalogue, History, RowsFrom, Spot, is_used, table_of, first_in, first_such, pages_of, found_pages, spots, table_spot}
-use Rattle.nb_model.specs.Forms.{is_free_page}
-use Rattle.nb_model.specs.Image.{Image}
-use Rattle.nb_model.specs.Rows.{RowMap, rows_in, rows, used, table_chains, chains, pages_of_all, AreDistinct, names_of, IsNeat}
+use Rattle.std.proofs.Common.{◌≡◌, ◌≢◌, ◌⊎◌, inl, inr, ⊎_elim, ℕ, zero, suc, ◌≤◌, List, [], ◌∷◌, ◌++◌, length, refl, sym, ap, subst, ◌∙◌, arith, Bool, true, false, ◌&&◌, Option, Some, None, Result, Ok, Err, Contains}
+use Rattle.nb_model.proofs.Common.{AllByRecursion, told_text, true≢false, and_parts, Contains-append_left, Contains-append_right, same_name, Chain, Catalogue, History, RowsFrom, Spot, is_used, table_of, first_in, first_such, pages_of, found_pages, spots, table_spot, is_free_page, Image, RowMap, rows_in, rows, used, table_chains, chains, pages_of_all, AreDistinct, names_of, IsNeat, decide}
 use Rattle.nb_model.proofs.ChainWalks.{StaysLinked, pages_stay, found_is}
 use Rattle.nb_model.proofs.RoomLaws.{first_passes}
 use Rattle.nb_model.proofs.SpotKeys.{keys_in}
 use Rattle.nb_model.proofs.SpotMaps.{such_passes}
 use Rattle.nb_model.proofs.TableCases.{chain_at}
-use Rattle.nb_host.proofs.NameLaws.{decide}
 
 -- what holds of each
 pub all_go : {X : Type 0} (P R : X → Type 0) (xs : List X) → ((x : X) → P x → R x) → AllByRecursion P xs → AllByRecursion R xs

@@ -1,11 +1,6 @@
 -- The pages that a change needs: the first that isn't of its kind.
-use Rattle.std.proofs.Common.{◌≡◌, inl, inr, ℕ, zero, suc, ◌+◌, ◌/◌, ◌<◌, ◌≤◌, List, [], ◌∷◌, ◌++◌, refl, sym, ap, ◌∙◌, arith}
-use Rattle.std.specs.Prelude.{Bool, true, false, ◌==◌, ◌||◌, Option, Some, None}
-use Rattle.std.proofs.lemmas.Bool.Decides.{eqb_tells}
-use Rattle.nb_fields.specs.Places.{entries_in, inventory_place, scn_place, is_scn_place}
-use Rattle.nb_fields.specs.Kinds.{inventory_kind, scn_kind}
-use Rattle.nb_model.specs.Image.{Image, image_size}
-use Rattle.nb_model.specs.Forms.{HasItsEntry, is_kind, scn_page_of, has_entry, Need, first_not, maps_from, entry_page}
+use Rattle.std.proofs.Common.{◌≡◌, inl, inr, ℕ, zero, suc, ◌+◌, ◌/◌, ◌<◌, ◌≤◌, List, [], ◌∷◌, ◌++◌, refl, sym, ap, ◌∙◌, arith, Bool, true, false, ◌==◌, ◌||◌, Option, Some, None}
+use Rattle.nb_model.proofs.Common.{eqb_tells, entries_in, inventory_place, scn_place, is_scn_place, inventory_kind, scn_kind, Image, image_size, HasItsEntry, is_kind, scn_page_of, has_entry, Need, first_not, maps_from, entry_page}
 
 -- the first that isn't of its kind, of pages after others
 pub first_behind : Option ℕ → Option ℕ → Option ℕ

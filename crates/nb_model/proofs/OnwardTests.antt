@@ -1,14 +1,6 @@
 -- What the search for a new page needs next, told on the image as it stood before.
-use Rattle.std.proofs.Common.{◌≡◌, ◌≢◌, inl, inr, ℕ, ◌+◌, ◌-◌, ◌/◌, ◌<◌, ◌≤◌, List, [], ◌++◌, length, refl, sym, ap, subst, ◌∙◌, arith}
-use Rattle.std.specs.Prelude.{Bool, true, false, ◌==◌, ◌||◌, ◌&&◌, nat_lt, IsTrue, Option}
-use Rattle.std.proofs.lemmas.Bool.{eqb-true, eqb-false, ltb-true, ltb-false}
-use Rattle.std.proofs.lemmas.Bool.Decides.{eqb_tells, leb_tells}
-use Rattle.nb_fields.specs.Places.{is_page_size, entries_in, bits_in, inventory_place, is_inventory_place, is_scn_place, is_system_place, most_pages}
-use Rattle.nb_fields.proofs.PlaceLaws.{bits-least, scn_place-some}
-use Rattle.nb_fields.specs.Kinds.{inventory_kind, scn_kind}
-use Rattle.nb_model.specs.Image.{Image, image_size}
-use Rattle.nb_model.specs.Forms.{HasItsEntry, is_kind, inventory_of, scn_page_of, lowest_free, free_from, Need, first_not, maps_from, entry_page, is_kept, needed_at}
-use Rattle.nb_model.specs.Way.{next_place, maps_on, entry_on, map_entry_on, needed_on}
+use Rattle.std.proofs.Common.{◌≡◌, ◌≢◌, inl, inr, ℕ, ◌+◌, ◌-◌, ◌/◌, ◌<◌, ◌≤◌, List, [], ◌++◌, length, refl, sym, ap, subst, ◌∙◌, arith, Bool, true, false, ◌==◌, ◌||◌, ◌&&◌, nat_lt, IsTrue, Option}
+use Rattle.nb_model.proofs.Common.{eqb-true, eqb-false, ltb-true, ltb-false, eqb_tells, leb_tells, is_page_size, entries_in, bits_in, inventory_place, is_inventory_place, is_scn_place, is_system_place, most_pages, bits-least, scn_place-some, inventory_kind, scn_kind, Image, image_size, HasItsEntry, is_kind, inventory_of, scn_page_of, lowest_free, free_from, Need, first_not, maps_from, entry_page, is_kept, needed_at, next_place, maps_on, entry_on, map_entry_on, needed_on}
 use Rattle.nb_model.proofs.SoundLaws.{inventory_place_some, scn_page_there, inventory_there}
 use Rattle.nb_model.proofs.NeedLaws.{first_behind, first_append, behind_none, maps_found, maps_alike, maps_split, entry_moves, first_none, entry_found, entry_alike, ready_none}
 use Rattle.nb_model.proofs.FirstFree.{IsLowestFree, free_from_is, lowest_one, lowest_is}

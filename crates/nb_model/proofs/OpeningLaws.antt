@@ -1,30 +1,8 @@
 -- The first statement of a run: whether its name is free, and what it makes.
-use Rattle.std.proofs.Common.{◌≡◌, ◌≢◌, inl, inr, ℕ, List, [], ◌∷◌, ◌++◌, take, refl, sym, ap, subst, ◌∙◌}
-use Rattle.std.specs.Prelude.{Bool, true, false, not, ◌&&◌, ◌||◌, ◌==◌, Option, Some, None, Result, Ok, Err, is_some, is_none}
-use Rattle.std.proofs.lemmas.Bool.Decides.{eqb_tells}
-use Rattle.std.proofs.lemmas.List.{append-nil}
-use Rattle.nb_fields.specs.Bytes.{is_zeros}
-use Rattle.nb_fields.specs.Fresh.{fresh, fresh_count}
-use Rattle.nb_fields.specs.Free.{is_free_file}
-use Rattle.nb_fields.specs.Header.{is_header, state_of, pending_of}
-use Rattle.nb_fields.proofs.HeaderLaws.{is_header-take}
-use Rattle.nb_fields.specs.States.{applying_state}
-use Rattle.nb_host.specs.Files.{File, Files}
-use Rattle.nb_host.specs.Names.{is_delta}
-use Rattle.nb_host.specs.declared.refusals.Refusal.{Refusal}
-use Rattle.nb_host.specs.declared.refusals.Refusal.TheVariants.{FileExists, Unfinished}
-use Rattle.nb_model.specs.declared.reply.Reply.{Reply}
-use Rattle.nb_model.specs.declared.reply.Reply.TheVariants.{Pages, Refused}
-use Rattle.nb_model.specs.declared.statement.Statement.{Statement}
-use Rattle.nb_model.specs.declared.statement.Statement.TheVariants.{CreateDb}
-use Rattle.nb_model.specs.Image.{Image}
-use Rattle.nb_model.specs.Account.{Base, base_of, Kept, Entry, Plain, IsBase, Account, with_entry}
-use Rattle.nb_model.specs.Strokes.{Stroke, make, on_base, records_of, base_in, base_after, records_after}
-use Rattle.nb_model.specs.Causes.{Cause, not_database, when, is_free_entry}
-use Rattle.nb_model.specs.Owner.{delta_name, owner, owner_in, entry_of_files}
-use Rattle.nb_model.specs.Outcomes.{Given}
-use Rattle.nb_model.specs.Run.{Now, Event, base_now, with_made, account_after, IsPlayed, Opening, begun, refused_opening, done_opening, opening_unless, opening, IsRest, IsRun}
-use Rattle.nb_model.specs.Stands.{IsSameImage}
+use Rattle.std.proofs.Common.{◌≡◌, ◌≢◌, inl, inr, ℕ, List, [], ◌∷◌, ◌++◌, take, refl, sym, ap, subst, ◌∙◌, Bool, true, false, not, ◌&&◌, ◌||◌, ◌==◌, Option, Some, None, Result, Ok, Err, is_some, is_none}
+use Rattle.nb_model.proofs.Common.{eqb_tells, append-nil, is_zeros, fresh, fresh_count, is_free_file, is_header, state_of, pending_of, is_header-take, applying_state, File, Files, is_delta, Refusal, FileExists, Unfinished, Reply, Pages, Refused, Statement, CreateDb, Image, Base, base_of, Kept, Entry, Plain, IsBase, Account, with_entry, Stroke, make, on_base, records_of, base_in, base_after, records_after, Cause, not_database, when, is_free_entry, delta_name, owner, entry_of_files, Given, Now, Event, base_now, with_made, account_after, IsPlayed, Opening, begun, refused_opening, done_opening, opening_unless, opening, IsRun, IsSameImage}
+use Rattle.nb_model.specs.Owner.{owner_in}
+use Rattle.nb_model.specs.Run.{IsRest}
 use Rattle.nb_model.proofs.HeaderLaws.{header-other}
 use Rattle.nb_model.proofs.MainLaws.{owner-formed, owner-refused}
 use Rattle.nb_model.proofs.RunLaws.{entry_same, base_in_base}

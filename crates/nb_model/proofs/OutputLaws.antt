@@ -1,12 +1,6 @@
 -- What runs say and what of it is acknowledged, where one run goes on from another.
-use Rattle.std.proofs.Common.{◌≡◌, ℕ, ◌-◌, ◌≤◌, List, [], ◌∷◌, ◌++◌, length, take, decimal, max, refl, sym, ap, ◌∙◌, arith, length-append, append_assoc}
-use Rattle.std.specs.Prelude.{Option, Some, None}
-use Rattle.std.proofs.lemmas.List.{take-append-le, append-nil}
-use Rattle.std.proofs.Math.Seq.{take-append-add}
-use Rattle.nb_model.specs.declared.reply.Reply.{Reply}
-use Rattle.nb_model.specs.Lines.{line_text, spaced, reply_words}
-use Rattle.nb_model.specs.Run.{Event, strokes_of, replies_of}
-use Rattle.nb_model.specs.Output.{text_of, output, status_after, status_of, acked_in}
+use Rattle.std.proofs.Common.{◌≡◌, ℕ, ◌-◌, ◌≤◌, List, [], ◌∷◌, ◌++◌, length, take, decimal, max, refl, sym, ap, ◌∙◌, arith, length-append, append_assoc, Option, Some, None}
+use Rattle.nb_model.proofs.Common.{take-append-le, append-nil, take-append-add, Reply, line_text, spaced, reply_words, Event, strokes_of, replies_of, text_of, output, status_after, status_of, acked_in}
 use Rattle.nb_model.proofs.AckedLaws.{quiet, lined}
 
 -- the reply of an event, if it has one, before other replies

@@ -1,17 +1,6 @@
 -- What two files give in the stalled state: what isn't diverted is the frozen image's.
-use Rattle.std.proofs.Common.{◌≡◌, inl, inr, ℕ, zero, suc, ◌+◌, ◌<◌, List, [], length, take, refl, sym, ap, subst, ◌∙◌, arith}
-use Rattle.std.specs.Prelude.{true, false, ◌==◌, Option, Some, None, Ok, max}
-use Rattle.std.proofs.lemmas.Bool.{true≢false}
-use Rattle.std.proofs.lemmas.Bool.Decides.{leb_tells}
-use Rattle.nb_fields.specs.Bytes.{is_zeros}
-use Rattle.nb_fields.specs.Header.{state_of, size_of}
-use Rattle.nb_fields.specs.States.{normal_state, stalled_state}
-use Rattle.nb_host.specs.Files.{File}
-use Rattle.nb_model.specs.Image.{Page, Image, page_at, first_page, image_state, image_in}
-use Rattle.nb_model.specs.Account.{Base}
-use Rattle.nb_model.specs.Owner.{entry_for, behind_entries, slot_page, main_page, owned_page, owned_from, owned, diverted_base, owner}
-use Rattle.nb_model.specs.Sound.{HasNoZeros}
-use Rattle.nb_model.specs.WellTrail.{IsOverFrozen}
+use Rattle.std.proofs.Common.{◌≡◌, inl, inr, ℕ, zero, suc, ◌+◌, ◌<◌, List, [], length, take, refl, sym, ap, subst, ◌∙◌, arith, true, false, ◌==◌, Option, Some, None, Ok, max}
+use Rattle.nb_model.proofs.Common.{true≢false, leb_tells, is_zeros, state_of, size_of, normal_state, stalled_state, File, Page, Image, page_at, first_page, image_state, image_in, Base, entry_for, behind_entries, slot_page, main_page, owned_page, owned_from, owned, diverted_base, owner, HasNoZeros, IsOverFrozen}
 use Rattle.nb_model.proofs.HeaderLaws.{header-long}
 use Rattle.nb_model.proofs.ImageLaws.{zeros-are}
 use Rattle.nb_model.proofs.MainLaws.{IsLaid, laid, some_page, owned-front, owned-first, diverted-image, owner_cases, main_state}

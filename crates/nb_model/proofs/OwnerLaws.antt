@@ -1,11 +1,6 @@
 -- Merging an entry changes no image: the page belongs to the difference file before and after.
-use Rattle.std.proofs.Common.{◌≡◌, ◌≢◌, inl, inr, ℕ, zero, suc, ◌+◌, ◌-◌, ◌<◌, ◌≤◌, List, [], ◌∷◌, ◌++◌, length, get_or, take, drop, replicate, refl, sym, ap, ◌∙◌, arith, length-append, set, length-set, get_or-set_other, get_or-set_same}
-use Rattle.std.specs.Prelude.{Bool, true, false, Option, Some, None, max}
-use Rattle.std.proofs.lemmas.Bool.Decides.{eqb_tells, leb_tells}
-use Rattle.std.proofs.lemmas.List.{get_or_append_left, get_or-append_right, take_at, length-take-le}
-use Rattle.nb_fields.specs.Table.{slot_place, page_in}
-use Rattle.nb_model.specs.Image.{Page, Image, page_at, written_at}
-use Rattle.nb_model.specs.Owner.{entry_for, behind_entries, slot_page, main_page, owned_page, owned_from, owned}
+use Rattle.std.proofs.Common.{◌≡◌, ◌≢◌, inl, inr, ℕ, zero, suc, ◌+◌, ◌-◌, ◌<◌, ◌≤◌, List, [], ◌∷◌, ◌++◌, length, get_or, take, drop, replicate, refl, sym, ap, ◌∙◌, arith, length-append, set, length-set, get_or-set_other, get_or-set_same, Bool, true, false, Option, Some, None, max}
+use Rattle.nb_model.proofs.Common.{eqb_tells, leb_tells, get_or_append_left, get_or-append_right, take_at, length-take-le, slot_place, page_in, Page, Image, page_at, written_at, entry_for, behind_entries, slot_page, main_page, owned_page, owned_from, owned}
 
 pub zeros_there : (n k : ℕ) (zeros page : Page) → k < n → get_or (replicate n zeros ++ page ∷ []) k [] ≡ zeros
 zeros_there zero k zeros page h = absurd (omega arith)

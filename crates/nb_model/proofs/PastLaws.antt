@@ -1,18 +1,6 @@
 -- Where a page is written that fits, the image names the same backups.
-use Rattle.std.proofs.Common.{◌≡◌, ◌≢◌, inl, inr, ℕ, suc, ◌<◌, ◌≤◌, List, [], ◌∷◌, ◌++◌, length, refl, sym, ap, subst, ◌∙◌, arith, set}
-use Rattle.std.specs.Prelude.{true, false, ◌==◌}
-use Rattle.std.specs.List.{AllByRecursion}
-use Rattle.std.proofs.lemmas.Bool.{true≢false, and_left, ne_eqb}
-use Rattle.std.proofs.lemmas.Bool.Decides.{eqb_tells, leb_tells}
-use Rattle.std.proofs.lemmas.List.Elements.{Contains-append_left}
-use Rattle.nb_fields.specs.Page.{kind_of, stamp_of}
-use Rattle.nb_fields.specs.Kinds.{data_kind}
-use Rattle.nb_model.specs.Image.{Page, Image, page_at, image_size, image_guid, with_page}
-use Rattle.nb_model.specs.Account.{Kept}
-use Rattle.nb_model.specs.Sound.{IsSoundImage}
-use Rattle.nb_model.specs.Chains.{Slot, is_used, slots_in, guid_in}
-use Rattle.nb_model.specs.Follows.{Follows}
-use Rattle.nb_model.specs.Stands.{IsKeptAs, is_history_page, GoesOn, IsRemembered, HasRows, NamesPast}
+use Rattle.std.proofs.Common.{◌≡◌, ◌≢◌, inl, inr, ℕ, suc, ◌<◌, ◌≤◌, List, [], ◌∷◌, ◌++◌, length, refl, sym, ap, subst, ◌∙◌, arith, set, true, false, ◌==◌}
+use Rattle.nb_model.proofs.Common.{AllByRecursion, true≢false, and_left, ne_eqb, eqb_tells, leb_tells, Contains-append_left, kind_of, stamp_of, data_kind, Page, Image, page_at, image_size, image_guid, with_page, Kept, IsSoundImage, Slot, is_used, slots_in, guid_in, Follows, IsKeptAs, is_history_page, GoesOn, IsRemembered, HasRows, NamesPast}
 use Rattle.nb_model.proofs.StrokeLaws.{with_page_same}
 use Rattle.nb_model.proofs.FollowsLaws.{follows_set, follows_add}
 use Rattle.nb_model.proofs.SoundLaws.{written_other, with_page_length, HasFields, FitsAt, size_stays, scn_stays, guid_stays}

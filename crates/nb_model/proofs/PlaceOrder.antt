@@ -1,12 +1,7 @@
 -- The places of system pages rise with the pages that they have.
-use Rattle.std.proofs.Common.{◌≡◌, inl, inr, ℕ, zero, suc, ◌+◌, ◌*◌, ◌/◌, ◌%◌, ◌<◌, ◌≤◌, sym, ap, ◌∙◌, arith, mul-le-mul_right}
-use Rattle.std.specs.Prelude.{true, ◌==◌, IsTrue}
-use Rattle.std.proofs.Math.Nat.{div-mul-le_self, div-eq_of_lt}
+use Rattle.std.proofs.Common.{◌≡◌, inl, inr, ℕ, zero, suc, ◌+◌, ◌*◌, ◌/◌, ◌%◌, ◌<◌, ◌≤◌, sym, ap, ◌∙◌, arith, mul-le-mul_right, true, ◌==◌, IsTrue}
+use Rattle.nb_model.proofs.Common.{div-mul-le_self, div-eq_of_lt, eqb-true, or_cases, eqb_tells, is_page_size, entries_in, bits_in, inventory_place, scn_place, is_inventory_place, is_scn_place, bits-least, entries-least, scn_place-some}
 use Rattle.std.proofs.lemmas.Nat.{le-div}
-use Rattle.std.proofs.lemmas.Bool.{eqb-true, or_cases}
-use Rattle.std.proofs.lemmas.Bool.Decides.{eqb_tells}
-use Rattle.nb_fields.specs.Places.{is_page_size, entries_in, bits_in, inventory_place, scn_place, is_inventory_place, is_scn_place}
-use Rattle.nb_fields.proofs.PlaceLaws.{bits-least, entries-least, scn_place-some}
 use Rattle.nb_model.proofs.SoundLaws.{scn_place_of}
 
 pub div_rises : (a b n : ℕ) → 0 < n → a ≤ b → a / n ≤ b / n

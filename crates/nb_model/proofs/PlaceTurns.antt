@@ -1,23 +1,6 @@
 -- The slot of a new table is placed in the catalogue, in an image in which the table's page stands.
-use Rattle.std.proofs.Common.{◌≡◌, ◌≢◌, ◌⊎◌, inl, inr, ⊎_elim, ℕ, zero, suc, ◌+◌, ◌*◌, ◌≤◌, ◌<◌, List, [], ◌∷◌, ◌++◌, length, drop, refl, sym, ap, subst, ◌∙◌, arith}
-use Rattle.std.specs.Prelude.{Bool, true, false, Option, Some, None, is_some, Ok, Contains}
-use Rattle.std.specs.List.{AllByRecursion}
-use Rattle.std.specs.Cmp.Lexicographic.{told_text}
-use Rattle.std.proofs.lemmas.Bool.{true≢false, and_from, and_left, and_right, eq-eqb}
-use Rattle.std.proofs.lemmas.List.{append-nil}
-use Rattle.nb_fields.specs.Bytes.{bytes_of, with_part}
-use Rattle.nb_fields.specs.Payloads.{data_payload}
-use Rattle.nb_fields.specs.Kinds.{data_kind}
-use Rattle.nb_host.specs.Names.{same_name}
-use Rattle.nb_model.specs.Account.{Base}
-use Rattle.nb_model.specs.Causes.{broken_at}
-use Rattle.nb_model.specs.Chains.{Chain, Catalogue, History, RowsFrom, Slot, Spot, owner_of, next_in, is_slot, is_used, table_of, first_in, slots_in, first_such, free_spot, walk, pages_of, found_pages, spots_of, spots, table_spot, table_slot, put_slot, last_of, grown, place_at, place_slot}
-use Rattle.nb_model.specs.Forms.{Draft, drafted, wants, put, raised, new_page}
-use Rattle.nb_model.specs.Image.{Page, Image, page_at}
-use Rattle.nb_model.specs.RowChanges.{GivesRows}
-use Rattle.nb_model.specs.Rows.{used, table_chains, chains, pages_of_all, IsNeat}
-use Rattle.nb_model.specs.Sound.{HasHeader, IsSoundImage}
-use Rattle.nb_model.specs.TableNames.{is_table_name}
+use Rattle.std.proofs.Common.{◌≡◌, ◌≢◌, ◌⊎◌, inl, inr, ⊎_elim, ℕ, zero, suc, ◌+◌, ◌*◌, ◌≤◌, ◌<◌, List, [], ◌∷◌, ◌++◌, length, drop, refl, sym, ap, subst, ◌∙◌, arith, Bool, true, false, Option, Some, None, is_some, Ok, Contains}
+use Rattle.nb_model.proofs.Common.{AllByRecursion, told_text, true≢false, and_from, and_left, and_right, eq-eqb, append-nil, bytes_of, with_part, data_payload, data_kind, same_name, Base, broken_at, Chain, Catalogue, History, RowsFrom, Slot, Spot, owner_of, next_in, is_slot, is_used, table_of, first_in, slots_in, first_such, free_spot, walk, pages_of, found_pages, spots_of, spots, table_spot, table_slot, put_slot, last_of, grown, place_at, place_slot, Draft, drafted, wants, put, raised, new_page, Page, Image, page_at, GivesRows, used, table_chains, chains, pages_of_all, IsNeat, HasHeader, IsSoundImage, is_table_name}
 use Rattle.nb_model.proofs.Along.{Along, put_along}
 use Rattle.nb_model.proofs.ChainWalks.{HasForm, there_by, walk_on_is, onward, found_is, spots_are}
 use Rattle.nb_model.proofs.DraftJoin.{Joins, joined, joined_grouped, join_put, join_wants, join_new}

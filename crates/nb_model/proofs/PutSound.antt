@@ -1,25 +1,6 @@
 -- Each stroke of `put` fits at its point.
-use Rattle.std.proofs.Common.{◌≡◌, ◌≢◌, inl, inr, ℕ, suc, ◌+◌, ◌-◌, ◌*◌, ◌/◌, ◌%◌, ◌^◌, ◌<◌, ◌≤◌, List, ◌∷◌, ◌++◌, length, take, drop, replicate, refl, sym, ap, subst, ◌∙◌, arith, length-drop}
-use Rattle.std.specs.Prelude.{Bool, true, false, not, ◌==◌, nat_le, nat_lt, Some, None}
-use Rattle.std.proofs.lemmas.Bool.{true≢false, cases_lt}
-use Rattle.std.proofs.lemmas.Bool.Decides.{eqb_tells, leb_tells}
-use Rattle.std.proofs.lemmas.List.{length-replicate, drop-drop}
-use Rattle.nb_fields.specs.Bytes.{number_of, bytes_of, number_in, part, with_part, is_zeros, padded}
-use Rattle.nb_fields.specs.Places.{entries_in, bits_in, is_inventory_place, is_scn_place, most_pages}
-use Rattle.nb_fields.specs.Page.{head_of, page_of, kind_of, stamp_of, generation_of, stamped}
-use Rattle.nb_fields.specs.Payloads.{entry_of, text_payload}
-use Rattle.nb_fields.proofs.NumberLaws.{length-bytes_of}
-use Rattle.nb_fields.proofs.PartLaws.{length-with_part, number_in-with_part, number_in-with_part_other}
-use Rattle.nb_fields.proofs.PageLaws.{length-head_of, length-page_of, kind_of-page_of, stamp_of-page_of, padded_whole, part-append}
-use Rattle.nb_fields.proofs.SizeLaws.{SizeFacts, size_facts}
-use Rattle.nb_fields.proofs.PlaceLaws.{entries-least, scn_place-some}
-use Rattle.nb_fields.specs.Kinds.{header_kind, raw_kind, scn_kind}
-use Rattle.nb_host.specs.declared.refusals.Refusal.{Refusal}
-use Rattle.nb_model.specs.Image.{Page, Image, page_at, first_page, image_size, image_scn, with_page}
-use Rattle.nb_model.specs.Account.{Base}
-use Rattle.nb_model.specs.Forms.{Draft, drafted, old_page, needs, is_kind, inventory_of, scn_page_of, entry_number, scn_entry, has_entry, entry_written, entry_raised, raised, put}
-use Rattle.nb_model.specs.Causes.{Cause, first_cause, when, not_raw, too_long}
-use Rattle.nb_model.specs.Sound.{IsSoundImage, HasHeader}
+use Rattle.std.proofs.Common.{◌≡◌, ◌≢◌, inl, inr, ℕ, suc, ◌+◌, ◌-◌, ◌*◌, ◌/◌, ◌%◌, ◌^◌, ◌<◌, ◌≤◌, List, ◌∷◌, ◌++◌, length, take, drop, replicate, refl, sym, ap, subst, ◌∙◌, arith, length-drop, Bool, true, false, not, ◌==◌, nat_le, nat_lt, Some, None}
+use Rattle.nb_model.proofs.Common.{true≢false, cases_lt, eqb_tells, leb_tells, length-replicate, drop-drop, number_of, bytes_of, number_in, part, with_part, is_zeros, padded, entries_in, bits_in, is_inventory_place, is_scn_place, most_pages, head_of, page_of, kind_of, stamp_of, generation_of, stamped, entry_of, text_payload, length-bytes_of, length-with_part, number_in-with_part, number_in-with_part_other, length-head_of, length-page_of, kind_of-page_of, stamp_of-page_of, padded_whole, part-append, SizeFacts, size_facts, entries-least, scn_place-some, header_kind, raw_kind, scn_kind, Refusal, Page, Image, page_at, first_page, image_size, image_scn, with_page, Base, Draft, drafted, old_page, needs, is_kind, inventory_of, scn_page_of, entry_number, scn_entry, has_entry, entry_written, entry_raised, raised, put, Cause, first_cause, when, not_raw, too_long, IsSoundImage, HasHeader}
 use Rattle.nb_model.proofs.DraftLaws.{either}
 use Rattle.nb_model.proofs.FitLaws.{IsWhole, Fits, fits_first, fits_needs, form_page, written_image, fits_more}
 use Rattle.nb_model.proofs.HeaderLaws.{header-size}

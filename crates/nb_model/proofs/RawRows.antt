@@ -1,25 +1,6 @@
 -- Statements on raw pages and on a byte of the header change no row of a table.
-use Rattle.std.proofs.Common.{◌≡◌, ◌≢◌, ℕ, ◌+◌, ◌/◌, ◌<◌, ◌≤◌, List, [], length, refl, sym, ap, ◌∙◌, arith}
-use Rattle.std.specs.Prelude.{Bool, Some, None}
-use Rattle.std.specs.List.{AllByRecursion}
-use Rattle.std.proofs.lemmas.Bool.{true≢false}
-use Rattle.nb_fields.specs.Page.{kind_of}
-use Rattle.nb_fields.specs.Payloads.{text_payload}
-use Rattle.nb_fields.specs.Places.{bits_in, is_inventory_place}
-use Rattle.nb_fields.specs.Kinds.{data_kind, raw_kind}
-use Rattle.nb_model.specs.declared.statement.Statement.TheVariants.{PageNew, Write, Free, Forced, Access}
-use Rattle.nb_model.specs.Account.{Base}
-use Rattle.nb_model.specs.Causes.{Cause, not_raw}
-use Rattle.nb_model.specs.Chains.{Catalogue, History, found_pages}
-use Rattle.nb_model.specs.Forms.{Draft, drafted, put, new_page}
-use Rattle.nb_model.specs.Image.{Page, Image, page_at, image_size}
-use Rattle.nb_model.specs.Outcomes.{Seen, Outcome, unless, changes}
-use Rattle.nb_model.specs.Pages.{new_turn, write_turn, free_turn, forced_turn, access_turn, byte_strokes}
-use Rattle.nb_model.specs.RowChanges.{KeepsRows}
-use Rattle.nb_model.specs.Rows.{chains, pages_of_all, rows, IsNeat}
-use Rattle.nb_model.specs.Sound.{HasHeader, IsSoundImage}
-use Rattle.nb_model.specs.Strokes.{Stroke, on_base}
-use Rattle.nb_model.specs.Turns.{first_turn}
+use Rattle.std.proofs.Common.{◌≡◌, ◌≢◌, ℕ, ◌+◌, ◌/◌, ◌<◌, ◌≤◌, List, [], length, refl, sym, ap, ◌∙◌, arith, Bool, Some, None}
+use Rattle.nb_model.proofs.Common.{AllByRecursion, true≢false, kind_of, text_payload, bits_in, is_inventory_place, data_kind, raw_kind, PageNew, Write, Free, Forced, Access, Base, Cause, not_raw, Catalogue, History, found_pages, Draft, drafted, put, new_page, Page, Image, page_at, image_size, Seen, Outcome, unless, changes, new_turn, write_turn, free_turn, forced_turn, access_turn, byte_strokes, KeepsRows, chains, pages_of_all, rows, IsNeat, HasHeader, IsSoundImage, Stroke, on_base, first_turn}
 use Rattle.nb_model.proofs.Along.{Along, along_front, along_more}
 use Rattle.nb_model.proofs.FitLaws.{IsWhole, AreFitting}
 use Rattle.nb_model.proofs.HeadSound.{byte_fits}

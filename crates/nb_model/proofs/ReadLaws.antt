@@ -1,15 +1,6 @@
 -- Reading the pages of a level file, step by step.
-use Rattle.std.proofs.Common.{◌≡◌, ◌≢◌, inl, inr, ℕ, zero, suc, ◌+◌, ◌*◌, ◌<◌, ◌≤◌, List, [], ◌∷◌, ◌++◌, length, get_or, take, drop, refl, sym, ap, ◌∙◌, arith, length-append, append_assoc}
-use Rattle.std.specs.Prelude.{Bool, true, false, not, ◌&&◌, ◌||◌, ◌==◌, nat_lt, nat_le, None, Result, Ok}
-use Rattle.std.specs.List.{AllByRecursion}
-use Rattle.std.proofs.lemmas.Bool.Decides.{eqb_tells, leb_tells}
-use Rattle.std.proofs.lemmas.List.{drop_at, take_at, drop-drop}
-use Rattle.std.proofs.Math.Nat.{suc-mul}
-use Rattle.nb_fields.specs.Bytes.{number_of, bytes_of, part, number_in}
-use Rattle.nb_fields.proofs.NumberLaws.{number_of-bytes_of}
-use Rattle.nb_fields.specs.Places.{most_pages}
-use Rattle.nb_model.specs.Image.{Page, Numbered}
-use Rattle.nb_model.specs.Levels.{Head, Test, first_fault, ends_before, behind, read_end, read_singles, read_runs, pages_in, barred_after, is_bad_number, is_first_page, end_mark, end_bytes, joined, numbered_from}
+use Rattle.std.proofs.Common.{◌≡◌, ◌≢◌, inl, inr, ℕ, zero, suc, ◌+◌, ◌*◌, ◌<◌, ◌≤◌, List, [], ◌∷◌, ◌++◌, length, get_or, take, drop, refl, sym, ap, ◌∙◌, arith, length-append, append_assoc, Bool, true, false, not, ◌&&◌, ◌||◌, ◌==◌, nat_lt, nat_le, None, Result, Ok}
+use Rattle.nb_model.proofs.Common.{AllByRecursion, eqb_tells, leb_tells, drop_at, take_at, drop-drop, suc-mul, number_of, bytes_of, part, number_in, number_of-bytes_of, most_pages, Page, Numbered, Head, Test, first_fault, ends_before, behind, read_end, read_singles, read_runs, pages_in, barred_after, is_bad_number, is_first_page, end_mark, end_bytes, joined, numbered_from}
 use Rattle.nb_model.proofs.ImageLaws.{length-joined}
 
 -- no test fails

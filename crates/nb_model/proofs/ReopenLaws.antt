@@ -1,18 +1,6 @@
 -- Opening a database again, as the first statement of a run.
-use Rattle.std.proofs.Common.{◌≡◌, ◌≢◌, ℕ, List, [], ◌++◌, true, length, refl, sym, ap, ◌∙◌}
-use Rattle.std.specs.Prelude.{Some, None}
-use Rattle.std.proofs.lemmas.List.{append-nil}
-use Rattle.nb_host.specs.declared.refusals.Refusal.{Refusal}
-use Rattle.nb_model.specs.declared.reply.Reply.TheVariants.{Opened, Refused}
-use Rattle.nb_model.specs.declared.statement.Statement.{Statement}
-use Rattle.nb_model.specs.declared.statement.Statement.TheVariants.{OpenDb}
-use Rattle.nb_model.specs.Image.{image_state}
-use Rattle.nb_model.specs.Account.{Kept, Base, IsBase, Account}
-use Rattle.nb_model.specs.Strokes.{base_in, records_after}
-use Rattle.nb_model.specs.Causes.{Cause}
-use Rattle.nb_model.specs.Owner.{not_opened}
-use Rattle.nb_model.specs.Outcomes.{Given}
-use Rattle.nb_model.specs.Run.{Now, Opening, account_after, base_now, begun, done_opening, opening, opening_unless, refused_opening}
+use Rattle.std.proofs.Common.{◌≡◌, ◌≢◌, ℕ, List, [], ◌++◌, true, length, refl, sym, ap, ◌∙◌, Some, None}
+use Rattle.nb_model.proofs.Common.{append-nil, Refusal, Opened, Refused, Statement, OpenDb, image_state, Kept, Base, IsBase, Account, base_in, records_after, Cause, not_opened, Given, Now, Opening, account_after, base_now, begun, done_opening, opening, opening_unless, refused_opening}
 use Rattle.nb_model.proofs.RunLaws.{base_in_base}
 use Rattle.nb_model.proofs.OpeningLaws.{after_here, after_others, after_kept}
 use Rattle.nb_model.proofs.GoingLaws.{no_more}

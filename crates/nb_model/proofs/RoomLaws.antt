@@ -1,29 +1,6 @@
 -- Each stroke that makes room for a row of the history fits at its point, and each stroke that writes the row.
-use Rattle.std.proofs.Common.{◌≡◌, inl, inr, ℕ, zero, suc, ◌+◌, ◌-◌, ◌*◌, ◌/◌, ◌<◌, ◌≤◌, List, [], ◌∷◌, ◌++◌, length, drop, refl, sym, ap, subst, ◌∙◌, arith, length-drop, length-append}
-use Rattle.std.specs.Prelude.{Bool, true, false, ◌==◌, nat_lt, Option, Some, None, Result, Ok, Err}
-use Rattle.std.specs.List.{AllByRecursion}
-use Rattle.std.proofs.Math.Nat.{div-mul-le_self}
-use Rattle.std.proofs.lemmas.Bool.{true≢false, and_parts, eqb-true, lt-ltb, ltb-true, false_from_ne_true}
-use Rattle.std.proofs.lemmas.Bool.Decides.{eqb_tells}
-use Rattle.nb_fields.specs.Bytes.{bytes_of, with_part}
-use Rattle.nb_fields.specs.Page.{kind_of, stamped}
-use Rattle.nb_fields.specs.Payloads.{data_payload}
-use Rattle.nb_fields.specs.Places.{is_inventory_place, is_scn_place, most_pages}
-use Rattle.nb_fields.proofs.NumberLaws.{length-bytes_of}
-use Rattle.nb_fields.proofs.PageLaws.{length-padded}
-use Rattle.nb_fields.proofs.PartLaws.{length-with_part}
-use Rattle.nb_fields.proofs.SizeLaws.{SizeFacts, size_facts}
-use Rattle.nb_fields.specs.States.{stalled_state}
-use Rattle.nb_fields.specs.Kinds.{header_kind, data_kind, scn_kind}
-use Rattle.nb_model.specs.Account.{Ask, Base}
-use Rattle.nb_model.specs.Backups.{Room, needs_taken, room_in}
-use Rattle.nb_model.specs.Causes.{broken_at}
-use Rattle.nb_model.specs.Chains.{Chain, History, Slot, Spot, first_of, owner_of, owner_in, slots_from, slots_in, spots_on, spots_of, spots, is_in_chain, next_in, linked, walk, pages_of, found_pages, first_such, free_spot, put_slot, last_of, grown, backup_slot}
-use Rattle.nb_model.specs.Forms.{Draft, drafted, old_page, needs, put, written, wrote, inventory_of, scn_page_of, is_free_page, new_page, wants}
-use Rattle.nb_model.specs.Going.{IsPlainRoom}
-use Rattle.nb_model.specs.Image.{Page, Image, page_at, image_size, image_scn}
-use Rattle.nb_model.specs.Sound.{HasHeader, IsSoundImage}
-use Rattle.nb_model.specs.Strokes.{begin, on_base, base_after}
+use Rattle.std.proofs.Common.{◌≡◌, inl, inr, ℕ, zero, suc, ◌+◌, ◌-◌, ◌*◌, ◌/◌, ◌<◌, ◌≤◌, List, [], ◌∷◌, ◌++◌, length, drop, refl, sym, ap, subst, ◌∙◌, arith, length-drop, length-append, Bool, true, false, ◌==◌, nat_lt, Option, Some, None, Result, Ok, Err}
+use Rattle.nb_model.proofs.Common.{AllByRecursion, div-mul-le_self, true≢false, and_parts, eqb-true, lt-ltb, ltb-true, false_from_ne_true, eqb_tells, bytes_of, with_part, kind_of, stamped, data_payload, is_inventory_place, is_scn_place, most_pages, length-bytes_of, length-padded, length-with_part, SizeFacts, size_facts, stalled_state, header_kind, data_kind, scn_kind, Ask, Base, Room, needs_taken, room_in, broken_at, Chain, History, Slot, Spot, first_of, owner_of, owner_in, slots_from, slots_in, spots_on, spots_of, spots, is_in_chain, next_in, linked, walk, pages_of, found_pages, first_such, free_spot, put_slot, last_of, grown, backup_slot, Draft, drafted, old_page, needs, put, written, wrote, inventory_of, scn_page_of, is_free_page, new_page, wants, IsPlainRoom, Page, Image, page_at, image_size, image_scn, HasHeader, IsSoundImage, begin, on_base, base_after, err_ok}
 use Rattle.nb_model.proofs.ControlMay.{may_begin}
 use Rattle.nb_model.proofs.ControlSound.{new_size, control_long}
 use Rattle.nb_model.proofs.DraftLaws.{IsKept, either, put_keeps}
@@ -32,7 +9,6 @@ use Rattle.nb_model.proofs.NewSound.{HoldsOfKinds, plain_place, new_fits}
 use Rattle.nb_model.proofs.PutSound.{IsPlain, IsPut, header_fields, header_whole, old_length, plain_here}
 use Rattle.nb_model.proofs.RoundLaws.{IsNew, new_is_new}
 use Rattle.nb_model.proofs.SoundLaws.{all_at, kind_of_header, with_page_length}
-use Rattle.nb_host.proofs.PlainLaws.{err_ok}
 use Rattle.nb_model.proofs.ChainWalks.{ok_is}
 use Rattle.nb_model.proofs.OnwardTests.{plain_from}
 

@@ -1,22 +1,6 @@
 -- The room for a row of the history is below the length, and has its SCN entry, whatever else stands in the image.
-use Rattle.std.proofs.Common.{◌≡◌, inl, inr, ℕ, zero, suc, ◌+◌, ◌/◌, ◌<◌, ◌≤◌, List, [], ◌∷◌, ◌++◌, length, drop, refl, sym, ap, subst, ◌∙◌, arith}
-use Rattle.std.specs.Prelude.{Bool, true, false, ◌==◌, ◌&&◌, nat_lt, Option, Some, None}
-use Rattle.std.proofs.lemmas.Bool.{true≢false, lt-ltb}
-use Rattle.std.proofs.lemmas.Bool.Decides.{leb_tells}
-use Rattle.nb_fields.specs.Bytes.{bytes_of, with_part}
-use Rattle.nb_fields.specs.Page.{kind_of}
-use Rattle.nb_fields.specs.Payloads.{data_payload}
-use Rattle.nb_fields.specs.Places.{bits_in, is_scn_place, is_system_place, most_pages}
-use Rattle.nb_fields.specs.States.{stalled_state}
-use Rattle.nb_fields.specs.Kinds.{data_kind, scn_kind}
-use Rattle.nb_model.specs.Account.{Ask, Base}
-use Rattle.nb_model.specs.Backups.{Room, needs_taken, room_in}
-use Rattle.nb_model.specs.Causes.{broken_at, not_of_form, lowest_broken, too_short, short_for}
-use Rattle.nb_model.specs.Chains.{History, Spot, pages_of, found_pages, spots, free_spot, last_of, grown}
-use Rattle.nb_model.specs.Forms.{HasItsEntry, Draft, Need, drafted, written, wrote, needs, is_kind, other_kind, has_entry, scn_entry, scn_page_of, inventory_of, is_free_page, entry_written, entry_raised, raised, put, take_page, lowest_free, first_not, maps_from, entry_page, is_kept, needed_at, system_kind, system_page, no_page, new_page, new_within}
-use Rattle.nb_model.specs.Image.{Page, Image, page_at, image_size, image_scn}
-use Rattle.nb_model.specs.Sound.{HasHeader}
-use Rattle.nb_model.specs.Strokes.{begin, on_base, base_after, merged_page, with_control}
+use Rattle.std.proofs.Common.{◌≡◌, inl, inr, ℕ, zero, suc, ◌+◌, ◌/◌, ◌<◌, ◌≤◌, List, [], ◌∷◌, ◌++◌, length, drop, refl, sym, ap, subst, ◌∙◌, arith, Bool, true, false, ◌==◌, ◌&&◌, nat_lt, Option, Some, None}
+use Rattle.nb_model.proofs.Common.{true≢false, lt-ltb, leb_tells, bytes_of, with_part, kind_of, data_payload, bits_in, is_scn_place, is_system_place, most_pages, stalled_state, data_kind, scn_kind, Ask, Base, Room, needs_taken, room_in, broken_at, not_of_form, lowest_broken, too_short, short_for, History, Spot, pages_of, found_pages, spots, free_spot, last_of, grown, HasItsEntry, Draft, Need, drafted, written, wrote, needs, is_kind, other_kind, has_entry, scn_entry, scn_page_of, inventory_of, is_free_page, entry_written, entry_raised, raised, put, take_page, lowest_free, first_not, maps_from, entry_page, is_kept, needed_at, system_kind, system_page, no_page, new_page, new_within, Page, Image, page_at, image_size, image_scn, HasHeader, begin, on_base, base_after, merged_page, with_control, append_none}
 use Rattle.nb_model.proofs.ControlMay.{may_begin}
 use Rattle.nb_model.proofs.ControlSound.{control_rest, control_long, size_then}
 use Rattle.nb_model.proofs.DraftLaws.{IsKept, IsOf, either, drafts_are, drafted_is, needs_keeps, raised_keeps, grown_keeps, put_keeps, set_bit_keeps, system_keeps, new_keeps}
@@ -28,7 +12,6 @@ use Rattle.nb_model.proofs.PutSound.{not_when, needs_image}
 use Rattle.nb_model.proofs.RoomLaws.{in_chain, free_is_spot, put_full}
 use Rattle.nb_model.proofs.StepLaws.{kind_parts, scn_page_moves}
 use Rattle.nb_model.proofs.SoundLaws.{scn_page_behind, with_page_length}
-use Rattle.nb_host.proofs.PlainLaws.{append_none}
 use Rattle.nb_model.proofs.RoundLaws.{kind_found}
 
 -- A place for a row, whatever else stands in the image.

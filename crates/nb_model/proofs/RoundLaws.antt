@@ -1,18 +1,6 @@
 -- A round of the search for a new page in a sound image: what it finds, what it leaves, and where the search goes on.
-use Rattle.std.proofs.Common.{◌≡◌, ◌≢◌, inl, inr, ℕ, zero, suc, ◌+◌, ◌-◌, ◌/◌, ◌%◌, ◌<◌, ◌≤◌, List, [], ◌∷◌, ◌++◌, length, drop, replicate, refl, sym, ap, subst, ◌∙◌, arith}
-use Rattle.std.specs.Prelude.{Bool, true, false, ◌==◌, nat_lt, Option, Some, None}
-use Rattle.std.proofs.lemmas.Bool.{true≢false, and_from, or_parts, lt-ltb, eq-eqb, eqb-false}
-use Rattle.std.proofs.lemmas.Bool.Decides.{eqb_tells}
-use Rattle.nb_fields.specs.Places.{entries_in, bits_in, inventory_place, scn_place, is_inventory_place, is_scn_place, is_system_place, most_pages}
-use Rattle.nb_fields.specs.Page.{kind_of, stamped}
-use Rattle.nb_fields.specs.Payloads.{bit_of}
-use Rattle.nb_fields.proofs.SizeLaws.{SizeFacts, size_facts}
-use Rattle.nb_fields.proofs.PlaceLaws.{bits-least, scn_place-some}
-use Rattle.nb_fields.specs.Kinds.{inventory_kind, scn_kind}
-use Rattle.nb_model.specs.Image.{Page, Image, page_at, image_size, image_scn, with_page}
-use Rattle.nb_model.specs.Account.{base_of}
-use Rattle.nb_model.specs.Strokes.{page}
-use Rattle.nb_model.specs.Forms.{Draft, drafted, old_page, wrote, written, needs, is_kind, inventory_of, scn_page_of, bit_number, has_entry, scn_entry, is_free_page, entry_written, entry_raised, raised, put, with_bit, set_bit, take_page, free_from, lowest_free, Need, first_not, maps_from, entry_page, is_kept, needed_at, system_kind, system_payload, system_page, no_page, new_within}
+use Rattle.std.proofs.Common.{◌≡◌, ◌≢◌, inl, inr, ℕ, zero, suc, ◌+◌, ◌-◌, ◌/◌, ◌%◌, ◌<◌, ◌≤◌, List, [], ◌∷◌, ◌++◌, length, drop, replicate, refl, sym, ap, subst, ◌∙◌, arith, Bool, true, false, ◌==◌, nat_lt, Option, Some, None}
+use Rattle.nb_model.proofs.Common.{true≢false, and_from, or_parts, lt-ltb, eq-eqb, eqb-false, eqb_tells, entries_in, bits_in, inventory_place, scn_place, is_inventory_place, is_scn_place, is_system_place, most_pages, kind_of, stamped, bit_of, SizeFacts, size_facts, bits-least, scn_place-some, inventory_kind, scn_kind, Page, Image, page_at, image_size, image_scn, with_page, base_of, page, Draft, drafted, old_page, wrote, written, needs, is_kind, inventory_of, scn_page_of, bit_number, has_entry, scn_entry, is_free_page, entry_written, entry_raised, raised, put, with_bit, set_bit, take_page, free_from, lowest_free, Need, first_not, maps_from, entry_page, is_kept, needed_at, system_kind, system_payload, system_page, no_page, new_within}
 use Rattle.nb_model.proofs.StrokeLaws.{with_page_same, with_page_other}
 use Rattle.nb_model.proofs.NeedLaws.{first_behind, first_append, behind_none, first_none, maps_found, ready_none}
 use Rattle.nb_model.proofs.PlaceOrder.{map_places_from}

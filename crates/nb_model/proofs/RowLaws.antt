@@ -1,21 +1,6 @@
 -- What the statements on rows do to the rows of tables, in a neat image.
-use Rattle.std.proofs.Common.{◌≡◌, ℕ, ◌+◌, ◌<◌, List, [], length, refl, sym, ap, ◌∙◌}
-use Rattle.std.specs.Prelude.{true, false, Option, Some, None, is_some, option_map}
-use Rattle.std.proofs.lemmas.Bool.{true≢false}
-use Rattle.nb_host.specs.declared.refusals.Refusal.{Refusal}
-use Rattle.nb_model.specs.declared.reply.Reply.TheVariants.{Done, Value, Rows, Refused}
-use Rattle.nb_model.specs.declared.statement.Statement.TheVariants.{CreateTable, DropTable, Insert, Update, Delete, Get, Scan}
-use Rattle.nb_model.specs.Chains.{Chain, Catalogue, RowsFrom, Slot, Spot, table_spot, found_pages, free_spot, row_spot, row_slot, table_slot, free_slot, spots, spots_of, text_in, first_in, put_slot, place_slot, grown}
-use Rattle.nb_model.specs.Forms.{Draft, drafted, wants}
-use Rattle.nb_model.specs.Image.{Image}
-use Rattle.nb_model.specs.Outcomes.{Seen, Outcome}
-use Rattle.nb_model.specs.RowChanges.{ChangesRows}
-use Rattle.nb_model.specs.Rows.{RowMap, IsRising, with_row, without_row, row_at, rows_in, rows, IsNeat}
-use Rattle.nb_model.specs.Sound.{HasHeader, IsSoundImage}
-use Rattle.nb_fields.specs.Payloads.{data_payload}
-use Rattle.nb_model.specs.Strokes.{base_after}
-use Rattle.nb_model.specs.TableNames.{is_table_name}
-use Rattle.nb_model.specs.Turns.{first_turn}
+use Rattle.std.proofs.Common.{◌≡◌, ℕ, ◌+◌, ◌<◌, List, [], length, refl, sym, ap, ◌∙◌, true, false, Option, Some, None, is_some, option_map}
+use Rattle.nb_model.proofs.Common.{true≢false, Refusal, Done, Value, Rows, Refused, CreateTable, DropTable, Insert, Update, Delete, Get, Scan, Chain, Catalogue, RowsFrom, Slot, Spot, table_spot, found_pages, free_spot, row_spot, row_slot, table_slot, free_slot, spots, spots_of, text_in, first_in, put_slot, place_slot, grown, Draft, drafted, wants, Image, Seen, Outcome, ChangesRows, RowMap, IsRising, with_row, without_row, row_at, rows_in, rows, IsNeat, HasHeader, IsSoundImage, data_payload, base_after, is_table_name, first_turn}
 use Rattle.nb_model.proofs.DraftLaws.{IsOf, drafts_are, drafted_is, new_keeps, slot_keeps, at_keeps, place_keeps, given_keeps}
 use Rattle.nb_model.proofs.DropTurns.{drop_turn_rows, drop_gone}
 use Rattle.nb_model.proofs.CreateTurns.{create_turn_rows, create_there}

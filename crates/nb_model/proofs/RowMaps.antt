@@ -1,12 +1,6 @@
 -- Rows as a finite map: keys rise, and two maps are the same where each key has the same text in both.
-use Rattle.std.proofs.Common.{◌≡◌, ◌≢◌, inl, inr, ℕ, suc, ◌<◌, List, [], ◌∷◌, refl, sym, ap, subst, ◌∙◌, arith}
-use Rattle.std.specs.Prelude.{Bool, true, false, ◌&&◌, ◌==◌, nat_lt, nat_eq, Option, Some, None, option_map}
-use Rattle.std.specs.List.{AllByRecursion}
-use Rattle.std.proofs.lemmas.Bool.{true≢false}
-use Rattle.std.proofs.lemmas.Bool.Decides.{eqb_tells, leb_tells}
-use Rattle.nb_model.specs.Chains.{Spot, is_used, key_of, text_in, first_such, row_spot}
-use Rattle.nb_model.specs.Rows.{RowMap, IsRising, with_row, without_row, row_at, rows_in}
-use Rattle.nb_host.proofs.PlainLaws.{eq_other, eq_self}
+use Rattle.std.proofs.Common.{◌≡◌, ◌≢◌, inl, inr, ℕ, suc, ◌<◌, List, [], ◌∷◌, refl, sym, ap, subst, ◌∙◌, arith, Bool, true, false, ◌&&◌, ◌==◌, nat_lt, nat_eq, Option, Some, None, option_map}
+use Rattle.nb_model.proofs.Common.{AllByRecursion, true≢false, eqb_tells, leb_tells, Spot, is_used, key_of, text_in, first_such, row_spot, RowMap, IsRising, with_row, without_row, row_at, rows_in, eq_other, eq_self}
 
 abbrev Row : Type 0
 Row = ℕ × List ℕ

@@ -1,15 +1,7 @@
 -- Laws of runs.
-use Rattle.std.proofs.Common.{◌≡◌, ◌⊎◌, inl, inr, ℕ, zero, suc, ◌+◌, ◌-◌, arith, List, [], ◌∷◌, ◌++◌, get_or, refl, sym, ap, subst, ◌∙◌, append_assoc}
-use Rattle.std.specs.Prelude.{Option}
-use Rattle.std.specs.List.{slice_index_or}
-use Rattle.std.proofs.lemmas.Bool.Decides.{leb_tells}
-use Rattle.std.proofs.lemmas.List.{append-nil}
-use Rattle.nb_model.specs.Account.{Base, Entry, IsBase, Account, with_entry}
-use Rattle.nb_model.specs.Strokes.{Stroke, base_after, base_in}
-use Rattle.nb_model.specs.Outcomes.{Turn, Outcome}
-use Rattle.nb_model.specs.Run.{Now, Event, Played, base_now, account_after, with_made, outcome, stands_then, take_turn, one_turn, play, rounds, all_sessions, AreFinished, IsPlayed, event_of, strokes_of}
+use Rattle.std.proofs.Common.{◌≡◌, ◌⊎◌, inl, inr, ℕ, zero, suc, ◌+◌, ◌-◌, arith, List, [], ◌∷◌, ◌++◌, get_or, refl, sym, ap, subst, ◌∙◌, append_assoc, Option}
+use Rattle.nb_model.proofs.Common.{slice_index_or, leb_tells, append-nil, Base, Entry, IsBase, Account, with_entry, Stroke, base_after, base_in, Turn, Outcome, Now, Event, Played, base_now, account_after, with_made, outcome, stands_then, take_turn, one_turn, play, rounds, all_sessions, AreFinished, IsPlayed, event_of, strokes_of, same_self}
 use Rattle.nb_model.proofs.StrokeLaws.{base_after-append}
-use Rattle.nb_host.proofs.NameLaws.{same_self}
 use Rattle.nb_model.proofs.OutputLaws.{strokes_one}
 
 -- one list of turns after another

@@ -1,10 +1,6 @@
 -- No key stands twice in the used slots where one slot is written.
-use Rattle.std.proofs.Common.{◌≡◌, ◌≢◌, ◌⊎◌, inl, inr, ℕ, List, [], ◌∷◌, map, refl, sym, ap, subst, ◌∙◌}
-use Rattle.std.specs.Prelude.{Bool, true, false, ◌==◌, Some}
-use Rattle.std.specs.List.{AllByRecursion}
-use Rattle.std.proofs.lemmas.Bool.{true≢false, and_parts, and_from, eq-eqb, eqb-true}
-use Rattle.nb_model.specs.Chains.{Spot, is_used, key_of, first_such, row_spot}
-use Rattle.nb_model.specs.Rows.{used, keys_of, AreDistinct}
+use Rattle.std.proofs.Common.{◌≡◌, ◌≢◌, ◌⊎◌, inl, inr, ℕ, List, [], ◌∷◌, map, refl, sym, ap, subst, ◌∙◌, Bool, true, false, ◌==◌, Some}
+use Rattle.nb_model.proofs.Common.{AllByRecursion, true≢false, and_parts, and_from, eq-eqb, eqb-true, Spot, is_used, key_of, first_such, row_spot, used, keys_of, AreDistinct}
 use Rattle.nb_model.proofs.SpotMaps.{ChangesOne, has_key, first_true, first_false, same_some}
 
 -- the keys of the rows

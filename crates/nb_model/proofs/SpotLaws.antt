@@ -1,11 +1,6 @@
 -- The slots of pages: each stands on one of the pages, within it, and holds the bytes that stand there.
-use Rattle.std.proofs.Common.{◌≡◌, ℕ, zero, suc, ◌+◌, ◌-◌, ◌*◌, ◌/◌, ◌<◌, ◌≤◌, List, [], ◌∷◌, length, refl, ap, arith}
-use Rattle.std.specs.Prelude.{Some}
-use Rattle.std.specs.List.{AllByRecursion}
-use Rattle.std.proofs.Math.Nat.{div-mul-le_self}
-use Rattle.nb_fields.specs.Bytes.{part}
-use Rattle.nb_model.specs.Chains.{Spot, slots_from, slots_in, spots_on, spots_of, free_spot}
-use Rattle.nb_model.specs.Image.{Page, Image, page_at, image_size}
+use Rattle.std.proofs.Common.{◌≡◌, ℕ, zero, suc, ◌+◌, ◌-◌, ◌*◌, ◌/◌, ◌<◌, ◌≤◌, List, [], ◌∷◌, length, refl, ap, arith, Some}
+use Rattle.nb_model.proofs.Common.{AllByRecursion, div-mul-le_self, part, Spot, slots_from, slots_in, spots_on, spots_of, free_spot, Page, Image, page_at, image_size}
 use Rattle.nb_model.proofs.RoomLaws.{first_passes, spots_append}
 
 -- how many slots a page has

@@ -1,11 +1,6 @@
 -- One slot among the slots of a chain is written: which rows there are then, and that no key stands twice.
-use Rattle.std.proofs.Common.{◌≡◌, ◌≢◌, ◌⊎◌, inl, inr, ℕ, List, [], ◌∷◌, map, refl, sym, ap, subst, ◌∙◌, arith}
-use Rattle.std.specs.Prelude.{Bool, true, false, ◌&&◌, ◌==◌, nat_eq, slice_index, Option, Some, None, option_map}
-use Rattle.std.specs.List.{AllByRecursion}
-use Rattle.std.proofs.lemmas.Bool.{true≢false, and_parts, and_left, and_right, eqb-true, ne_eqb}
-use Rattle.std.proofs.lemmas.Bool.Decides.{eqb_tells}
-use Rattle.nb_model.specs.Chains.{Spot, is_used, key_of, text_in, first_such, free_spot, row_spot}
-use Rattle.nb_model.specs.Rows.{with_row, without_row, row_at, rows_in}
+use Rattle.std.proofs.Common.{◌≡◌, ◌≢◌, ◌⊎◌, inl, inr, ℕ, List, [], ◌∷◌, map, refl, sym, ap, subst, ◌∙◌, arith, Bool, true, false, ◌&&◌, ◌==◌, nat_eq, slice_index, Option, Some, None, option_map}
+use Rattle.nb_model.proofs.Common.{AllByRecursion, true≢false, and_parts, and_left, and_right, eqb-true, ne_eqb, eqb_tells, Spot, is_used, key_of, text_in, first_such, free_spot, row_spot, with_row, without_row, row_at, rows_in}
 use Rattle.nb_model.proofs.RowMaps.{with_rising, without_rising, rows_rise, with_here, with_there, without_here, without_there, same_maps, rows_at}
 
 -- what holds of each

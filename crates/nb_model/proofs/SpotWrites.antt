@@ -1,14 +1,6 @@
 -- A slot is written on a page: its other slots stay, and so do those of all other pages.
-use Rattle.std.proofs.Common.{◌≡◌, ◌≢◌, ◌⊎◌, inl, inr, ℕ, zero, suc, ◌+◌, ◌-◌, ◌*◌, ◌/◌, ◌<◌, List, [], ◌∷◌, ◌++◌, map, refl, sym, ap, subst, ◌∙◌, arith}
-use Rattle.std.specs.Prelude.{Bool, true, false, ◌&&◌, ◌==◌}
-use Rattle.std.specs.List.{AllByRecursion}
-use Rattle.std.proofs.lemmas.Bool.{and_left, and_right, and_from, eq-eqb, ne_eqb}
-use Rattle.std.proofs.lemmas.Bool.Decides.{eqb_tells}
-use Rattle.std.proofs.lemmas.List.{map-append}
-use Rattle.nb_fields.specs.Bytes.{part}
-use Rattle.nb_model.specs.Chains.{Slot, Spot, slots_from, slots_in, spots_on, spots_of}
-use Rattle.nb_model.specs.Image.{Page, Image, page_at}
-use Rattle.nb_model.specs.Rows.{AreDistinct}
+use Rattle.std.proofs.Common.{◌≡◌, ◌≢◌, ◌⊎◌, inl, inr, ℕ, zero, suc, ◌+◌, ◌-◌, ◌*◌, ◌/◌, ◌<◌, List, [], ◌∷◌, ◌++◌, map, refl, sym, ap, subst, ◌∙◌, arith, Bool, true, false, ◌&&◌, ◌==◌}
+use Rattle.nb_model.proofs.Common.{AllByRecursion, and_left, and_right, and_from, eq-eqb, ne_eqb, eqb_tells, map-append, part, Slot, Spot, slots_from, slots_in, spots_on, spots_of, Page, Image, page_at, AreDistinct}
 use Rattle.nb_model.proofs.SlotLaws.{IsSlotWritten}
 use Rattle.nb_model.proofs.SpotKeys.{ChangesOnce}
 use Rattle.nb_model.proofs.SpotLaws.{IsSpotOn, slot_count, all_on}

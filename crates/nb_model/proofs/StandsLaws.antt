@@ -1,26 +1,8 @@
 -- The files go on to stand for the account where the file of one name changes.
-use Rattle.std.proofs.Common.{◌≡◌, ◌≢◌, ◌⊎◌, inl, inr, ℕ, ◌-◌, List, [], ◌∷◌, ◌++◌, length, take, drop, refl, sym, ap, subst, ◌∙◌, arith, length-append}
-use Rattle.std.specs.Prelude.{Bool, true, false, ◌==◌, Option, Some, None, Result, Ok, Err, IsTrue, is_some, Contains, nat_eq}
-use Rattle.std.specs.Cmp.Lexicographic.{told_text, pointwise}
-use Rattle.std.proofs.lemmas.Bool.{true≢false, and_parts, eqb-true}
-use Rattle.std.proofs.lemmas.List.{take_at, drop_at}
-use Rattle.nb_fields.specs.Bytes.{number_of, number_in}
-use Rattle.nb_fields.specs.Header.{is_header, state_of, pending_of}
-use Rattle.nb_fields.specs.States.{stalled_state, applying_state}
-use Rattle.nb_host.specs.Files.{File, Files}
-use Rattle.nb_host.specs.Names.{same_name, is_delta, delta_suffix}
-use Rattle.nb_host.specs.declared.refusals.Refusal.{Refusal}
-use Rattle.nb_host.specs.declared.refusals.Refusal.TheVariants.{NotDatabase}
-use Rattle.nb_model.specs.Image.{Image, image_state, image_guid}
-use Rattle.nb_model.specs.Account.{Ask, Base, Kept, Entry, IsBase, Account, with_entry}
-use Rattle.nb_model.specs.Causes.{not_database}
-use Rattle.nb_model.specs.Levels.{Contents, first_fault, begins_level, read_level}
-use Rattle.nb_model.specs.Owner.{delta_name, owner, entry_of_files, entry_in}
-use Rattle.nb_model.specs.Sound.{IsSoundImage}
-use Rattle.nb_model.specs.Stands.{nil, IsKeptAs, GoesOnFrom, Belongs, to_base, to_record, IsRaised, IsSameImage, IsFrozenMain, HasSoundImages, HoldsItsRecord, KeepsRecords, NamesItsPast, FollowsHistory, is_applying, HasNoStrayDelta, IsStopped, HasApplyingStandbys, Stands}
+use Rattle.std.proofs.Common.{◌≡◌, ◌≢◌, ◌⊎◌, inl, inr, ℕ, ◌-◌, List, [], ◌∷◌, ◌++◌, length, take, drop, refl, sym, ap, subst, ◌∙◌, arith, length-append, Bool, true, false, ◌==◌, Option, Some, None, Result, Ok, Err, IsTrue, is_some, Contains, nat_eq}
+use Rattle.nb_model.proofs.Common.{told_text, pointwise, true≢false, and_parts, eqb-true, take_at, drop_at, number_of, number_in, is_header, state_of, pending_of, stalled_state, applying_state, File, Files, same_name, is_delta, delta_suffix, Refusal, NotDatabase, Image, image_state, image_guid, Ask, Base, Kept, Entry, IsBase, Account, with_entry, not_database, Contents, first_fault, begins_level, read_level, delta_name, owner, entry_of_files, entry_in, IsSoundImage, nil, IsKeptAs, GoesOnFrom, Belongs, to_base, to_record, IsRaised, IsSameImage, IsFrozenMain, HasSoundImages, HoldsItsRecord, KeepsRecords, NamesItsPast, FollowsHistory, is_applying, HasNoStrayDelta, IsStopped, HasApplyingStandbys, Stands, decide, same_self}
 use Rattle.nb_model.proofs.SoundLaws.{kind_of_header}
 use Rattle.nb_model.proofs.RunLaws.{entry_same}
-use Rattle.nb_host.proofs.NameLaws.{decide, same_self}
 
 -- the name of a difference file ends as such
 pub delta_named : (name : List ℕ) → is_delta (delta_name name) ≡ true

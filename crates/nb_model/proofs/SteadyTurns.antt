@@ -1,28 +1,7 @@
 -- While a backup is under way its record is kept, and all that was seen goes on from it: so each turn keeps what was seen well.
-use Rattle.std.proofs.Common.{◌≡◌, ◌≢◌, inl, inr, ℕ, zero, suc, ◌-◌, List, [], ◌∷◌, ◌++◌, length, replicate, get_or, refl, sym, ap, subst, ◌∙◌, arith, append_assoc}
-use Rattle.std.specs.Prelude.{Bool, Option, Some, None, true, false, ◌==◌}
-use Rattle.std.specs.List.{AllByRecursion}
-use Rattle.std.proofs.lemmas.Bool.{eqb-true}
-use Rattle.std.proofs.lemmas.Bool.Decides.{eqb_tells}
-use Rattle.nb_fields.specs.States.{normal_state, stalled_state, merge_state}
-use Rattle.nb_host.specs.declared.refusals.Refusal.{Refusal}
-use Rattle.nb_model.specs.declared.reply.Reply.{Reply}
-use Rattle.nb_model.specs.declared.statement.Statement.{Statement}
-use Rattle.nb_model.specs.Account.{Ask, Kept, Base}
-use Rattle.nb_model.specs.Backups.{room_in, close_backup, close_copy}
-use Rattle.nb_model.specs.Causes.{runs_other}
-use Rattle.nb_model.specs.Going.{AreBeginnings, AreMerging, IsNamed, AreNamed, HasRoom, Runs, IsAt, waits, backs_up, copies, ends as ending, merges, IsGoing}
-use Rattle.nb_model.specs.Image.{image_state, image_scn}
-use Rattle.nb_model.specs.Outcomes.{Turn, Begins, Copies, ClosesBackup, ClosesCopy, Ends, Merges, Finishes, Backing, Seen, Outcome, next_guid, next_time}
-use Rattle.nb_model.specs.Pages.{end_strokes, ends_by}
-use Rattle.nb_model.specs.Run.{Event, Now, Played, base_now, event_of, outcome, stands_then, one_turn, play}
-use Rattle.nb_model.specs.Steps.{Step, settles, after_step, after_steps, made, steps_of}
-use Rattle.nb_model.specs.Sound.{HasHeader}
-use Rattle.nb_model.specs.Strokes.{Stroke, begin, ends, finish, base_after}
-use Rattle.nb_model.specs.Trail.{Trail, settled}
-use Rattle.nb_model.specs.Turns.{first_turn, turn}
-use Rattle.nb_model.specs.Well.{is_on_pages}
-use Rattle.nb_model.specs.WellTrail.{IsWellTrail}
+use Rattle.std.proofs.Common.{◌≡◌, ◌≢◌, inl, inr, ℕ, zero, suc, ◌-◌, List, [], ◌∷◌, ◌++◌, length, replicate, get_or, refl, sym, ap, subst, ◌∙◌, arith, append_assoc, Bool, Option, Some, None, true, false, ◌==◌}
+use Rattle.nb_model.proofs.Common.{AllByRecursion, eqb-true, eqb_tells, normal_state, stalled_state, merge_state, Refusal, Reply, Statement, Ask, Kept, Base, room_in, close_backup, close_copy, runs_other, AreBeginnings, AreMerging, IsNamed, AreNamed, HasRoom, Runs, IsAt, waits, backs_up, copies, merges, IsGoing, image_state, image_scn, Turn, Begins, Copies, ClosesBackup, ClosesCopy, Ends, Merges, Finishes, Backing, Seen, Outcome, next_guid, next_time, end_strokes, ends_by, Event, Now, Played, base_now, event_of, outcome, stands_then, one_turn, play, Step, settles, after_step, after_steps, made, steps_of, HasHeader, Stroke, begin, ends, finish, base_after, Trail, settled, first_turn, turn, is_on_pages, IsWellTrail}
+use Rattle.nb_model.specs.Going.{ends as ending}
 use Rattle.nb_model.proofs.BackupWell.{IsLedTo, IsRecorded, StartsWell, made_base, recorded_on, recorded_settled, start_well, close_well}
 use Rattle.nb_model.proofs.GoingLaws.{next_sixteen, one_runs, name_short, then_base, own_todo, other_todo, one_cases, going_turn, named_turn, merge_turns}
 use Rattle.nb_model.proofs.HeldTurns.{statement_holds}

@@ -1,24 +1,6 @@
 -- What the forms leave of lengths, kinds and bits, whatever stands in the image.
-use Rattle.std.proofs.Common.{◌≡◌, ◌≢◌, inl, inr, ℕ, suc, ◌+◌, ◌-◌, ◌*◌, ◌/◌, ◌%◌, ◌^◌, ◌<◌, ◌≤◌, List, [], ◌++◌, length, drop, refl, sym, ap, subst, ◌∙◌, arith, length-drop}
-use Rattle.std.specs.Prelude.{Bool, true, false, ◌==◌, ◌||◌, ◌&&◌, nat_lt, IsTrue, max}
-use Rattle.std.proofs.lemmas.Bool.{true≢false, and_parts, ltb-true, eqb-true}
-use Rattle.std.proofs.lemmas.Bool.Decides.{eqb_tells, leb_tells}
-use Rattle.std.proofs.lemmas.List.{length-replicate}
-use Rattle.nb_fields.specs.Places.{is_page_size, entries_in, bits_in, inventory_place, scn_place, is_inventory_place, is_scn_place, is_system_place}
-use Rattle.nb_fields.specs.Header.{size_of}
-use Rattle.nb_fields.specs.Page.{kind_of, page_of, generation_of, stamped}
-use Rattle.nb_fields.specs.Payloads.{bit_of, inventory_payload, scn_payload}
-use Rattle.nb_fields.proofs.SizeLaws.{SizeFacts, size_facts}
-use Rattle.nb_fields.proofs.PlaceLaws.{bits-least, entries-least, scn_place-some}
-use Rattle.nb_fields.specs.Bytes.{bytes_of, with_part}
-use Rattle.nb_fields.proofs.NumberLaws.{length-bytes_of}
-use Rattle.nb_fields.proofs.PartLaws.{length-with_part}
-use Rattle.nb_fields.proofs.PageLaws.{length-page_of}
-use Rattle.nb_fields.proofs.FreshLaws.{taken_bits-free, bit_of-inventory}
-use Rattle.nb_fields.specs.Kinds.{inventory_kind, scn_kind}
-use Rattle.nb_model.specs.Image.{Page, Image, page_at, image_size, image_scn}
-use Rattle.nb_model.specs.Forms.{HasItsEntry, Draft, drafted, old_page, wrote, written, needs, is_kind, inventory_of, scn_page_of, bit_number, entry_number, has_entry, scn_entry, is_free_page, entry_written, entry_raised, raised, put, with_bit, set_bit, take_page, system_kind, system_payload, system_page, is_kept}
-use Rattle.nb_model.specs.Sound.{IsOfSize}
+use Rattle.std.proofs.Common.{◌≡◌, ◌≢◌, inl, inr, ℕ, suc, ◌+◌, ◌-◌, ◌*◌, ◌/◌, ◌%◌, ◌^◌, ◌<◌, ◌≤◌, List, [], ◌++◌, length, drop, refl, sym, ap, subst, ◌∙◌, arith, length-drop, Bool, true, false, ◌==◌, ◌||◌, ◌&&◌, nat_lt, IsTrue, max}
+use Rattle.nb_model.proofs.Common.{true≢false, and_parts, ltb-true, eqb-true, eqb_tells, leb_tells, length-replicate, is_page_size, entries_in, bits_in, inventory_place, scn_place, is_inventory_place, is_scn_place, is_system_place, size_of, kind_of, page_of, generation_of, stamped, bit_of, inventory_payload, scn_payload, SizeFacts, size_facts, bits-least, entries-least, scn_place-some, bytes_of, with_part, length-bytes_of, length-with_part, length-page_of, taken_bits-free, bit_of-inventory, inventory_kind, scn_kind, Page, Image, page_at, image_size, image_scn, HasItsEntry, Draft, drafted, old_page, wrote, written, needs, is_kind, inventory_of, scn_page_of, bit_number, entry_number, has_entry, scn_entry, is_free_page, entry_written, entry_raised, raised, put, with_bit, set_bit, take_page, system_kind, system_payload, system_page, is_kept, IsOfSize}
 use Rattle.nb_model.proofs.DraftJoin.{join_set_bit}
 use Rattle.nb_model.proofs.StrokeLaws.{with_page_same, with_page_other}
 use Rattle.nb_model.proofs.SoundLaws.{all_at, all_from, inventory_there, inventory_place_some, scn_page_there, scn_place_before, with_page_length}

@@ -1,17 +1,6 @@
 -- Steps of runs, one after another, and how many of them are acknowledged.
-use Rattle.std.proofs.Common.{◌≡◌, ℕ, zero, suc, ◌+◌, ◌-◌, ◌≤◌, List, [], ◌∷◌, ◌++◌, length, take, refl, sym, ap, ◌∙◌, arith, length-append, append_assoc}
-use Rattle.std.specs.Prelude.{Bool, Option, Some, None, true, false, nat_le}
-use Rattle.std.proofs.lemmas.Bool.{lt-leb}
-use Rattle.std.proofs.lemmas.List.{append-nil, take-append-le, take_all}
-use Rattle.std.proofs.Math.Seq.{take-append-add}
-use Rattle.nb_model.specs.declared.reply.Reply.{Reply}
-use Rattle.nb_model.specs.Account.{Base}
-use Rattle.nb_model.specs.Lines.{line_text}
-use Rattle.nb_model.specs.Strokes.{Stroke, base_after}
-use Rattle.nb_model.specs.Run.{Event, strokes_of}
-use Rattle.nb_model.specs.Output.{output}
-use Rattle.nb_model.specs.Trail.{Trail, settled, after_stroke, after_strokes}
-use Rattle.nb_model.specs.Steps.{Step, makes, settles, after_step, after_steps, made, steps_in, steps_of, acked_turns, acked_steps}
+use Rattle.std.proofs.Common.{◌≡◌, ℕ, zero, suc, ◌+◌, ◌-◌, ◌≤◌, List, [], ◌∷◌, ◌++◌, length, take, refl, sym, ap, ◌∙◌, arith, length-append, append_assoc, Bool, Option, Some, None, true, false, nat_le}
+use Rattle.nb_model.proofs.Common.{lt-leb, append-nil, take-append-le, take_all, take-append-add, Reply, Base, line_text, Stroke, base_after, Event, strokes_of, output, Trail, settled, after_stroke, after_strokes, Step, makes, settles, after_step, after_steps, made, steps_in, steps_of, acked_turns, acked_steps}
 use Rattle.nb_model.proofs.OutputLaws.{line-some, output-quiet, output-line, output_no_event}
 use Rattle.nb_model.proofs.StrokeLaws.{base_after-append}
 use Rattle.nb_model.proofs.SteadyLaws.{stroke_seen}

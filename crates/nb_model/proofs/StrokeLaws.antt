@@ -1,11 +1,6 @@
 -- Laws of strokes.
 use Rattle.std.proofs.Common.{◌≡◌, ◌≢◌, inl, inr, ℕ, zero, suc, ◌≤◌, List, [], ◌∷◌, ◌++◌, length, get_or, take, drop, refl, sym, ap, ◌∙◌, arith, length-append, get_or-set_other, append_assoc, get_or-set_same}
-use Rattle.std.proofs.lemmas.List.{get_or_append_left}
-use Rattle.std.proofs.lemmas.Bool.Decides.{leb_tells}
-use Rattle.nb_fields.specs.Bytes.{bytes_of}
-use Rattle.nb_model.specs.Image.{Page, Image, page_at, first_page, with_page}
-use Rattle.nb_model.specs.Account.{Base, Kept}
-use Rattle.nb_model.specs.Strokes.{Stroke, page, on_base, records_of, base_after, records_after, merged_page, fixed}
+use Rattle.nb_model.proofs.Common.{get_or_append_left, leb_tells, bytes_of, Page, Image, page_at, first_page, with_page, Base, Kept, Stroke, page, on_base, records_of, base_after, records_after, merged_page, fixed}
 
 -- strokes after strokes
 pub base_after-append : (b : Base) (xs ys : List Stroke) → base_after b (xs ++ ys) ≡ base_after (base_after b xs) ys

@@ -1,17 +1,6 @@
 -- Laws of trails: what a crash may leave of one that is settled, and that writes that are synced keep it settled.
-use Rattle.std.proofs.Common.{◌≡◌, ℕ, zero, suc, ◌≤◌, List, [], ◌∷◌, ◌++◌, length, take, refl, sym, ap, subst, ◌∙◌, set, arith}
-use Rattle.std.specs.Prelude.{Bool, true, false, ◌||◌, ◌==◌, nat_le, nat_lt, Ok, Contains}
-use Rattle.std.specs.List.{AllByRecursion}
-use Rattle.std.proofs.lemmas.Bool.{true≢false}
-use Rattle.std.proofs.lemmas.List.{append-nil}
-use Rattle.std.proofs.lemmas.List.Elements.{Contains-append_right}
-use Rattle.nb_fields.specs.Bytes.{number_of, number_in}
-use Rattle.nb_host.specs.Files.{File, Files}
-use Rattle.nb_model.specs.Image.{Page, Image, is_forced, with_page}
-use Rattle.nb_model.specs.Account.{Base}
-use Rattle.nb_model.specs.Owner.{owner}
-use Rattle.nb_model.specs.Strokes.{Stroke, make, page, begin, ends, finish, fix, merge, on_base, base_after}
-use Rattle.nb_model.specs.Trail.{Trail, settled, bases_of, settles_at, after_stroke, after_strokes, AreSynced, IsBehindFirst, IsLeft, IsFirm, StandsOn, StandsIn, ShowsIn}
+use Rattle.std.proofs.Common.{◌≡◌, ℕ, zero, suc, ◌≤◌, List, [], ◌∷◌, ◌++◌, length, take, refl, sym, ap, subst, ◌∙◌, set, arith, Bool, true, false, ◌||◌, ◌==◌, nat_le, nat_lt, Ok, Contains}
+use Rattle.nb_model.proofs.Common.{AllByRecursion, true≢false, append-nil, Contains-append_right, number_of, number_in, File, Files, Page, Image, is_forced, with_page, Base, owner, Stroke, make, page, begin, ends, finish, fix, merge, on_base, base_after, Trail, settled, bases_of, settles_at, after_stroke, after_strokes, AreSynced, IsBehindFirst, IsLeft, IsFirm, StandsOn, StandsIn, ShowsIn}
 use Rattle.nb_model.proofs.StrokeLaws.{whole_page, stroke_page}
 use Rattle.nb_model.proofs.CoveredLaws.{firm_left}
 

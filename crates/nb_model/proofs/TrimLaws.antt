@@ -1,16 +1,6 @@
 -- Pages of zeros at the end of an image: what is seen of the image without them, and the end of a merge, which drops them.
-use Rattle.std.proofs.Common.{◌≡◌, inl, inr, ℕ, zero, suc, ◌-◌, ◌<◌, ◌≤◌, [], ◌∷◌, ◌++◌, length, replicate, refl, sym, ap, subst, ◌∙◌, arith, length-append}
-use Rattle.std.specs.Prelude.{true, false}
-use Rattle.std.proofs.lemmas.Bool.{cases_lt}
-use Rattle.std.proofs.lemmas.List.{get_or_append_left, get_or-append_right}
-use Rattle.nb_fields.specs.Bytes.{is_zeros}
-use Rattle.nb_fields.specs.Header.{is_header}
-use Rattle.nb_fields.specs.States.{normal_state}
-use Rattle.nb_model.specs.Account.{Base}
-use Rattle.nb_model.specs.Image.{Page, Image, page_at, first_page, image_scn, image_guid, trimmed}
-use Rattle.nb_model.specs.Owner.{main_page}
-use Rattle.nb_model.specs.Sound.{HasHeader, HasNoZeros, IsOfSize}
-use Rattle.nb_model.specs.Strokes.{finish, on_base, controlled, with_control}
+use Rattle.std.proofs.Common.{◌≡◌, inl, inr, ℕ, zero, suc, ◌-◌, ◌<◌, ◌≤◌, [], ◌∷◌, ◌++◌, length, replicate, refl, sym, ap, subst, ◌∙◌, arith, length-append, true, false}
+use Rattle.nb_model.proofs.Common.{cases_lt, get_or_append_left, get_or-append_right, is_zeros, is_header, normal_state, Base, Page, Image, page_at, first_page, image_scn, image_guid, trimmed, main_page, HasHeader, HasNoZeros, IsOfSize, finish, on_base, controlled, with_control}
 use Rattle.nb_model.proofs.ControlLaws.{control_header}
 use Rattle.nb_model.proofs.ControlMay.{may_finish}
 use Rattle.nb_model.proofs.ControlSound.{MayControl}

@@ -1,23 +1,10 @@
 -- Under a name that is free no database was seen.
-use Rattle.std.proofs.Common.{◌≡◌, ◌⊎◌, inl, inr, ℕ, zero, suc, ◌≤◌, List, [], ◌∷◌, length, take, drop, refl, sym, ap, subst, ◌∙◌, arith, length-take-le, take-take}
-use Rattle.std.specs.Prelude.{Bool, true, false, Some, Ok}
-use Rattle.std.proofs.lemmas.Bool.Decides.{leb_tells}
-use Rattle.nb_fields.specs.Bytes.{is_zeros}
-use Rattle.nb_fields.specs.Free.{is_free_file}
-use Rattle.nb_fields.specs.Header.{is_header, size_of, state_of}
-use Rattle.nb_fields.specs.States.{applying_state}
-use Rattle.nb_host.specs.Files.{File}
-use Rattle.nb_model.specs.Account.{Entry, Missing, Plain, IsBase}
-use Rattle.nb_model.specs.Causes.{is_free_entry}
-use Rattle.nb_model.specs.Image.{Page, Image, first_page, image_state, image_in, cut, trimmed}
-use Rattle.nb_model.specs.Owner.{owner}
-use Rattle.nb_model.specs.Strokes.{base_in}
+use Rattle.std.proofs.Common.{◌≡◌, ◌⊎◌, inl, inr, ℕ, zero, suc, ◌≤◌, List, [], ◌∷◌, length, take, drop, refl, sym, ap, subst, ◌∙◌, arith, length-take-le, take-take, Bool, true, false, Some, Ok}
+use Rattle.nb_model.proofs.Common.{leb_tells, is_zeros, is_free_file, is_header, size_of, state_of, applying_state, File, Entry, Missing, Plain, IsBase, is_free_entry, Page, Image, first_page, image_state, image_in, cut, trimmed, owner, base_in, and_parts, false_true}
 use Rattle.nb_model.proofs.FreeLaws.{free_header}
 use Rattle.nb_model.proofs.HeaderLaws.{header-long, same-header, same-number}
 use Rattle.nb_model.proofs.MainLaws.{some_page}
 use Rattle.nb_model.proofs.OpenedLaws.{HasMain, has_main, main_header, same_state}
-use Rattle.std.proofs.lemmas.Bool.{and_parts}
-use Rattle.nb_host.proofs.PlainLaws.{false_true}
 use Rattle.nb_model.proofs.ImageLaws.{trimmed-none}
 
 -- page 0 stays where pages of zeros are cut off, or none does

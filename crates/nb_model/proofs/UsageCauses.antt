@@ -1,17 +1,7 @@
 -- Causes that aren't the refusal of words which name no job.
-use Rattle.std.proofs.Common.{◌≡◌, ◌≢◌, ℕ, List, [], ◌∷◌, length, map}
-use Rattle.nb_fields.specs.Header.{is_header, size_of}
-use Rattle.nb_fields.specs.Places.{most_pages}
-use Rattle.std.specs.Prelude.{Bool, Option, Some, None, Result, Ok, Err, true, false, nat_lt, not, min, ◌/◌, ◌%◌, ◌==◌, ◌||◌}
-use Rattle.std.specs.List.{AllByRecursion}
-use Rattle.nb_host.specs.declared.refusals.Refusal.{Refusal}
-use Rattle.nb_host.specs.declared.refusals.Refusal.TheVariants.{Usage, NotDatabase}
-use Rattle.nb_model.specs.Image.{Image}
-use Rattle.nb_model.specs.Causes.{Cause, first_cause, when, read_only, not_raw, not_database, lowest_broken, runs_other, runs_any, broken_at, too_short, short_for}
-use Rattle.nb_model.specs.Chains.{Chain, Spot, pages_of}
-use Rattle.nb_model.specs.Checks.{unsound_by, check_cause}
+use Rattle.std.proofs.Common.{◌≡◌, ◌≢◌, ℕ, List, [], ◌∷◌, length, map, Bool, Option, Some, None, Result, Ok, Err, true, false, nat_lt, not, min, ◌/◌, ◌%◌, ◌==◌, ◌||◌}
+use Rattle.nb_model.proofs.Common.{is_header, size_of, most_pages, AllByRecursion, Refusal, Usage, NotDatabase, Image, Cause, first_cause, when, read_only, not_raw, not_database, lowest_broken, runs_other, runs_any, broken_at, too_short, short_for, Chain, Spot, pages_of, unsound_by, check_cause, chains}
 use Rattle.nb_model.specs.Facts.{unsound}
-use Rattle.nb_model.specs.Rows.{chains}
 
 abbrev pub IsOther : Cause → Type 0
 IsOther c = c ≢ Some Usage

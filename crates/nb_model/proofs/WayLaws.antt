@@ -1,18 +1,6 @@
 -- The pages that wait go out one by one: what is left and what reads after each of them.
-use Rattle.std.proofs.Common.{◌≡◌, ◌≢◌, ◌⊎◌, inl, inr, ⊎_elim, ℕ, suc, ◌<◌, ◌≤◌, List, [], ◌∷◌, ◌++◌, length, refl, sym, ap, subst, ◌∙◌, arith, append_assoc, length-append}
-use Rattle.std.specs.Prelude.{Bool, true, false, ◌==◌, ◌||◌, nat_eq, nat_le}
-use Rattle.std.specs.List.{list_any}
-use Rattle.std.proofs.lemmas.Bool.{true≢false}
-use Rattle.std.proofs.lemmas.List.{append-nil}
-use Rattle.std.proofs.lemmas.Bool.Decides.{eqb_tells, leb_tells}
-use Rattle.nb_fields.specs.Places.{is_scn_place}
-use Rattle.nb_fields.specs.Header.{state_of, size_of}
-use Rattle.nb_fields.specs.States.{stalled_state, merge_state}
-use Rattle.nb_model.specs.Image.{Page, Image, page_at, first_page, image_size, image_state, is_forced, with_page}
-use Rattle.nb_model.specs.Account.{Base}
-use Rattle.nb_model.specs.Strokes.{page, noted, on_base}
-use Rattle.nb_model.specs.Trail.{Trail, bases_of, settles_at, after_stroke, HasPage, IsFirm}
-use Rattle.nb_model.specs.Behind.{IsBehind, IsRewritten, IsOnTheWay, IsRead}
+use Rattle.std.proofs.Common.{◌≡◌, ◌≢◌, ◌⊎◌, inl, inr, ⊎_elim, ℕ, suc, ◌<◌, ◌≤◌, List, [], ◌∷◌, ◌++◌, length, refl, sym, ap, subst, ◌∙◌, arith, append_assoc, length-append, Bool, true, false, ◌==◌, ◌||◌, nat_eq, nat_le}
+use Rattle.nb_model.proofs.Common.{list_any, true≢false, append-nil, eqb_tells, leb_tells, is_scn_place, state_of, size_of, stalled_state, merge_state, Page, Image, page_at, first_page, image_size, image_state, is_forced, with_page, Base, page, noted, on_base, Trail, bases_of, settles_at, after_stroke, HasPage, IsFirm, IsBehind, IsRewritten, IsOnTheWay, IsRead}
 use Rattle.nb_model.proofs.SoundLaws.{with_page_length}
 use Rattle.nb_model.proofs.StrokeLaws.{with_page_same, with_page_other, whole_page, stroke_page}
 use Rattle.nb_model.proofs.TrailLaws.{last_there, waits_after}

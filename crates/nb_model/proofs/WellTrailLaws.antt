@@ -1,23 +1,6 @@
 -- Whatever a crash leaves of a well trail is well, and page strokes that fit keep a trail well.
-use Rattle.std.proofs.Common.{◌≡◌, ◌≤◌, ℕ, zero, suc, ◌<◌, List, [], ◌∷◌, ◌++◌, length, take, refl, sym, ap, subst, ◌∙◌, arith}
-use Rattle.std.specs.Prelude.{IsTrue, true, Contains}
-use Rattle.nb_fields.specs.Fresh.{fresh}
-use Rattle.nb_fields.specs.Places.{is_page_size}
-use Rattle.nb_fields.specs.Header.{is_header}
-use Rattle.nb_fields.specs.States.{normal_state, stalled_state}
-use Rattle.nb_model.specs.Going.{IsNamed}
-use Rattle.nb_model.specs.declared.statement.Statement.{Statement}
-use Rattle.nb_model.specs.Image.{Page, Image, first_page, image_state, image_scn, image_guid, with_page}
-use Rattle.nb_model.specs.Account.{Kept, Base, base_of}
-use Rattle.nb_model.specs.Strokes.{Stroke, page, merged_page, on_base}
-use Rattle.nb_model.specs.Outcomes.{Begins, Seen}
-use Rattle.nb_model.specs.Turns.{first_turn}
-use Rattle.nb_model.specs.Sound.{IsSoundImage, HasHeader}
-use Rattle.nb_model.specs.Stands.{IsKeptAs, GoesOn, HasRows, NamesPast}
-use Rattle.nb_model.specs.Trail.{Trail, settled, bases_of, after_stroke, after_strokes, IsLeft}
-use Rattle.nb_model.specs.Earlier.{IsEarlier, IsCovered}
-use Rattle.nb_model.specs.Well.{IsWellIn, IsWellBase, IsOfRecord, IsWellBaseIn, is_on_pages}
-use Rattle.nb_model.specs.WellTrail.{IsOverFrozen, AllGoOn, IsWellTrail}
+use Rattle.std.proofs.Common.{◌≡◌, ◌≤◌, ℕ, zero, suc, ◌<◌, List, [], ◌∷◌, ◌++◌, length, take, refl, sym, ap, subst, ◌∙◌, arith, IsTrue, true, Contains}
+use Rattle.nb_model.proofs.Common.{fresh, is_page_size, is_header, normal_state, stalled_state, IsNamed, Statement, Page, Image, first_page, image_state, image_scn, image_guid, with_page, Kept, Base, base_of, Stroke, page, merged_page, on_base, Begins, Seen, first_turn, IsSoundImage, HasHeader, IsKeptAs, GoesOn, HasRows, NamesPast, Trail, settled, bases_of, after_stroke, after_strokes, IsLeft, IsEarlier, IsCovered, IsWellIn, IsWellBase, IsOfRecord, IsWellBaseIn, is_on_pages, IsOverFrozen, AllGoOn, IsWellTrail}
 use Rattle.nb_model.proofs.FitLaws.{IsWhole, IsFitting, AreFitting}
 use Rattle.nb_model.proofs.SoundLaws.{FitsAt, header_stays, fields_stay, state_stays, guid_stays, page_sound}
 use Rattle.nb_model.proofs.PutSound.{header_whole}

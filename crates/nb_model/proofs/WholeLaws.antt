@@ -1,23 +1,7 @@
 -- A copy of a kept image is accepted as the first file of a chain, and a kept chain gives the kept image.
-use Rattle.std.proofs.Common.{◌≡◌, ℕ, ◌+◌, ◌-◌, ◌*◌, ◌/◌, ◌%◌, ◌<◌, ◌≤◌, List, [], ◌∷◌, ◌++◌, length, take, refl, sym, ap, subst, ◌∙◌, arith, length-append}
-use Rattle.std.specs.Prelude.{Bool, true, false, not, nat_lt, Some, None, Ok}
-use Rattle.std.proofs.lemmas.List.{take-append-le}
-use Rattle.std.proofs.Math.Nat.{mul-mod_left, mul-div_cancel}
-use Rattle.nb_fields.specs.Bytes.{number_of, number_in, part}
-use Rattle.nb_fields.specs.Header.{is_header, state_of, size_of, scn_of, guid_of}
-use Rattle.nb_fields.proofs.HeaderLaws.{is_header-take}
-use Rattle.nb_fields.proofs.PartLaws.{part-take}
-use Rattle.nb_fields.specs.Places.{most_pages}
-use Rattle.nb_fields.specs.States.{stalled_state}
-use Rattle.nb_host.specs.Files.{Files}
-use Rattle.nb_host.specs.declared.refusals.Refusal.{Refusal}
-use Rattle.nb_model.specs.Image.{Page, Image, image_size, first_page, cut}
-use Rattle.nb_model.specs.Account.{Kept}
-use Rattle.nb_model.specs.Causes.{Cause, first_cause, when}
-use Rattle.nb_model.specs.Levels.{joined, numbered_from, begins_level}
-use Rattle.nb_model.specs.Restoring.{Link, whole_link, is_bad_length, not_whole, first_link, next_links, linked, verdict, applied}
-use Rattle.nb_model.specs.Sound.{IsOfSize, HasNoZeros}
-use Rattle.nb_model.specs.Line.{HoldLine, HoldsFirst, first_file, next_files, last_in}
+use Rattle.std.proofs.Common.{◌≡◌, ℕ, ◌+◌, ◌-◌, ◌*◌, ◌/◌, ◌%◌, ◌<◌, ◌≤◌, List, [], ◌∷◌, ◌++◌, length, take, refl, sym, ap, subst, ◌∙◌, arith, length-append, Bool, true, false, not, nat_lt, Some, None, Ok}
+use Rattle.nb_model.proofs.Common.{take-append-le, mul-mod_left, mul-div_cancel, number_of, number_in, part, is_header, state_of, size_of, scn_of, guid_of, is_header-take, part-take, most_pages, stalled_state, Files, Refusal, Page, Image, image_size, first_page, cut, Kept, Cause, first_cause, when, joined, numbered_from, begins_level, Link, whole_link, is_bad_length, not_whole, first_link, next_links, verdict, applied, IsOfSize, HasNoZeros, HoldLine, HoldsFirst, first_file, next_files, last_in}
+use Rattle.nb_model.specs.Restoring.{linked}
 use Rattle.nb_model.proofs.HeaderLaws.{first_byte, header-long, header-kind}
 use Rattle.nb_model.proofs.ImageLaws.{all-append, length-joined, cut-joined}
 use Rattle.nb_model.proofs.ReadLaws.{eq_yes, lt_no, or_no}

@@ -1,27 +1,11 @@
 -- What is in memory is what was seen last, after each call.
-use Rattle.std.proofs.Common.{◌≡◌, ◌≢◌, ◌⊎◌, inl, inr, ⊎_elim, ℕ, zero, suc, ◌+◌, ◌-◌, ◌<◌, ◌≤◌, Bool, nat_eq, true, false, List, [], ◌∷◌, length, take, Option, Some, None, refl, sym, ap, subst, ◌∙◌, arith}
-use Rattle.std.specs.Prelude.{is_some, slice_get, MatchOption, if◌then◌else◌}
-use Rattle.std.specs.Option.{option_and_then, option_map, option_map_or}
-use Rattle.std.specs.List.{AllByRecursion, IsDistinct}
-use Rattle.std.specs.Map.{keys_of, lookup_entry, remove_entry}
-use Rattle.std.proofs.lemmas.Bool.{true≢false, eqb-false}
-use Rattle.std.proofs.lemmas.Bool.Decides.{leb_tells}
-use Rattle.nb_fields.specs.States.{normal_state, stalled_state, merge_state}
-use Rattle.lru.specs.LruCache.{lru_cache, promoted, put_entries}
-use Rattle.nb_model.specs.Image.{Page, Image, page_at, first_page, image_scn, image_guid, trimmed, with_page}
-use Rattle.nb_model.specs.Account.{Ask, Base}
-use Rattle.nb_model.specs.Strokes.{page, begin, ends, finish, on_base, with_control}
-use Rattle.nb_model.specs.Trail.{Trail, after_stroke}
+use Rattle.std.proofs.Common.{◌≡◌, ◌≢◌, ◌⊎◌, inl, inr, ⊎_elim, ℕ, zero, suc, ◌+◌, ◌-◌, ◌<◌, ◌≤◌, Bool, nat_eq, true, false, List, [], ◌∷◌, length, take, Option, Some, None, refl, sym, ap, subst, ◌∙◌, arith, is_some, slice_get, MatchOption, if◌then◌else◌}
+use Rattle.nb_owner.proofs.Common.{option_and_then, option_map, option_map_or, AllByRecursion, IsDistinct, keys_of, lookup_entry, remove_entry, true≢false, eqb-false, leb_tells, normal_state, stalled_state, merge_state, lru_cache, promoted, put_entries, Page, Image, page_at, first_page, image_scn, image_guid, trimmed, with_page, Ask, Base, page, begin, ends, finish, on_base, with_control, Trail, after_stroke, trail_base, World, Fits, merged_fits, stroke-image, Slot, slot_of, rank_of, with_rank, dropped, NoneWaits, IsNoLater, GoesFirst, Held, Pages, IsOpen, HasBlock, AreOf, IsValid, bare, used, behind_first, but_below}
 use Rattle.nb_model.proofs.StrokeLaws.{with_page_same, with_page_other}
-use Rattle.nb_model.proofs.TrailLaws.{trail_base}
 use Rattle.nb_model.proofs.TrimLaws.{trimmed_length, trimmed_at, trimmed_past, finish_base}
-use Rattle.nb_host.specs.World.{World}
-use Rattle.nb_base.specs.Open.{Fits, IsOpen as AreOpen}
+use Rattle.nb_base.specs.Open.{IsOpen as AreOpen}
 use Rattle.nb_base.proofs.ControlLaws.{with_control-behind}
 use Rattle.nb_base.proofs.EndLaws.{finished_length}
-use Rattle.nb_base.proofs.LeftLaws.{merged_fits, stroke-image}
-use Rattle.nb_cache.specs.Held.{Slot, slot_of, rank_of, with_rank, dropped, NoneWaits, IsNoLater, GoesFirst}
-use Rattle.nb_owner.specs.Open.{Held, Pages, IsOpen, HasBlock, AreOf, IsValid, bare, used, behind_first, but_below}
 use Rattle.nb_owner.proofs.UsedLaws.{All-dropped, All-put, All-found, once_put, once_removed, promoted_put, promoted_absent}
 use Rattle.nb_owner.proofs.RankLaws.{none_found, marked_keys, marked_long, found_rank, slot_put}
 

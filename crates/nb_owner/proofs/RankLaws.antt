@@ -1,19 +1,6 @@
 -- Which pages wait, as one is kept, is marked, or is dropped.
-use Rattle.std.proofs.Common.{◌≡◌, ◌≢◌, inl, inr, ℕ, zero, suc, ◌+◌, ◌-◌, ◌<◌, ◌≤◌, List, [], ◌∷◌, length, take, refl, sym, ap, subst, ◌∙◌, arith}
-use Rattle.std.specs.Prelude.{Bool, true, false, nat_eq, Option, Some, None, is_some, if◌then◌else◌, slice_get, Contains}
-use Rattle.std.specs.List.{AllByRecursion, IsDistinct}
-use Rattle.std.specs.Option.{option_and_then, option_map, option_map_or}
-use Rattle.std.specs.Map.{keys_of, lookup_entry, remove_entry}
-use Rattle.std.proofs.lemmas.Bool.{true≢false, eqb-true}
-use Rattle.std.proofs.lemmas.Bool.Decides.{eqb_tells}
-use Rattle.std.proofs.lemmas.Map.Keys.{IsDistinct-head, IsDistinct-tail}
-use Rattle.lru.specs.LruCache.{lru_cache, promoted, put_entries}
-use Rattle.lru.proofs.CallerLemmas.{Contains-lookup_entry}
-use Rattle.lru.proofs.Pairs.{lookup-lookup_entry}
-use Rattle.nb_model.specs.Image.{Image}
-use Rattle.nb_cache.specs.Held.{Slot, slot_of, rank_of, with_rank, dropped, NoneWaits}
-use Rattle.nb_owner.specs.Open.{Pages, AreOf, bare}
-use Rattle.nb_host.proofs.PlainLaws.{eq_other, eq_self}
+use Rattle.std.proofs.Common.{◌≡◌, ◌≢◌, inl, inr, ℕ, zero, suc, ◌+◌, ◌-◌, ◌<◌, ◌≤◌, List, [], ◌∷◌, length, take, refl, sym, ap, subst, ◌∙◌, arith, Bool, true, false, nat_eq, Option, Some, None, is_some, if◌then◌else◌, slice_get, Contains}
+use Rattle.nb_owner.proofs.Common.{AllByRecursion, IsDistinct, option_and_then, option_map, option_map_or, keys_of, lookup_entry, remove_entry, true≢false, eqb-true, eqb_tells, IsDistinct-head, IsDistinct-tail, lru_cache, promoted, put_entries, Contains-lookup_entry, lookup-lookup_entry, Image, Slot, slot_of, rank_of, with_rank, dropped, NoneWaits, Pages, AreOf, bare, eq_other, eq_self}
 
 -- the first page and the others
 pub rank_here : (p : ℕ) (e : ℕ × Slot) (es : Pages) → nat_eq p e.0 ≡ true → rank_of (e ∷ es) p ≡ e.1.rank

@@ -1,39 +1,14 @@
 -- What is open while pages wait, and that one more waits.
-use Rattle.std.proofs.Common.{◌≡◌, ◌≢◌, inl, inr, ⊎_elim, ℕ, suc, ◌+◌, ◌<◌, ◌≤◌, List, [], ◌∷◌, ◌++◌, length, refl, sym, ap, subst, ◌∙◌, arith, append_assoc, length-append}
-use Rattle.std.specs.Prelude.{Bool, true, false, ◌==◌, ◌&&◌, not, nat_eq, nat_lt, Option, Some, None, is_some}
-use Rattle.std.specs.List.{AllByRecursion}
-use Rattle.std.proofs.lemmas.Bool.{true≢false}
-use Rattle.std.proofs.lemmas.Bool.Decides.{eqb_tells, leb_tells}
-use Rattle.std.proofs.lemmas.List.{append-nil}
-use Rattle.lru.specs.LruCache.{lru_cache, put_entries}
+use Rattle.std.proofs.Common.{◌≡◌, ◌≢◌, inl, inr, ⊎_elim, ℕ, suc, ◌+◌, ◌<◌, ◌≤◌, List, [], ◌∷◌, ◌++◌, length, refl, sym, ap, subst, ◌∙◌, arith, append_assoc, length-append, Bool, true, false, ◌==◌, ◌&&◌, not, nat_eq, nat_lt, Option, Some, None, is_some}
+use Rattle.nb_owner.proofs.Common.{AllByRecursion, true≢false, eqb_tells, leb_tells, append-nil, lru_cache, put_entries, is_scn_place, most_pages, is_header, state_of, size_of, normal_state, stalled_state, World, option_and_then, Page, Image, page_at, first_page, image_size, image_state, is_forced, Base, entry_for, page, on_base, Trail, after_stroke, ShowsIn, behind_left, behind_firm, trail_base, same_pages, put_same, put_other, put_first, put_long, put_frozen, put_diverted, put_longer, wait_behind, wait_unsettled, behind_itself, Agrees, StandsFirm, Drafts, stroke-stalled, noted-there, noted-new, entry-later, entry-added, entry-front, entry_at, later, Slot, slot_of, rank_of, with_rank, dropped, NoneWaits, Held, Pages, AreOf, waits, IsWaiting, AreDrafted, Waits, IsOpen, IsValid, may_wait, cache_of, rank_in, both_true, eq_self, not_true}
 use Rattle.nb_fields.specs.Bytes.{is_zeros, number_in}
-use Rattle.nb_fields.specs.Places.{is_scn_place, most_pages}
-use Rattle.nb_fields.specs.Header.{is_header, state_of, size_of}
-use Rattle.nb_fields.specs.States.{normal_state, stalled_state}
 use Rattle.nb_host.specs.Calls.{IsStill}
-use Rattle.nb_host.specs.World.{World}
-use Rattle.std.specs.Option.{option_and_then}
-use Rattle.nb_model.specs.Image.{Page, Image, page_at, first_page, image_size, image_state, is_forced}
-use Rattle.nb_model.specs.Account.{Base}
-use Rattle.nb_model.specs.Owner.{entry_for}
-use Rattle.nb_model.specs.Strokes.{page, on_base}
-use Rattle.nb_model.specs.Trail.{Trail, after_stroke, ShowsIn}
 use Rattle.nb_model.specs.Waiting.{rank_of as rank_for}
-use Rattle.nb_model.proofs.BehindLaws.{behind_left, behind_firm}
-use Rattle.nb_model.proofs.TrailLaws.{trail_base}
-use Rattle.nb_model.proofs.WayLaws.{same_pages, put_same, put_other, put_first, put_long, put_frozen, put_diverted, put_longer, wait_behind, wait_unsettled, behind_itself}
-use Rattle.nb_base.specs.Open.{IsOpen as AreOpen, Agrees}
-use Rattle.nb_base.specs.Firm.{StandsFirm}
+use Rattle.nb_base.specs.Open.{IsOpen as AreOpen}
 use Rattle.nb_base.specs.Seen.{IsSeen}
-use Rattle.nb_base.specs.Going.{Drafts}
-use Rattle.nb_base.proofs.LeftLaws.{stroke-stalled, noted-there, noted-new}
 use Rattle.nb_base.proofs.MergingLaws.{seen_still}
-use Rattle.nb_base.proofs.OwnedLaws.{entry-later, entry-added, entry-front, entry_at, later}
-use Rattle.nb_cache.specs.Held.{Slot, slot_of, rank_of, with_rank, dropped, NoneWaits}
-use Rattle.nb_owner.specs.Open.{Held, Pages, AreOf, waits, IsWaiting, AreDrafted, Waits, IsOpen, IsValid, may_wait, cache_of, rank_in}
 use Rattle.nb_owner.proofs.UsedLaws.{All-put}
 use Rattle.nb_owner.proofs.RankLaws.{rank_kept, rank_kept_other, rank_marked, rank_marked_other, none_found, slot_kept, marked_of}
-use Rattle.nb_host.proofs.PlainLaws.{both_true, eq_self, not_true}
 use Rattle.nb_model.proofs.EntryLaws.{for_here}
 
 -- what is held of a database agrees with one that has the same page 0, length, frozen image and entries

@@ -3,3 +3,4 @@ pub mod HeaderLaws
 pub mod FreeLaws
 pub mod FillLaws
 pub mod StampLaws
+mod Common

@@ -1,11 +1,7 @@
 -- A page that gets a text and is stamped, in either order, is the page stamped with that text.
 -- The other order is `with_payload-stamped` of `nb_fields`.
 use Rattle.std.proofs.Common.{◌≡◌, ℕ, ◌+◌, ◌-◌, ◌%◌, ◌^◌, ◌≤◌, List, ◌++◌, length, take, drop, ap, ◌∙◌, arith, length-drop}
-use Rattle.std.proofs.lemmas.List.{length-take-le, drop_at, drop-append-le, take-append-le}
-use Rattle.nb_fields.specs.Bytes.{number_of, number_in, padded}
-use Rattle.nb_fields.specs.Page.{head_of, page_of, with_payload, stamped, generation_of}
-use Rattle.nb_fields.proofs.PartLaws.{number_in-take}
-use Rattle.nb_fields.proofs.PageLaws.{padded_whole}
+use Rattle.nb_page.proofs.Common.{length-take-le, drop_at, drop-append-le, take-append-le, number_of, number_in, padded, head_of, page_of, with_payload, stamped, generation_of, number_in-take, padded_whole}
 
 pub drop-with_payload : (page payload : List ℕ) → 16 ≤ length page → drop 16 (with_payload page payload) ≡ padded (length page - 16) payload
 unfolding with_payload

@@ -1,16 +1,8 @@
 -- One bit of an inventory page is changed by changing its byte.
 use Rattle.std.proofs.Common.{◌≡◌, ◌≢◌, ℕ, zero, suc, ◌+◌, ◌-◌, ◌*◌, ◌/◌, ◌%◌, ◌^◌, ◌<◌, ◌≤◌, inl, inr, List, length, get_or, sym, ap, ◌∙◌, arith, bit_and, bit_or, w8}
-use Rattle.std.specs.Int.{bit_at}
-use Rattle.std.proofs.Math.ListN.{set}
-use Rattle.std.proofs.Math.Nat.{pow-suc}
-use Rattle.std.proofs.lemmas.Bool.{cases_eq}
-use Rattle.std.proofs.lemmas.List.{length-set, get_or-set_same, get_or-set_other}
+use Rattle.nb_pip.proofs.Common.{bit_at, set, pow-suc, cases_eq, length-set, get_or-set_same, get_or-set_other, shr_and_one, bit_at_lowest, bit_at-suc, same_from_bits_below, bit_at_set_same, bit_at_set_other, bit_at_clear_same, bit_at_clear_other, bits_in, bit_of, byte_of, bits}
 use Rattle.std.proofs.lemmas.Grind.{same_number_lists, get_or-set_at}
 use Rattle.std.proofs.lemmas.List.FromFn.{length-map-range_with_len, get_or-map-range_with_len}
-use Rattle.std.proofs.lemmas.Nat.Bits.{shr_and_one, bit_at_lowest, bit_at-suc, same_from_bits_below, bit_at_set_same, bit_at_set_other, bit_at_clear_same, bit_at_clear_other}
-use Rattle.nb_fields.specs.Places.{bits_in}
-use Rattle.nb_fields.specs.Payloads.{bit_of}
-use Rattle.nb_pip.specs.Bits.{byte_of, bits}
 
 -- a byte has the value v at one bit, and at the others what it had
 pub record SetsBit (old new bit v : ℕ) : Type 0 where

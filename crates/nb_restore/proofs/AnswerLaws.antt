@@ -1,6 +1,5 @@
 -- One answer holds one value, and none where it is an error.
-use Rattle.std.proofs.Common.{◌≡◌}
-use Rattle.std.specs.Prelude.{Result, Ok, Err}
+use Rattle.std.proofs.Common.{◌≡◌, Result, Ok, Err}
 
 pub ok_same : {X E : Type 0} (x y : X) (answer : Result X E) → answer ≡ Ok x → answer ≡ Ok y → x ≡ y
 ok_same x y answer e f = cc

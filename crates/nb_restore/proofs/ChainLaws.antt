@@ -1,27 +1,8 @@
 -- What the files of an accepted chain are: level 0, and the level files after it.
-use Rattle.std.proofs.Common.{◌≡◌, ◌≢◌, ℕ, zero, suc, ◌+◌, ◌*◌, ◌<◌, ◌≤◌, List, [], ◌∷◌, length, take, drop, get_or, refl, sym, ap, subst, ◌∙◌, arith}
-use Rattle.std.specs.Prelude.{Bool, true, false, not, ◌==◌, Some, None, Result, Ok, Err, Contains}
+use Rattle.std.proofs.Common.{◌≡◌, ◌≢◌, ℕ, zero, suc, ◌+◌, ◌*◌, ◌<◌, ◌≤◌, List, [], ◌∷◌, length, take, drop, get_or, refl, sym, ap, subst, ◌∙◌, arith, Bool, true, false, not, ◌==◌, Some, None, Result, Ok, Err, Contains}
+use Rattle.nb_restore.proofs.Common.{eqb-true, take-take, number_in, is_free_file, is_header, signature, state_of, size_of, is_header-take, number_in-take, stalled_state, File, Files, same_name, Refusal, NoFile, BadLevel, ChainLevel, ChainGuid, ChainSize, ChainScn, Page, first_page, Cause, first_cause, when, Head, Contents, begins_level, joined, read_level, Link, level_link, whole_link, is_bad_length, not_whole, first_link, not_behind, next_link, linked, next_links, verdict, IsOfSize, page-joined, IsSource, AreSources}
 use Rattle.std.specs.Cmp.Lexicographic.{told_text}
-use Rattle.std.proofs.lemmas.Bool.{eqb-true}
-use Rattle.std.proofs.lemmas.List.{take-take}
-use Rattle.nb_fields.specs.Bytes.{number_in}
-use Rattle.nb_fields.specs.Free.{is_free_file}
-use Rattle.nb_fields.specs.Header.{is_header, signature, state_of, size_of}
-use Rattle.nb_fields.proofs.HeaderLaws.{is_header-take}
-use Rattle.nb_fields.proofs.PartLaws.{number_in-take}
-use Rattle.nb_fields.specs.States.{stalled_state}
-use Rattle.nb_host.specs.Files.{File, Files}
-use Rattle.nb_host.specs.Names.{same_name}
-use Rattle.nb_host.specs.declared.refusals.Refusal.{Refusal}
-use Rattle.nb_host.specs.declared.refusals.Refusal.TheVariants.{NoFile, BadLevel, ChainLevel, ChainGuid, ChainSize, ChainScn}
-use Rattle.nb_model.specs.Image.{Page, first_page}
-use Rattle.nb_model.specs.Causes.{Cause, first_cause, when}
-use Rattle.nb_model.specs.Levels.{Head, Contents, begins_level, joined, read_level}
-use Rattle.nb_model.specs.Restoring.{Link, level_link, whole_link, is_bad_length, not_whole, first_link, not_behind, next_link, linked, next_links, verdict}
-use Rattle.nb_model.specs.Sound.{IsOfSize}
 use Rattle.nb_model.proofs.FreeLaws.{free_no_level, free_header}
-use Rattle.nb_model.proofs.ImageLaws.{page-joined}
-use Rattle.nb_restore.specs.Sources.{IsSource, AreSources}
 use Rattle.nb_restore.proofs.AnswerLaws.{ok_same, err_ok}
 use Rattle.nb_model.proofs.PutSound.{no_first, not_when}
 use Rattle.nb_model.proofs.TurnCases.{is_so}

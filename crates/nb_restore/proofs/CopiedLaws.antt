@@ -1,18 +1,6 @@
 -- What the target reads as, one page after another.
-use Rattle.std.proofs.Common.{◌≡◌, inl, inr, ℕ, zero, suc, ◌+◌, ◌-◌, ◌*◌, ◌<◌, ◌≤◌, List, [], ◌∷◌, ◌++◌, length, take, drop, replicate, refl, sym, ap, subst, ◌∙◌, arith, append_assoc, length-append, mul-le-mul_right, add-mul}
-use Rattle.std.specs.Prelude.{Some}
-use Rattle.std.proofs.lemmas.Bool.{cases_lt}
-use Rattle.std.proofs.lemmas.List.{take_all, drop_all, set_split, length-replicate}
-use Rattle.nb_fields.specs.Places.{most_pages}
-use Rattle.nb_host.specs.Files.{File, padded, put_at, with_page}
-use Rattle.nb_model.specs.Image.{Page, Image, Numbered, first_page, written_at, overwritten}
-use Rattle.nb_model.specs.Levels.{joined}
-use Rattle.nb_model.specs.Restoring.{Link, all_over}
-use Rattle.nb_model.specs.Sound.{IsOfSize}
-use Rattle.nb_model.proofs.ImageLaws.{all-append, all-take, all-drop, all-replicate, joined-append, length-joined, joined-zeros}
-use Rattle.nb_model.proofs.PutLaws.{put-joined}
-use Rattle.nb_chain.proofs.ImageLaws.{written-inside, written-past, length-written}
-use Rattle.nb_restore.specs.Copied.{Holds, Overwrites, OverwritesAll}
+use Rattle.std.proofs.Common.{◌≡◌, inl, inr, ℕ, zero, suc, ◌+◌, ◌-◌, ◌*◌, ◌<◌, ◌≤◌, List, [], ◌∷◌, ◌++◌, length, take, drop, replicate, refl, sym, ap, subst, ◌∙◌, arith, append_assoc, length-append, mul-le-mul_right, add-mul, Some}
+use Rattle.nb_restore.proofs.Common.{cases_lt, take_all, drop_all, set_split, length-replicate, most_pages, File, padded, put_at, with_page, Page, Image, Numbered, first_page, written_at, overwritten, joined, Link, all_over, IsOfSize, all-append, all-take, all-drop, all-replicate, joined-append, length-joined, joined-zeros, put-joined, written-inside, written-past, length-written, Holds, Overwrites, OverwritesAll}
 
 -- pages written one list after another
 pub overwritten-append : (size : ℕ) (xs ys : List Numbered) (image : Image) → overwritten size (xs ++ ys) image ≡ overwritten size ys (overwritten size xs image)

@@ -1,18 +1,7 @@
 -- The first 64 bytes of the target stay while pages after page 0 are written.
-use Rattle.std.proofs.Common.{◌≡◌, ◌⊎◌, inl, inr, ⊎_elim, ℕ, ◌+◌, ◌-◌, ◌*◌, ◌≤◌, List, ◌++◌, length, take, drop, replicate, sym, ap, subst, ◌∙◌, arith, length-append, mul-le-mul_right}
-use Rattle.std.specs.Prelude.{Bool, IsTrue, Some, Result, Ok, Err, OnOk}
-use Rattle.std.proofs.lemmas.List.{take-append-le, take-take, length-take-le, length-replicate}
-use Rattle.nb_host.specs.Files.{File, Files, bytes_of, padded, put_at, with_file, with_page}
-use Rattle.nb_host.specs.World.{World}
-use Rattle.nb_host.specs.Crash.{AppendLeft, PageLeft}
-use Rattle.nb_host.specs.Calls.{AppendsBytes, IsStill, WritesPage}
-use Rattle.nb_host.specs.Moments.{IsTimely, Passes}
-use Rattle.nb_change.specs.Changes.{Changes, Only, Moved}
+use Rattle.std.proofs.Common.{◌≡◌, ◌⊎◌, inl, inr, ⊎_elim, ℕ, ◌+◌, ◌-◌, ◌*◌, ◌≤◌, List, ◌++◌, length, take, drop, replicate, sym, ap, subst, ◌∙◌, arith, length-append, mul-le-mul_right, Bool, IsTrue, Some, Result, Ok, Err, OnOk}
+use Rattle.nb_restore.proofs.Common.{take-append-le, take-take, length-take-le, length-replicate, File, Files, bytes_of, padded, put_at, with_file, with_page, World, AppendLeft, PageLeft, AppendsBytes, IsStill, WritesPage, IsTimely, Passes, Changes, Only, Moved, whole_on_ok, on_ok_then, bytes_alone, page_alone, moved_begun, moved_still, moved_joined, BeginsWith, KeepsFront}
 use Rattle.nb_change.proofs.NameLaws.{with_file-same}
-use Rattle.nb_change.proofs.ResultLaws.{whole_on_ok, on_ok_then}
-use Rattle.nb_change.proofs.CallLaws.{bytes_alone, page_alone}
-use Rattle.nb_change.proofs.MovedLaws.{moved_begun, moved_still, moved_joined}
-use Rattle.nb_restore.specs.Copied.{BeginsWith, KeepsFront}
 
 -- bytes after, and a page after
 front_grown : (front more : List ℕ) (b : File) → BeginsWith front b → BeginsWith front (Some (bytes_of b ++ more))

@@ -1,34 +1,12 @@
 -- Files that are those of a chain of kept backups are accepted. A file after them that isn't in its place, or is foreign, is refused.
-use Rattle.std.proofs.Common.{◌≡◌, ◌≢◌, ℕ, ◌+◌, ◌≤◌, List, [], ◌∷◌, ◌++◌, length, refl, sym, ap, subst, ◌∙◌, arith}
-use Rattle.std.specs.Prelude.{Bool, true, false, ◌&&◌, ◌==◌, nat_le, Option, Some, None, Ok, Err, Contains}
-use Rattle.std.specs.List.{AllByRecursion}
-use Rattle.std.proofs.lemmas.Bool.{and_parts}
-use Rattle.nb_fields.specs.Bytes.{number_in}
-use Rattle.nb_fields.specs.Header.{header_length, is_header, is_marked, is_sound, signature, version, state_of, size_of, scn_of}
-use Rattle.nb_host.specs.Files.{Files}
-use Rattle.nb_host.specs.Names.{is_delta}
-use Rattle.nb_host.specs.declared.refusals.Refusal.{Refusal}
-use Rattle.nb_host.specs.declared.refusals.Refusal.TheVariants.{ChainLevel, ChainGuid}
-use Rattle.nb_model.specs.Image.{image_size}
-use Rattle.nb_model.specs.Account.{Ask, Kept, Account}
-use Rattle.nb_model.specs.Causes.{first_cause}
-use Rattle.nb_model.specs.Levels.{Contents, begins_level, read_level, file_of, taken}
-use Rattle.nb_model.specs.Line.{HoldLine, first_file, next_files, last_in}
-use Rattle.nb_model.specs.Restoring.{Link, level_link, whole_link, first_link, not_behind, next_link, next_links, linked, verdict}
-use Rattle.nb_model.specs.Sound.{HasNoZeros, IsSoundImage}
-use Rattle.nb_model.specs.Stands.{to_record, Stands}
-use Rattle.nb_model.proofs.ChainLaws.{kept_accepted, step_there}
-use Rattle.nb_model.proofs.ReadLaws.{eq_no, eq_yes}
+use Rattle.std.proofs.Common.{◌≡◌, ◌≢◌, ℕ, ◌+◌, ◌≤◌, List, [], ◌∷◌, ◌++◌, length, refl, sym, ap, subst, ◌∙◌, arith, Bool, true, false, ◌&&◌, ◌==◌, nat_le, Option, Some, None, Ok, Err, Contains}
+use Rattle.nb_restore.proofs.Common.{AllByRecursion, and_parts, number_in, header_length, is_header, is_marked, is_sound, signature, version, state_of, size_of, scn_of, Files, is_delta, Refusal, ChainLevel, ChainGuid, image_size, Ask, Kept, Account, first_cause, Contents, begins_level, read_level, file_of, taken, HoldLine, first_file, next_files, last_in, Link, level_link, whole_link, first_link, not_behind, next_link, next_links, linked, verdict, HasNoZeros, IsSoundImage, to_record, Stands, kept_accepted, step_there, eq_no, eq_yes, no_level_begins, not_level, chain_accepted, chain_gives, copy_accepted, verdict_there, first_fields, AreLinksOf, GiveLast, HoldChain, HoldLevels, HoldsCopy, HoldsLevel, IsLinkOf, next_broken}
 use Rattle.nb_model.proofs.SoundLaws.{kind_of_header}
-use Rattle.nb_model.proofs.StandsLaws.{no_level_begins, not_level}
-use Rattle.nb_model.proofs.WholeLaws.{chain_accepted, chain_gives, copy_accepted, verdict_there, first_fields}
-use Rattle.nb_restore.specs.Kept.{AreLinksOf, GiveLast, HoldChain, HoldLevels, HoldsCopy, HoldsLevel, IsLinkOf}
 use Rattle.nb_restore.proofs.AskLaws.{with_ask}
 use Rattle.nb_restore.proofs.AnswerLaws.{err_ok}
 use Rattle.nb_restore.proofs.ChainLaws.{IsCopy, IsLevelFile}
 use Rattle.nb_restore.proofs.KeptFirst.{HoldsKeptFirst, kept_first}
 use Rattle.nb_restore.proofs.KeptNext.{HoldsKeptNext, kept_next}
-use Rattle.nb_chain.proofs.LinkLaws.{next_broken}
 use Rattle.nb_host.proofs.NameLaws.{same_other}
 
 -- a line tells of these records, with other asks at most

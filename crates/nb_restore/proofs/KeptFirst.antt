@@ -1,28 +1,9 @@
 -- Level 0 of a chain whose records are kept: the pages of its record, and pages of zeros after.
-use Rattle.std.proofs.Common.{◌≡◌, ℕ, ◌/◌, ◌%◌, ◌≤◌, List, ◌++◌, length, refl, ap, subst, ◌∙◌, arith, div-add-mod'}
-use Rattle.std.specs.Prelude.{true, false, not, ◌||◌, ◌==◌, nat_lt, Some, None}
-use Rattle.std.proofs.lemmas.Bool.{eqb-true, or_parts}
-use Rattle.nb_fields.specs.Header.{is_header, size_of, guid_of}
-use Rattle.nb_fields.proofs.SizeLaws.{size_facts}
-use Rattle.nb_fields.specs.Places.{most_pages}
-use Rattle.nb_host.specs.Files.{Files}
-use Rattle.nb_host.specs.Names.{is_delta}
-use Rattle.nb_model.specs.Image.{Page, Image, image_size, image_in}
-use Rattle.nb_model.specs.Account.{Kept, Account}
-use Rattle.nb_model.specs.Causes.{not_database}
-use Rattle.nb_model.specs.Levels.{joined}
-use Rattle.nb_model.specs.Line.{HoldsFirst}
-use Rattle.nb_model.specs.Restoring.{Link, is_bad_length}
-use Rattle.nb_model.specs.Sound.{IsOfSize, IsSoundImage}
-use Rattle.nb_model.specs.Stands.{to_record, IsKeptAs, IsBegun, IsCopyOf, Stands}
+use Rattle.std.proofs.Common.{◌≡◌, ℕ, ◌/◌, ◌%◌, ◌≤◌, List, ◌++◌, length, refl, ap, subst, ◌∙◌, arith, div-add-mod', true, false, not, ◌||◌, ◌==◌, nat_lt, Some, None}
+use Rattle.nb_restore.proofs.Common.{eqb-true, or_parts, is_header, size_of, guid_of, size_facts, most_pages, Files, is_delta, Page, Image, image_size, image_in, Kept, Account, not_database, joined, HoldsFirst, Link, is_bad_length, IsOfSize, IsSoundImage, to_record, IsKeptAs, IsBegun, IsCopyOf, Stands, header-size, all-right, IsLaid, laid, copy_image, not_false, not_lt}
 use Rattle.nb_model.proofs.FormLaws.{no_cause}
-use Rattle.nb_model.proofs.HeaderLaws.{header-size}
-use Rattle.nb_model.proofs.ImageLaws.{all-right}
-use Rattle.nb_model.proofs.MainLaws.{IsLaid, laid}
-use Rattle.nb_model.proofs.OpenedLaws.{copy_image}
 use Rattle.nb_restore.proofs.AskLaws.{with_ask, begun_with}
 use Rattle.nb_restore.proofs.ChainLaws.{IsCopy}
-use Rattle.nb_host.proofs.PlainLaws.{not_false, not_lt}
 
 -- so many whole pages as a database may have
 record HasGoodLength (bytes : List ℕ) : Type 0 where

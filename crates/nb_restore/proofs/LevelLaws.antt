@@ -1,24 +1,12 @@
 -- The pages of a level file, and of the level files, as far as they were written.
-use Rattle.std.proofs.Common.{◌≡◌, ◌≢◌, ℕ, List, [], ◌∷◌, ◌++◌, length, refl, sym, ap, subst, ◌∙◌, arith, append_assoc}
-use Rattle.std.specs.Prelude.{Bool, IsTrue, Result, Ok, Err}
-use Rattle.std.proofs.lemmas.List.{append-nil}
+use Rattle.std.proofs.Common.{◌≡◌, ◌≢◌, ℕ, List, [], ◌∷◌, ◌++◌, length, refl, sym, ap, subst, ◌∙◌, arith, append_assoc, Bool, IsTrue, Result, Ok, Err}
+use Rattle.nb_restore.proofs.Common.{append-nil, File, Files, bytes_of, Fault, Refused, Device, Memory, BadLevel, Page, Numbered, behind, Link, NextSays, Reading, still_to_come, IsDone, Overwrites, OverwritesAll, IsReady, AreReady, AreOfPages}
 use Rattle.std.specs.Iterator.{Yields}
 use Rattle.std.specs.Vec.Iter.{into_iter_items, into_iter_len, into_iter_steps}
 use Rattle.std.specs.declared.vec.IntoIter.{IntoIter}
-use Rattle.nb_host.specs.Files.{File, Files, bytes_of}
-use Rattle.nb_host.specs.declared.faults.Fault.{Fault}
-use Rattle.nb_host.specs.declared.faults.Fault.TheVariants.{Refused, Device, Memory}
-use Rattle.nb_host.specs.declared.refusals.Refusal.TheVariants.{BadLevel}
-use Rattle.nb_model.specs.Image.{Page, Numbered}
-use Rattle.nb_model.specs.Levels.{behind}
-use Rattle.nb_model.specs.Restoring.{Link}
-use Rattle.nb_level.specs.Answers.{NextSays}
-use Rattle.nb_level.specs.Reading.{Reading, still_to_come}
 use Rattle.nb_level.specs.declared.item.Item.{Item}
 use Rattle.nb_level.specs.declared.item.Item.TheVariants.{PageAt, End}
 use Rattle.nb_chain.proofs.PageLaws.{gives_there}
-use Rattle.nb_restore.specs.Copied.{IsDone, Overwrites, OverwritesAll}
-use Rattle.nb_restore.specs.Sources.{IsReady, AreReady, AreOfPages}
 use Rattle.nb_restore.proofs.AnswerLaws.{ok_same, err_ok}
 use Rattle.nb_restore.proofs.CopiedLaws.{overwrites_none, overwrites_joined, all_none, all_more}
 

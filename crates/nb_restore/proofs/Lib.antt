@@ -23,3 +23,4 @@ pub mod KeptLaws
 pub mod FirstWell
 pub mod KeptChains
 pub mod FixedLaws
+mod Common

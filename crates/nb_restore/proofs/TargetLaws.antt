@@ -1,27 +1,6 @@
 -- The target is made, so that a crash leaves its name free, and made whole by its page 0.
-use Rattle.std.proofs.Common.{◌≡◌, inl, inr, ⊎_elim, ℕ, zero, suc, ◌+◌, ◌-◌, ◌*◌, ◌≤◌, List, [], ◌++◌, length, take, drop, replicate, refl, sym, ap, subst, ◌∙◌, arith}
-use Rattle.std.specs.Prelude.{Bool, true, ◌&&◌, ◌==◌, IsTrue, None, Some, Result, Ok, Err, OnOk}
-use Rattle.std.proofs.lemmas.Bool.{or_left, or_right, and_from}
-use Rattle.std.proofs.lemmas.List.{append-nil, drop_all}
-use Rattle.nb_fields.specs.Bytes.{is_zeros}
-use Rattle.nb_fields.specs.Free.{is_free_file, is_unfinished}
-use Rattle.nb_fields.specs.Header.{is_header, state_of, pending_of}
-use Rattle.nb_fields.proofs.HeaderLaws.{is_free_file-take}
-use Rattle.nb_fields.specs.States.{applying_state}
-use Rattle.nb_host.specs.Files.{File, Files, bytes_of, padded, put_at, with_page}
-use Rattle.nb_host.specs.World.{World}
-use Rattle.nb_host.specs.Crash.{Leaves, PageLeft, IsDurable}
-use Rattle.nb_host.specs.Calls.{Remakes, WritesPage, Syncs}
-use Rattle.nb_host.specs.Moments.{IsTimely, Passes}
-use Rattle.nb_change.specs.Changes.{Changes, Only, Moved, Remade}
-use Rattle.nb_change.proofs.ChangesLaws.{still_more, weaker_has, remade_on}
-use Rattle.nb_change.proofs.CallLaws.{page_others, remade_alone, remade_step}
-use Rattle.nb_change.proofs.MovedLaws.{moved_from, remade_begun}
-use Rattle.nb_change.proofs.ResultLaws.{on_ok_then}
-use Rattle.nb_change.proofs.SettledLaws.{synced}
-use Rattle.nb_model.specs.Image.{Page, Image}
-use Rattle.nb_restore.specs.Copied.{BeginsWith, KeepsFront}
-use Rattle.nb_restore.specs.Target.{IsFree, IsFreeOr, IsKept, IsUnfinishedPage, ReadsOr}
+use Rattle.std.proofs.Common.{◌≡◌, inl, inr, ⊎_elim, ℕ, zero, suc, ◌+◌, ◌-◌, ◌*◌, ◌≤◌, List, [], ◌++◌, length, take, drop, replicate, refl, sym, ap, subst, ◌∙◌, arith, Bool, true, ◌&&◌, ◌==◌, IsTrue, None, Some, Result, Ok, Err, OnOk}
+use Rattle.nb_restore.proofs.Common.{or_left, or_right, and_from, append-nil, drop_all, is_zeros, is_free_file, is_unfinished, is_header, state_of, pending_of, is_free_file-take, applying_state, File, Files, bytes_of, padded, put_at, with_page, World, Leaves, PageLeft, IsDurable, Remakes, WritesPage, Syncs, IsTimely, Passes, Changes, Only, Moved, Remade, still_more, weaker_has, remade_on, page_others, remade_alone, remade_step, moved_from, remade_begun, on_ok_then, synced, Page, Image, BeginsWith, KeepsFront, IsFree, IsFreeOr, IsKept, IsUnfinishedPage, ReadsOr}
 use Rattle.nb_restore.proofs.FrontLaws.{named, page_read}
 
 -- zeros

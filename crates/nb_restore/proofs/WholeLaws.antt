@@ -1,22 +1,6 @@
 -- The target from its making to its page 0 in the normal state.
-use Rattle.std.proofs.Common.{◌≡◌, ◌≢◌, inl, inr, ⊎_elim, ℕ, ◌*◌, ◌≤◌, List, ◌++◌, length, drop, refl, sym, subst, ◌∙◌, arith}
-use Rattle.std.specs.Prelude.{IsTrue, Some}
-use Rattle.nb_fields.specs.Places.{is_page_size}
-use Rattle.nb_fields.proofs.SizeLaws.{size_facts}
-use Rattle.nb_host.specs.Files.{with_page}
-use Rattle.nb_host.specs.World.{World}
-use Rattle.nb_host.specs.Crash.{Leaves, PageLeft}
-use Rattle.nb_change.specs.Changes.{Changes, Only, Moved, Remade}
-use Rattle.nb_change.proofs.ChangesLaws.{composed, weaker_has}
-use Rattle.nb_model.specs.Image.{Page, Image, trimmed}
-use Rattle.nb_model.specs.Levels.{joined}
-use Rattle.nb_model.specs.Restoring.{Link, all_over}
-use Rattle.nb_model.specs.Sound.{IsOfSize}
-use Rattle.nb_model.specs.Strokes.{fixed}
-use Rattle.nb_level.specs.Reading.{Reading}
-use Rattle.nb_restore.specs.Copied.{Holds, KeepsFront, OverwritesAll}
-use Rattle.nb_restore.specs.Sources.{AreReady}
-use Rattle.nb_restore.specs.Target.{IsFree, IsFreeOr, IsKept, IsPlan, IsUnfinishedPage, KeepsImage, restored}
+use Rattle.std.proofs.Common.{◌≡◌, ◌≢◌, inl, inr, ⊎_elim, ℕ, ◌*◌, ◌≤◌, List, ◌++◌, length, drop, refl, sym, subst, ◌∙◌, arith, IsTrue, Some}
+use Rattle.nb_restore.proofs.Common.{is_page_size, size_facts, with_page, World, Leaves, PageLeft, Changes, Only, Moved, Remade, composed, weaker_has, Page, Image, trimmed, joined, Link, all_over, IsOfSize, fixed, Reading, Holds, KeepsFront, OverwritesAll, AreReady, IsFree, IsFreeOr, IsKept, IsPlan, IsUnfinishedPage, KeepsImage, restored}
 use Rattle.nb_restore.proofs.FinishLaws.{normal_page, written_whole, last_left}
 use Rattle.nb_restore.proofs.FrontLaws.{front_joined}
 use Rattle.nb_restore.proofs.HeadLaws.{HasHead, head_all}

@@ -1,22 +1,7 @@
 -- The text of a script is read as that script.
-use Rattle.std.proofs.Common.{◌≡◌, ℕ, zero, suc, ◌+◌, ◌-◌, ◌<◌, ◌≤◌, ◌==◌, ◌&&◌, ◌||◌, not, Bool, true, false, nat_lt, nat_eq, List, [], ◌∷◌, ◌++◌, length, take, drop, get_or, set, refl, sym, ◌∙◌, ap, ap₂, subst, arith, append_assoc, length-append}
-use Rattle.std.specs.Prelude.{Option, Some, None, Ok, if◌then◌else◌, replicate, codes, option_map}
-use Rattle.std.specs.Fmt.{decimal}
-use Rattle.std.specs.List.{list_all, AllByRecursion}
+use Rattle.std.proofs.Common.{◌≡◌, ℕ, zero, suc, ◌+◌, ◌-◌, ◌<◌, ◌≤◌, ◌==◌, ◌&&◌, ◌||◌, not, Bool, true, false, nat_lt, nat_eq, List, [], ◌∷◌, ◌++◌, length, take, drop, get_or, set, refl, sym, ◌∙◌, ap, ap₂, subst, arith, append_assoc, length-append, Option, Some, None, Ok, if◌then◌else◌, replicate, codes, option_map}
+use Rattle.nb_script.proofs.Common.{decimal, list_all, AllByRecursion, and_parts, cond-true, cond-false, lt-ltb, ne_eqb, eq-eqb, append-nil, set_at, get_or_at, Statement, seeded, Bytes, ◌>>=◌, after, is_digit, digit_count, statement_at, first_at, spaced_session, sessions_at, seed_at, order_at, lines_of, onto_first, numbered, is_skipped, left, Plan, Numbered, with_statement, with_lines, order_in, script_of, line_text, spaced_sessions, schedule_text, statements_text, sessions_text, script_text, IsSession, FitsOrder, IsFirst, IsFurtherLine, IsSpelled, statement_count}
 use Rattle.std.specs.Cmp.Lexicographic.{pointwise}
-use Rattle.std.proofs.lemmas.Bool.{and_parts, cond-true, cond-false, lt-ltb, ne_eqb, eq-eqb}
-use Rattle.std.proofs.lemmas.List.{append-nil, set_at, get_or_at}
-use Rattle.nb_model.specs.declared.statement.Statement.{Statement}
-use Rattle.nb_model.specs.Seeds.{seeded}
-use Rattle.nb_script.specs.Words.{Bytes, ◌>>=◌, after, is_digit, digit_count}
-use Rattle.nb_script.specs.Statements.{statement_at}
-use Rattle.nb_script.specs.FirstLine.{first_at}
-use Rattle.nb_script.specs.Order.{spaced_session, sessions_at, seed_at, order_at}
-use Rattle.nb_script.specs.Lines.{lines_of, onto_first, numbered, is_skipped, left}
-use Rattle.nb_script.specs.Scripts.{Plan, Numbered, with_statement, with_lines, order_in, script_of}
-use Rattle.nb_script.specs.Spelling.{line_text, spaced_sessions, schedule_text, statements_text, sessions_text, script_text}
-use Rattle.nb_script.specs.Fits.{IsSession, FitsOrder}
-use Rattle.nb_script.specs.Asked.{IsFirst, IsFurtherLine, IsSpelled, statement_count}
 use Rattle.nb_script.proofs.WordLaws.{digits_of, some_digit, within_again}
 use Rattle.nb_script.proofs.StatementLaws.{statement_again}
 use Rattle.nb_script.proofs.FirstLaws.{first_again}

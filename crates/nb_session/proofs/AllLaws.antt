@@ -1,6 +1,6 @@
 -- What holds of each element of a list.
 use Rattle.std.proofs.Common.{ℕ, zero, suc, List, [], ◌∷◌, ◌++◌, get_or}
-use Rattle.std.specs.List.{AllByRecursion}
+use Rattle.nb_session.proofs.Common.{AllByRecursion}
 
 pub all_append : {A : Type 0} (P : A → Type 0) (xs ys : List A) → AllByRecursion P xs → AllByRecursion P ys → AllByRecursion P (xs ++ ys)
 all_append P [] ys first second = second

@@ -1,9 +1,6 @@
 -- Whether a statement of one of the sessions was refused.
-use Rattle.std.proofs.Common.{◌≡◌, ℕ, ◌+◌, ◌<◌, List, [], ◌∷◌, ◌++◌, length, take, get_or, refl, sym, ap, ◌∙◌}
-use Rattle.std.specs.Prelude.{Bool, true, false, ◌||◌}
-use Rattle.std.proofs.lemmas.List.{take_more}
-use Rattle.nb_session.specs.Askers.{Asker, any_refused}
-use Rattle.nb_host.proofs.PlainLaws.{or_assoc}
+use Rattle.std.proofs.Common.{◌≡◌, ℕ, ◌+◌, ◌<◌, List, [], ◌∷◌, ◌++◌, length, take, get_or, refl, sym, ap, ◌∙◌, Bool, true, false, ◌||◌}
+use Rattle.nb_session.proofs.Common.{take_more, Asker, any_refused, or_assoc}
 
 alone : (r : Bool) → r || false ≡ r
 alone true = refl

@@ -1,62 +1,9 @@
 -- The turns of a copy of the frozen file.
-use Rattle.std.proofs.Common.{◌≡◌, inr, ℕ, zero, suc, ◌-◌, ◌≤◌, List, [], ◌∷◌, ◌++◌, length, replicate, refl, sym, ap, subst, ◌∙◌, arith, true≢false}
-use Rattle.std.specs.Prelude.{Bool, Result, Ok, Err, IsErr, IfOk, Option, Some, None, Contains, true, false}
-use Rattle.std.specs.List.{slice_index_or}
-use Rattle.std.proofs.lemmas.List.{append-nil}
-use Rattle.nb_fields.specs.States.{stalled_state}
-use Rattle.nb_host.specs.Files.{Files}
-use Rattle.nb_host.specs.Names.{is_delta}
-use Rattle.nb_host.specs.World.{World}
-use Rattle.nb_host.specs.Crash.{Leaves}
-use Rattle.nb_host.specs.declared.faults.Fault.{Fault}
-use Rattle.nb_host.specs.declared.faults.Fault.TheVariants.{Refused, Device}
-use Rattle.nb_host.specs.declared.faults.HostFault.{HostFault}
-use Rattle.nb_host.specs.declared.faults.RunError.{RunError}
-use Rattle.nb_host.specs.declared.refusals.Refusal.{Refusal}
-use Rattle.nb_change.specs.Changes.{Changes, Only, Remade}
-use Rattle.nb_change.specs.Gave.{GaveNothing}
-use Rattle.nb_change.proofs.ChangesLaws.{weakened}
-use Rattle.nb_change.proofs.ReachedLaws.{reached_first}
-use Rattle.nb_model.specs.declared.reply.Reply.{Reply}
-use Rattle.nb_model.specs.declared.reply.Reply.TheVariants.{Refused as RefusedBy, Pages}
-use Rattle.nb_model.specs.declared.statement.Statement.TheVariants.{CopyTo}
-use Rattle.nb_model.specs.Account.{Base}
-use Rattle.nb_model.specs.Backups.{copy_turn, close_copy}
-use Rattle.nb_model.specs.Causes.{is_free_entry}
-use Rattle.nb_model.specs.Going.{Runs, IsAt, IsGoing, IsMaking}
-use Rattle.nb_model.specs.Image.{Image, image_state}
-use Rattle.nb_model.specs.Levels.{joined}
-use Rattle.nb_model.specs.Making.{MadeFile, making}
-use Rattle.nb_model.specs.Outcomes.{Turn, Begins, Copies, ClosesCopy, Seen, Outcome, passes}
-use Rattle.nb_model.specs.Run.{Now, Event, base_now, outcome, event_of, files_made}
-use Rattle.nb_model.specs.Strokes.{Stroke, base_after}
-use Rattle.nb_model.specs.Steps.{steps_in, after_steps}
-use Rattle.nb_model.specs.Trail.{Trail, StandsIn, after_stroke}
-use Rattle.nb_model.specs.Turns.{first_turn, turn}
-use Rattle.nb_model.proofs.TurnCases.{copy_either}
-use Rattle.nb_base.specs.Open.{OfFiles}
-use Rattle.nb_base.specs.Takes.{after_strokes}
-use Rattle.nb_state.specs.Open.{Held, IsOpen, name_of}
-use Rattle.nb_state.specs.declared.turns.Progress.{Progress}
-use Rattle.nb_state.specs.declared.turns.Progress.TheVariants.{More, Finished}
-use Rattle.nb_state.proofs.MakesLaws.{where_ended, none_yet, gave_none, open_quiet, open_running}
-use Rattle.nb_gather.specs.Making.{IsKept, IsUnfinishedOr}
-use Rattle.nb_copy.specs.Copying.{Copying, IsCopying}
-use Rattle.nb_copy.specs.FileCopies.{CopiesFile, IsCopyingTo, StartsCopy, IsCopyStarted, KnowsUnused}
+use Rattle.std.proofs.Common.{◌≡◌, inr, ℕ, zero, suc, ◌-◌, ◌≤◌, List, [], ◌∷◌, ◌++◌, length, replicate, refl, sym, ap, subst, ◌∙◌, arith, true≢false, Bool, Result, Ok, Err, IsErr, IfOk, Option, Some, None, Contains, true, false}
+use Rattle.nb_session.proofs.Common.{slice_index_or, append-nil, stalled_state, Files, is_delta, World, Leaves, Fault, Refused, Device, HostFault, RunError, Refusal, Changes, Only, Remade, GaveNothing, weakened, reached_first, Reply, Pages, CopyTo, Base, copy_turn, close_copy, is_free_entry, Runs, IsAt, IsGoing, IsMaking, Image, image_state, joined, MadeFile, making, Turn, Begins, Copies, ClosesCopy, Seen, Outcome, passes, Now, Event, base_now, outcome, event_of, files_made, Stroke, base_after, steps_in, after_steps, Trail, StandsIn, after_stroke, first_turn, turn, copy_either, OfFiles, after_strokes, Held, IsOpen, name_of, Progress, More, Finished, where_ended, none_yet, gave_none, open_quiet, open_running, IsKept, IsUnfinishedOr, Copying, IsCopying, CopiesFile, IsCopyingTo, StartsCopy, IsCopyStarted, KnowsUnused, Left, Same, Copy, Told, Says, Touched, TurnLeft, AreKept, MayAct, copy_first, copy_rest, left_refused, left_task, task_first, task_rest, IsReady, IsApart, TaskGoes, SaysLine, touching, IsBehind, Turns, told_line, told_reply, has_only_told, only_told, one_held}
+use Rattle.nb_model.specs.declared.reply.Reply.TheVariants.{Refused as RefusedBy}
 use Rattle.nb_copy.specs.Turns.{CopyCounts}
 use Rattle.nb_copy.proofs.ClosingLaws.{stands}
-use Rattle.nb_session.specs.declared.task.Left.{Left}
-use Rattle.nb_session.specs.declared.task.Left.TheVariants.{Same}
-use Rattle.nb_session.specs.declared.task.Task.TheVariants.{Copy}
-use Rattle.nb_session.specs.declared.told.Told.{Told}
-use Rattle.nb_session.specs.Acts.{Says, Touched, TurnLeft, AreKept, MayAct}
-use Rattle.nb_session.specs.Askers.{copy_first, copy_rest, left_refused, left_task, task_first, task_rest}
-use Rattle.nb_session.specs.Ready.{IsReady, IsApart, TaskGoes}
-use Rattle.nb_session.specs.Says.{SaysLine}
-use Rattle.nb_session.specs.Steps.{touching, IsBehind, Turns}
-use Rattle.nb_session.specs.Told.{told_line, told_reply}
-use Rattle.nb_state.specs.Does.{has_only_told}
-use Rattle.nb_session.specs.Replies.{only_told}
 use Rattle.nb_session.proofs.ActLaws.{trail_plain, ended_map, strikes_left, kept_none, says_none}
 use Rattle.nb_session.proofs.EventLaws.{marks_made, unsaid, told_reply as told_is}
 use Rattle.nb_session.proofs.GiftLaws.{given_nothing, grows_none}
@@ -65,7 +12,6 @@ use Rattle.nb_session.proofs.ReadyLaws.{apart_files, not_own}
 use Rattle.nb_session.proofs.TouchingLaws.{plain_touch, copy_plain}
 use Rattle.nb_session.proofs.TurnLaws.{seen_now, outcome_is, was_last, turns_failed, turns_quiet, turns_told}
 use Rattle.nb_session.proofs.WayLaws.{copy_turns, copying_at}
-use Rattle.nb_model.proofs.MakingLaws.{one_held}
 
 -- the name that is held
 pub name_kept : (a b : Held) → b ≡ a → name_of b ≡ name_of a

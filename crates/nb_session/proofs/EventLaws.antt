@@ -1,52 +1,13 @@
 -- One turn and its line are one event.
-use Rattle.std.proofs.Common.{◌≡◌, ◌⊎◌, ℕ, zero, suc, ◌-◌, List, [], ◌∷◌, ◌++◌, length, take, Bool, false, refl, sym, ap, subst, ◌∙◌, arith}
-use Rattle.std.specs.Prelude.{true, Result, Ok, Err, IfOk, Option, Some, None, Contains, if◌then◌else◌}
-use Rattle.std.specs.List.{list_all, slice_index_or}
+use Rattle.std.proofs.Common.{◌≡◌, ◌⊎◌, ℕ, zero, suc, ◌-◌, List, [], ◌∷◌, ◌++◌, length, take, Bool, false, refl, sym, ap, subst, ◌∙◌, arith, true, Result, Ok, Err, IfOk, Option, Some, None, Contains, if◌then◌else◌}
+use Rattle.nb_session.proofs.Common.{list_all, slice_index_or, true≢false, append-nil, take_all, File, Files, with_file, World, Leaves, LeavesAll, IsStill, AtEachMoment, Fault, Refused, Device, Memory, RunError, left_with, weaker, left_before, untouched_joined, untouched_fewer, with_file-same, reached_by, Reply, Stroke, IsMaking, MadeFile, Turn, Outcome, Event, Now, Played, event_of, outcome, stands_then, take_turn, replies_of, files_made, output, status_of, status_after, made, steps_in, steps_of, after_step, after_steps, acked_turns, Trail, StandsIn, after_stroke, output-quiet, output_no_event, status_no_event, steps_one, strokes_within, strokes_front, acked_steps_none, acked_steps_most, turns_before, after_strokes, IsKept, IsUnfinishedOr, Held, IsOpen, name_of, WhereEnded, still_open, Told, AreKept, Acts, IsReady, IsApart, has_only_told, HasEnded, only_told, FrontSaid, SaysLine, touching, StopLeft, PlayedOut, Plays, told_turns, told_line, told_status, take_self}
 use Rattle.std.proofs.Math.Bool.{and-true}
-use Rattle.std.proofs.lemmas.Bool.{true≢false}
-use Rattle.std.proofs.lemmas.List.{append-nil, take_all}
-use Rattle.nb_host.specs.Files.{File, Files, with_file}
-use Rattle.nb_host.specs.World.{World}
-use Rattle.nb_host.specs.Crash.{Leaves, LeavesAll}
-use Rattle.nb_host.specs.Calls.{IsStill}
-use Rattle.nb_host.specs.Moments.{AtEachMoment}
-use Rattle.nb_host.specs.declared.faults.Fault.{Fault}
-use Rattle.nb_host.specs.declared.faults.Fault.TheVariants.{Refused, Device, Memory}
-use Rattle.nb_host.specs.declared.faults.RunError.{RunError}
-use Rattle.nb_change.proofs.ChangesLaws.{left_with}
-use Rattle.nb_change.proofs.MomentLaws.{joined, weaker, left_before, untouched_joined, untouched_fewer}
-use Rattle.nb_change.proofs.NameLaws.{with_file-same}
-use Rattle.nb_change.proofs.ReachedLaws.{reached_by}
+use Rattle.nb_change.proofs.MomentLaws.{joined}
 use Rattle.nb_change.proofs.SettledLaws.{durable_is, durable_still}
-use Rattle.nb_model.specs.declared.reply.Reply.{Reply}
-use Rattle.nb_model.specs.Strokes.{Stroke}
-use Rattle.nb_model.specs.Going.{IsMaking}
-use Rattle.nb_model.specs.Making.{MadeFile}
-use Rattle.nb_model.specs.Outcomes.{Turn, Outcome}
-use Rattle.nb_model.specs.Run.{Event, Now, Played, event_of, outcome, stands_then, take_turn, replies_of, files_made}
-use Rattle.nb_model.specs.Output.{output, status_of, status_after}
-use Rattle.nb_model.specs.Steps.{made, steps_in, steps_of, after_step, after_steps, acked_turns}
-use Rattle.nb_model.specs.Trail.{Trail, StandsIn, after_stroke}
-use Rattle.nb_model.proofs.OutputLaws.{output-quiet, output_no_event, status_no_event}
-use Rattle.nb_model.proofs.StepsLaws.{steps_one, strokes_within, strokes_front, acked_steps_none, acked_steps_most, turns_before}
-use Rattle.nb_base.specs.Takes.{after_strokes}
-use Rattle.nb_gather.specs.Making.{IsKept, IsUnfinishedOr}
-use Rattle.nb_state.specs.Open.{Held, IsOpen, name_of}
-use Rattle.nb_state.specs.Does.{WhereEnded}
-use Rattle.nb_state.proofs.MakesLaws.{still_open}
-use Rattle.nb_session.specs.declared.told.Told.{Told}
-use Rattle.nb_session.specs.Acts.{AreKept, Acts}
-use Rattle.nb_session.specs.Ready.{IsReady, IsApart}
-use Rattle.nb_state.specs.Does.{has_only_told}
-use Rattle.nb_session.specs.Replies.{HasEnded, only_told}
-use Rattle.nb_session.specs.Says.{FrontSaid, SaysLine}
-use Rattle.nb_session.specs.Steps.{touching}
-use Rattle.nb_session.specs.Stops.{StopLeft, PlayedOut, Plays}
-use Rattle.nb_session.specs.Told.{told_reply as told_as, told_turns, told_line, told_status}
+use Rattle.nb_session.specs.Told.{told_reply as told_as}
 use Rattle.nb_session.proofs.GiftLaws.{given_nothing, given_joined}
 use Rattle.nb_session.proofs.ReadyLaws.{apart_files, ready_then}
 use Rattle.nb_session.proofs.ToldLaws.{told_one, told_none, told_status_is, told_only, output_told, status_told}
-use Rattle.nb_host.proofs.PlainLaws.{take_self}
 
 -- what holds where a call ended with a value or a refusal
 pub ended : {T P : Type 0} (answer : Result T Fault) → HasEnded answer → WhereEnded answer P → P

@@ -1,11 +1,6 @@
 -- Lists of files that are made.
-use Rattle.std.proofs.Common.{◌⊎◌, inl, inr, ℕ, zero, suc, ◌≤◌, List, [], ◌∷◌, ◌++◌, take, refl, sym, ap, subst, arith}
-use Rattle.std.specs.Prelude.{Contains}
-use Rattle.std.proofs.lemmas.List.Elements.{Contains-append_left, Contains-append_right, Contains-append_cases}
-use Rattle.nb_change.proofs.NameLaws.{decide}
-use Rattle.nb_model.specs.Making.{MadeFile, AreAmong, IsNoneOf, NamesOnce}
-use Rattle.nb_model.specs.Run.{Event, files_made}
-use Rattle.nb_model.proofs.MakingLaws.{made_append, one_held}
+use Rattle.std.proofs.Common.{◌⊎◌, inl, inr, ℕ, zero, suc, ◌≤◌, List, [], ◌∷◌, ◌++◌, take, refl, sym, ap, subst, arith, Contains}
+use Rattle.nb_session.proofs.Common.{Contains-append_left, Contains-append_right, Contains-append_cases, decide, MadeFile, AreAmong, IsNoneOf, NamesOnce, Event, files_made, made_append, one_held}
 
 -- none are among any
 pub none_among : (files : List MadeFile) → AreAmong [] files

@@ -1,18 +1,7 @@
 -- Which turns make a file of which name.
-use Rattle.std.proofs.Common.{◌≡◌, ◌≢◌, inl, inr, ℕ, zero, suc, ◌-◌, ◌<◌, ◌≤◌, List, [], ◌∷◌, ◌++◌, length, get_or, set, refl, sym, ap, subst, arith, get_or-set_same}
-use Rattle.std.specs.Prelude.{Bool, Contains}
-use Rattle.std.specs.List.{AllByRecursion, slice_index_or}
-use Rattle.std.proofs.lemmas.List.Elements.{Contains-append_left, Contains-append_right, Contains-append_cases}
-use Rattle.nb_model.specs.Backups.{close_backup, close_copy}
-use Rattle.nb_model.specs.Going.{AreBeginnings, Runs, IsAt, waits, backs_up, copies, ends, merges, IsGoing}
-use Rattle.nb_model.specs.Image.{Image}
-use Rattle.nb_model.specs.Levels.{file_of, joined}
-use Rattle.nb_model.specs.Making.{MadeFile, kept_of, making, making_all, under_way, IsNoneOf}
-use Rattle.nb_model.specs.Outcomes.{Turn, Begins, Copies, ClosesBackup, ClosesCopy, Ends, Merges, Finishes, Outcome}
-use Rattle.nb_model.specs.Run.{Now, base_now, outcome, event_of, stands_then, files_made}
-use Rattle.nb_model.specs.Turns.{turn}
+use Rattle.std.proofs.Common.{◌≡◌, ◌≢◌, inl, inr, ℕ, zero, suc, ◌-◌, ◌<◌, ◌≤◌, List, [], ◌∷◌, ◌++◌, length, get_or, set, refl, sym, ap, subst, arith, get_or-set_same, Bool, Contains}
+use Rattle.nb_session.proofs.Common.{AllByRecursion, slice_index_or, Contains-append_left, Contains-append_right, Contains-append_cases, close_backup, close_copy, AreBeginnings, Runs, IsAt, waits, backs_up, copies, ends, merges, IsGoing, Image, file_of, joined, MadeFile, kept_of, making, making_all, under_way, IsNoneOf, Turn, Begins, Copies, ClosesBackup, ClosesCopy, Ends, Merges, Finishes, Outcome, Now, base_now, outcome, event_of, stands_then, files_made, turn, one_held}
 use Rattle.nb_session.proofs.AllLaws.{all_at}
-use Rattle.nb_model.proofs.MakingLaws.{one_held}
 
 -- the turn makes no file of that name
 abbrev pub MakesNo : (name : List ℕ) → Turn → Type 0

@@ -1,50 +1,11 @@
 -- The turns of the end of a backup.
-use Rattle.std.proofs.Common.{◌≡◌, inl, inr, ℕ, zero, suc, ◌+◌, ◌-◌, ◌<◌, List, [], ◌∷◌, ◌++◌, length, replicate, refl, sym, ap, subst, ◌∙◌, arith, true≢false}
-use Rattle.std.specs.Prelude.{Result, Ok, Err, IsErr, Option, Some, None, Bool, true, false, not, ◌==◌}
-use Rattle.std.specs.List.{slice_index_or}
-use Rattle.std.proofs.lemmas.Bool.Decides.{eqb_tells}
-use Rattle.std.proofs.lemmas.List.{append-nil}
-use Rattle.nb_fields.specs.States.{normal_state, stalled_state}
-use Rattle.nb_host.specs.World.{World}
-use Rattle.nb_host.specs.declared.faults.Fault.{Fault}
-use Rattle.nb_host.specs.declared.faults.Fault.TheVariants.{Refused, Device, Memory}
-use Rattle.nb_host.specs.declared.faults.HostFault.{HostFault}
-use Rattle.nb_host.specs.declared.faults.RunError.{RunError}
-use Rattle.nb_host.specs.declared.refusals.Refusal.{Refusal}
+use Rattle.std.proofs.Common.{◌≡◌, inl, inr, ℕ, zero, suc, ◌+◌, ◌-◌, ◌<◌, List, [], ◌∷◌, ◌++◌, length, replicate, refl, sym, ap, subst, ◌∙◌, arith, true≢false, Result, Ok, Err, IsErr, Option, Some, None, Bool, true, false, not, ◌==◌}
+use Rattle.nb_session.proofs.Common.{slice_index_or, eqb_tells, append-nil, normal_state, stalled_state, World, Fault, Refused, Device, Memory, HostFault, RunError, Refusal, Reply, Scn, EndBackup, Base, Cause, first_cause, when, runs_other, IsAt, IsGoing, IsMaking, Image, image_state, Turn, Begins, Ends, Finishes, Seen, Outcome, unless, passes, end_turn, ends_by, end_scn, end_strokes, Now, base_now, outcome, event_of, Stroke, finish, on_base, base_after, Trail, first_turn, turn, end_either, Strikes, after_strokes, IsNoRefusal, Held, IsOpen, name_of, WhereEnded, GoesOn, Progress, More, Finished, after_base, where_ended, DoesEnd, Says, Acts, MayAct, IsMerging, left_refused, merge_first, merge_rest, task_todo, Left, Taken, Task, Merge, Told, IsReady, EndsEarly, IsBehind, Turns, only_told}
 use Rattle.nb_host.specs.declared.refusals.Refusal.TheVariants.{WrongState, BackupRunning}
-use Rattle.nb_model.specs.declared.reply.Reply.{Reply}
-use Rattle.nb_model.specs.declared.reply.Reply.TheVariants.{Refused as RefusedBy, Scn}
-use Rattle.nb_model.specs.declared.statement.Statement.TheVariants.{EndBackup}
-use Rattle.nb_model.specs.Account.{Base}
-use Rattle.nb_model.specs.Causes.{Cause, first_cause, when, runs_other}
-use Rattle.nb_model.specs.Going.{IsAt, IsGoing, IsMaking}
-use Rattle.nb_model.specs.Image.{Image, image_state}
-use Rattle.nb_model.specs.Outcomes.{Turn, Begins, Ends, Merges as MergesOne, Finishes, Seen, Outcome, unless, passes}
-use Rattle.nb_model.specs.Pages.{end_turn, ends_by, end_scn, end_strokes}
-use Rattle.nb_model.specs.Run.{Now, base_now, outcome, event_of}
-use Rattle.nb_model.specs.Strokes.{Stroke, ends, finish, on_base, base_after}
-use Rattle.nb_model.specs.Trail.{Trail}
-use Rattle.nb_model.specs.Turns.{first_turn, turn}
-use Rattle.nb_model.proofs.TurnCases.{end_either}
-use Rattle.nb_base.specs.Takes.{Strikes, after_strokes, IsNoRefusal}
-use Rattle.nb_state.specs.Open.{Held, IsOpen, name_of}
-use Rattle.nb_state.specs.Does.{WhereEnded}
-use Rattle.nb_state.specs.Turns.{Merges, GoesOn}
-use Rattle.nb_state.specs.declared.turns.Progress.{Progress}
-use Rattle.nb_state.specs.declared.turns.Progress.TheVariants.{More, Finished}
-use Rattle.nb_state.proofs.MakesLaws.{after_base, where_ended}
-use Rattle.nb_engine.specs.Turns.{DoesEnd}
-use Rattle.nb_session.specs.Acts.{Says, Acts, MayAct}
-use Rattle.nb_session.specs.Askers.{IsMerging, left_refused, merge_first, merge_rest, task_todo}
-use Rattle.nb_session.specs.declared.task.Left.{Left}
-use Rattle.nb_session.specs.declared.task.Taken.{Taken}
-use Rattle.nb_session.specs.declared.task.Task.{Task}
-use Rattle.nb_session.specs.declared.task.Task.TheVariants.{Merge}
-use Rattle.nb_session.specs.declared.told.Told.{Told}
-use Rattle.nb_session.specs.Ready.{IsReady}
-use Rattle.nb_session.specs.Says.{EndsEarly}
-use Rattle.nb_session.specs.Steps.{IsBehind, Turns}
-use Rattle.nb_session.specs.Replies.{only_told}
+use Rattle.nb_model.specs.declared.reply.Reply.TheVariants.{Refused as RefusedBy}
+use Rattle.nb_model.specs.Outcomes.{Merges as MergesOne}
+use Rattle.nb_model.specs.Strokes.{ends}
+use Rattle.nb_state.specs.Turns.{Merges}
 use Rattle.nb_session.proofs.ActLaws.{trail_plain, ended_map, strikes_left, kept_none, says_none, idle_unchanged}
 use Rattle.nb_session.proofs.EventLaws.{marks_none, unsaid}
 use Rattle.nb_session.proofs.GiftLaws.{given_nothing, grows_none}

@@ -1,21 +1,6 @@
 -- What stands after one number more of an order, and what is made then.
-use Rattle.std.proofs.Common.{◌≡◌, ◌≢◌, ℕ, ◌-◌, List, [], ◌∷◌, ◌++◌, length, drop, get_or, refl, sym, ap, subst, ◌∙◌, get_or-set_other, length-set}
-use Rattle.std.specs.Prelude.{Bool, Contains}
-use Rattle.std.specs.List.{slice_index_or}
-use Rattle.std.proofs.lemmas.Bool.{true≢false}
-use Rattle.std.proofs.lemmas.List.{append-nil}
-use Rattle.nb_model.specs.declared.statement.Statement.TheVariants.{ShowCache}
-use Rattle.nb_model.specs.Going.{IsAt, waits, backs_up, copies, ends, merges, IsMaking}
-use Rattle.nb_model.specs.Making.{MadeFile, making_by, under_way, AreAmong, IsNoneOf, NamesOnce}
-use Rattle.nb_model.specs.Outcomes.{Turn, Begins, Given}
-use Rattle.nb_model.specs.Run.{Event, Now, Played, outcome, stands_then, take_turn, one_turn, play, files_made, AreFinished}
-use Rattle.nb_model.proofs.GoingLaws.{making_play}
-use Rattle.nb_model.proofs.MakingLaws.{finished_none, free_turn, under_among, under_play, made_among, played_used, names_once}
-use Rattle.nb_model.proofs.RunLaws.{play-append}
-use Rattle.nb_model.proofs.TurnCases.{turn_holds}
-use Rattle.nb_state.specs.Open.{Held}
-use Rattle.nb_session.specs.Acts.{AreSixteen, shown_by}
-use Rattle.nb_session.specs.Steps.{begun_first, shown_first, touching_by}
+use Rattle.std.proofs.Common.{◌≡◌, ◌≢◌, ℕ, ◌-◌, List, [], ◌∷◌, ◌++◌, length, drop, get_or, refl, sym, ap, subst, ◌∙◌, get_or-set_other, length-set, Bool, Contains}
+use Rattle.nb_session.proofs.Common.{slice_index_or, true≢false, append-nil, ShowCache, IsAt, waits, backs_up, copies, ends, merges, IsMaking, MadeFile, making_by, under_way, AreAmong, IsNoneOf, NamesOnce, Turn, Begins, Given, Event, Now, Played, outcome, stands_then, take_turn, one_turn, play, files_made, AreFinished, making_play, finished_none, free_turn, under_among, under_play, made_among, played_used, names_once, play-append, turn_holds, Held, AreSixteen, shown_by, begun_first, shown_first, touching_by}
 use Rattle.nb_session.proofs.MadeLaws.{none_among, among_left, among_right, both_among, once_fewer, made_second, made_ahead, made_both}
 use Rattle.nb_session.proofs.PlayLaws.{behind}
 use Rattle.nb_session.proofs.TouchingLaws.{touching_among}

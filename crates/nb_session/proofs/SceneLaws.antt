@@ -1,37 +1,7 @@
 -- What holds while sessions take their turns.
-use Rattle.std.proofs.Common.{◌≡◌, ◌≢◌, inl, inr, ℕ, zero, suc, ◌-◌, ◌<◌, ◌≤◌, List, [], ◌∷◌, ◌++◌, length, map, refl, sym, ap, subst, ◌∙◌, arith, append_assoc, length-set}
-use Rattle.std.specs.Prelude.{Bool, true, false, ◌||◌, IsTrue, Result, Ok, Option, Some, None, slice_get, slice_set}
-use Rattle.std.specs.List.{AllByRecursion, list_all, slice_index_or}
-use Rattle.std.proofs.lemmas.List.{append-nil}
-use Rattle.nb_host.specs.World.{World}
-use Rattle.nb_host.specs.Moments.{IsTimely}
-use Rattle.nb_host.specs.declared.faults.RunError.{RunError}
-use Rattle.nb_model.specs.declared.statement.Statement.{Statement}
-use Rattle.nb_model.specs.Account.{Base}
-use Rattle.nb_model.specs.Gifts.{Foretells}
-use Rattle.nb_model.specs.Going.{IsMaking}
-use Rattle.nb_model.specs.Making.{MadeFile, under_way, AreAmong}
-use Rattle.nb_model.specs.Outcomes.{Turn, Begins, Given}
-use Rattle.nb_model.specs.Run.{Event, Now, Played, base_now, one_turn, play, files_made}
-use Rattle.nb_model.specs.Steps.{steps_of, after_steps}
-use Rattle.nb_model.specs.Trail.{Trail}
-use Rattle.nb_model.proofs.GoingLaws.{making_play}
-use Rattle.nb_model.proofs.TodoLaws.{one_turn_idle}
-use Rattle.nb_sched.specs.Turns.{Scene, scene, Kind, kind, agent_of, Rests, Moves}
+use Rattle.std.proofs.Common.{◌≡◌, ◌≢◌, inl, inr, ℕ, zero, suc, ◌-◌, ◌<◌, ◌≤◌, List, [], ◌∷◌, ◌++◌, length, map, refl, sym, ap, subst, ◌∙◌, arith, append_assoc, length-set, Bool, true, false, ◌||◌, IsTrue, Result, Ok, Option, Some, None, slice_get, slice_set}
+use Rattle.nb_session.proofs.Common.{AllByRecursion, list_all, slice_index_or, append-nil, World, IsTimely, RunError, Statement, Base, Foretells, IsMaking, MadeFile, under_way, AreAmong, Turn, Begins, Given, Event, Now, Played, base_now, one_turn, play, files_made, steps_of, after_steps, Trail, making_play, one_turn_idle, Scene, scene, Kind, kind, agent_of, Rests, Moves, IsSession, Held, Task, Backup, Copy, End, Merge, Told, AreSixteen, Grows, Asker, task_todo, task_left, todo_of, HasTodo, left_of, IsFit, any_refused, HasNone, TakesOne, InTurn, IsReady, TaskGoes, only_told, as_played, shown_next, touching_by, Steps, TakesNext, Plays, told_turns, or_assoc}
 use Rattle.nb_sched.proofs.AgentLaws.{agent_there, agent_of_set}
-use Rattle.nb_script.specs.Fits.{IsSession}
-use Rattle.nb_state.specs.Open.{Held}
-use Rattle.nb_session.specs.declared.task.Task.{Task}
-use Rattle.nb_session.specs.declared.task.Task.TheVariants.{Backup, Copy, End, Merge}
-use Rattle.nb_session.specs.declared.told.Told.{Told}
-use Rattle.nb_session.specs.Acts.{AreSixteen, Grows}
-use Rattle.nb_session.specs.Askers.{Asker, task_todo, task_left, todo_of, HasTodo, left_of, IsFit, any_refused}
-use Rattle.nb_session.specs.InTurn.{HasNone, TakesOne, InTurn}
-use Rattle.nb_session.specs.Ready.{IsReady, TaskGoes}
-use Rattle.nb_session.specs.Replies.{only_told}
-use Rattle.nb_session.specs.Steps.{as_played, shown_next, touching_by, Steps, TakesNext}
-use Rattle.nb_session.specs.Stops.{Plays}
-use Rattle.nb_session.specs.Told.{told_turns}
 use Rattle.nb_session.proofs.GiftLaws.{foretold_first, foretold_then, foretold_itself, grows_none, grows_joined}
 use Rattle.nb_session.proofs.GoesLaws.{goes_on}
 use Rattle.nb_session.proofs.InTurnLaws.{in_turn_idle, in_turn_one, told_trail}
@@ -39,7 +9,6 @@ use Rattle.nb_session.proofs.MadeLaws.{none_among}
 use Rattle.nb_session.proofs.NextLaws.{keeps_todo, play_more, giving, making_giving, next_once, next_others, next_among, next_has, holds_left}
 use Rattle.nb_session.proofs.PlayLaws.{behind, trail_after, no_made, plays_none, plays_then}
 use Rattle.nb_session.proofs.ToldLaws.{told_nothing, told_append, told_among, told_others}
-use Rattle.nb_host.proofs.PlainLaws.{or_assoc}
 
 -- the sessions of a script as agents
 abbrev pub sessions_kind : {H : Type 0} (tells : Bool) (world : H → World) (faults : H → ℕ) → Kind Asker H Held

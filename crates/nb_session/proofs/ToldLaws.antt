@@ -1,23 +1,10 @@
 -- What is told of turns: each event in its place, with its strokes and its file, and of its reply no more than it had.
-use Rattle.std.proofs.Common.{◌≡◌, ℕ, List, [], ◌∷◌, ◌++◌, Bool, refl, sym, ap, subst, ◌∙◌, true≢false}
-use Rattle.std.specs.Prelude.{true, false, Contains, Option, None, Some}
-use Rattle.nb_host.specs.declared.refusals.Refusal.{Refusal}
-use Rattle.nb_model.specs.declared.reply.Reply.{Reply}
-use Rattle.nb_model.specs.declared.reply.Reply.TheVariants.{Scn, PagesShown, Refused}
+use Rattle.std.proofs.Common.{◌≡◌, ℕ, List, [], ◌∷◌, ◌++◌, Bool, refl, sym, ap, subst, ◌∙◌, true≢false, true, false, Contains, Option, None, Some}
+use Rattle.nb_session.proofs.Common.{Refusal, Reply, Scn, PagesShown, line_text, MadeFile, AreAmong, IsNoneOf, output, status_of, status_after, Event, files_made, replies_of, Step, steps_in, steps_of, Stroke, output_one, status_one, output-quiet, output_no_event, status_no_event, Told, has_only_told, only_told, told_reply, told_events, told_line, told_status}
+use Rattle.nb_model.specs.declared.reply.Reply.TheVariants.{Refused}
 use Rattle.nb_model.specs.Generated.{last_or_refusal, said_by_generated}
 use Rattle.nb_model.specs.Jobs.{sized, all_sized}
-use Rattle.nb_model.specs.Lines.{line_text}
-use Rattle.nb_model.specs.Making.{MadeFile, AreAmong, IsNoneOf}
-use Rattle.nb_model.specs.Output.{output, status_of, status_after}
-use Rattle.nb_model.specs.Run.{Event, files_made, replies_of}
-use Rattle.nb_model.specs.Steps.{Step, steps_in, steps_of}
-use Rattle.nb_model.specs.Strokes.{Stroke}
-use Rattle.nb_model.proofs.OutputLaws.{output_one, status_one, output-quiet, output_no_event, status_no_event}
-use Rattle.nb_session.specs.declared.told.Told.{Told}
 use Rattle.nb_session.specs.declared.told.Told.TheVariants.{Whole, WithPages, Sparingly}
-use Rattle.nb_state.specs.Does.{has_only_told}
-use Rattle.nb_session.specs.Replies.{only_told}
-use Rattle.nb_session.specs.Told.{told_reply, told_events, told_line, told_status}
 
 pub told_nothing : (how : Told) → told_events how [] ≡ []
 unfolding all_sized said_by_generated

@@ -1,26 +1,7 @@
 -- The files that a turn may touch.
-use Rattle.std.proofs.Common.{◌≡◌, ◌≢◌, ℕ, zero, suc, ◌-◌, List, [], ◌∷◌, ◌++◌, replicate, refl, sym, ap, subst, ◌∙◌, arith, get_or-set_same}
-use Rattle.std.specs.Prelude.{Bool, Contains}
-use Rattle.std.specs.List.{slice_index_or}
-use Rattle.std.proofs.lemmas.List.{append-nil}
-use Rattle.nb_host.specs.declared.refusals.Refusal.{Refusal}
-use Rattle.nb_model.specs.declared.reply.Reply.{Reply}
-use Rattle.nb_model.specs.declared.statement.Statement.{Statement}
-use Rattle.nb_model.specs.declared.statement.Statement.TheVariants.{Backup as BackupTo, BackupSince}
-use Rattle.nb_model.specs.Account.{Ask, Base}
-use Rattle.nb_model.specs.Going.{AreBeginnings, Runs, IsAt, waits, backs_up, copies, ends, merges, IsGoing, IsMaking}
-use Rattle.nb_model.specs.Image.{Image}
-use Rattle.nb_model.specs.Making.{MadeFile, making, making_by, under_way, AreAmong}
-use Rattle.nb_model.specs.Outcomes.{Turn, Begins, Merges, Ends, Finishes, Outcome, Seen}
-use Rattle.nb_model.specs.Run.{Now, Played, base_now, outcome, event_of, stands_then, take_turn, one_turn, files_made}
-use Rattle.nb_model.specs.Strokes.{base_after}
-use Rattle.nb_model.specs.Turns.{first_turn, turn}
-use Rattle.nb_model.proofs.GoingLaws.{one_runs}
-use Rattle.nb_model.proofs.MakingLaws.{under_among}
-use Rattle.nb_model.proofs.RunLaws.{turn_stands}
-use Rattle.nb_model.proofs.TurnCases.{MayStart, refused, started, IsFrom, backup_either, since_either}
-use Rattle.nb_session.specs.Askers.{IsBackup, IsOneTurn, file_asked, copy_first, merge_first, merge_rest}
-use Rattle.nb_session.specs.Steps.{left_making, begun_in, begun_first, touching, touching_by}
+use Rattle.std.proofs.Common.{◌≡◌, ◌≢◌, ℕ, zero, suc, ◌-◌, List, [], ◌∷◌, ◌++◌, replicate, refl, sym, ap, subst, ◌∙◌, arith, get_or-set_same, Bool, Contains}
+use Rattle.nb_session.proofs.Common.{slice_index_or, append-nil, Refusal, Reply, Statement, BackupSince, Ask, Base, AreBeginnings, Runs, IsAt, waits, backs_up, copies, ends, merges, IsGoing, IsMaking, Image, MadeFile, making, making_by, under_way, AreAmong, Turn, Begins, Merges, Ends, Finishes, Outcome, Seen, Now, Played, base_now, outcome, event_of, stands_then, take_turn, one_turn, files_made, base_after, first_turn, turn, one_runs, under_among, turn_stands, MayStart, refused, started, IsFrom, backup_either, since_either, IsBackup, IsOneTurn, file_asked, copy_first, merge_first, merge_rest, left_making, begun_in, begun_first, touching, touching_by}
+use Rattle.nb_model.specs.declared.statement.Statement.TheVariants.{Backup as BackupTo}
 use Rattle.nb_session.proofs.MadeLaws.{none_among, among_left, among_right, both_among}
 use Rattle.nb_session.proofs.MakesLaws.{place_in}
 use Rattle.nb_session.proofs.UnderWayLaws.{by_among, making_append, none_making}

@@ -1,43 +1,8 @@
 -- One turn, by what it made of the database and by its line.
-use Rattle.std.proofs.Common.{◌≡◌, ◌<◌, ℕ, ◌-◌, List, [], ◌∷◌, ◌++◌, Bool, false, refl, sym, ap, subst, ◌∙◌}
-use Rattle.std.specs.Prelude.{true, Result, Ok, Err, IsErr, IfOk, Option, Some, None, if◌then◌else◌}
-use Rattle.std.specs.List.{slice_index_or}
-use Rattle.std.proofs.lemmas.List.{append-nil}
-use Rattle.nb_host.specs.World.{World}
-use Rattle.nb_host.specs.declared.faults.Fault.{Fault}
-use Rattle.nb_host.specs.declared.faults.Fault.TheVariants.{Refused, Device, Memory}
-use Rattle.nb_host.specs.declared.refusals.Refusal.{Refusal}
-use Rattle.nb_host.specs.declared.faults.RunError.{RunError}
-use Rattle.nb_model.specs.declared.reply.Reply.{Reply}
+use Rattle.std.proofs.Common.{◌≡◌, ◌<◌, ℕ, ◌-◌, List, [], ◌∷◌, ◌++◌, Bool, false, refl, sym, ap, subst, ◌∙◌, true, Result, Ok, Err, IsErr, IfOk, Option, Some, None, if◌then◌else◌}
+use Rattle.nb_session.proofs.Common.{slice_index_or, append-nil, World, Fault, Refused, Device, Memory, Refusal, RunError, Reply, Statement, Foretells, IsMaking, line_text, MadeFile, Turn, Begins, Seen, status_after, Now, Played, base_now, outcome, take_turn, Trail, first_turn, turn, status_plain, IsSingle, IsNoRefusal, Held, Left, Other, Task, Taken, Told, Says, Grows, shown_by, Acts, MayAct, TaskFits, left_refused, left_task, task_left, IsReady, HasEnded, is_refusal, EndsEarly, SaysLine, as_played, touching, GoesFurther, IsBehind, Turns, Plays, told_line, told_reply, told_turns}
 use Rattle.nb_model.specs.declared.reply.Reply.TheVariants.{Refused as RefusedBy}
-use Rattle.nb_model.specs.declared.statement.Statement.{Statement}
-use Rattle.nb_model.specs.Gifts.{Foretells}
-use Rattle.nb_model.specs.Going.{IsMaking}
-use Rattle.nb_model.specs.Lines.{line_text}
-use Rattle.nb_model.specs.Making.{MadeFile}
-use Rattle.nb_model.specs.Outcomes.{Turn, Begins, Seen}
-use Rattle.nb_model.specs.Output.{status_after}
-use Rattle.nb_model.specs.Run.{Now, Played, base_now, outcome, take_turn}
-use Rattle.nb_model.specs.Trail.{Trail}
-use Rattle.nb_model.specs.Turns.{first_turn, turn}
-use Rattle.nb_model.proofs.StatusLaws.{status_plain}
-use Rattle.nb_model.proofs.TodoLaws.{IsSingle}
 use Rattle.nb_model.proofs.UsageLaws.{never_usage}
-use Rattle.nb_base.specs.Takes.{IsNoRefusal}
-use Rattle.nb_state.specs.Open.{Held}
-use Rattle.nb_session.specs.declared.task.Left.{Left}
-use Rattle.nb_session.specs.declared.task.Left.TheVariants.{Other}
-use Rattle.nb_session.specs.declared.task.Task.{Task}
-use Rattle.nb_session.specs.declared.task.Taken.{Taken}
-use Rattle.nb_session.specs.declared.told.Told.{Told}
-use Rattle.nb_session.specs.Acts.{Says, Grows, shown_by, Acts, MayAct}
-use Rattle.nb_session.specs.Askers.{TaskFits, left_refused, left_task, task_left}
-use Rattle.nb_session.specs.Ready.{IsReady}
-use Rattle.nb_session.specs.Replies.{HasEnded, is_refusal}
-use Rattle.nb_session.specs.Says.{EndsEarly, SaysLine}
-use Rattle.nb_session.specs.Steps.{as_played, touching, GoesFurther, IsBehind, Turns}
-use Rattle.nb_session.specs.Stops.{Plays}
-use Rattle.nb_session.specs.Told.{told_line, told_reply, told_turns}
 use Rattle.nb_session.proofs.EventLaws.{Marks, event_failed, event_quiet, event_unsaid, event_said}
 use Rattle.nb_session.proofs.GiftLaws.{foretold_still, grows_joined, grows_none}
 use Rattle.nb_session.proofs.SaysLaws.{says_other}

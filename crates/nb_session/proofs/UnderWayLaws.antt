@@ -1,17 +1,7 @@
 -- What a session is still to make, and for which of them it runs.
 use Rattle.std.proofs.Common.{Bool, ◌≡◌, ◌≢◌, ℕ, zero, suc, ◌-◌, List, [], ◌∷◌, ◌++◌, map, get_or, refl, ap, subst}
-use Rattle.std.specs.List.{slice_index_or}
-use Rattle.nb_model.specs.declared.statement.Statement.{Statement}
-use Rattle.nb_model.specs.Going.{IsBeginning, AreBeginnings, AreMerging, Runs, IsAt, waits, backs_up, copies, ends, merges, IsGoing}
-use Rattle.nb_model.specs.Image.{Image}
-use Rattle.nb_model.specs.Levels.{file_of, joined}
-use Rattle.nb_model.specs.Making.{MadeFile, kept_of, making, making_by, making_all, under_way, AreAmong}
-use Rattle.nb_model.specs.Outcomes.{Turn, Begins, Copies, ClosesBackup, ClosesCopy, Ends, Merges, Finishes}
-use Rattle.nb_model.specs.Run.{Now, base_now}
-use Rattle.nb_model.proofs.GoingLaws.{one_runs}
-use Rattle.nb_session.specs.Askers.{copy_first}
+use Rattle.nb_session.proofs.Common.{slice_index_or, Statement, IsBeginning, AreBeginnings, AreMerging, Runs, IsAt, waits, backs_up, copies, ends, merges, IsGoing, Image, file_of, joined, MadeFile, kept_of, making, making_by, making_all, under_way, AreAmong, Turn, Begins, Copies, ClosesBackup, ClosesCopy, Ends, Merges, Finishes, Now, base_now, one_runs, copy_first, beginnings_make}
 use Rattle.nb_session.proofs.MadeLaws.{none_among, among_left, among_right}
-use Rattle.nb_model.proofs.MakingLaws.{beginnings_make}
 
 -- turns after turns
 pub making_append : (frozen : Image) (ts us : List Turn) → making frozen (ts ++ us) ≡ making frozen ts ++ making frozen us

@@ -1,14 +1,11 @@
 -- What an inventory page says of the pages that have their bits in it.
-use Rattle.std.proofs.Common.{◌≡◌, ◌↔◌, ℕ, ◌+◌, ◌*◌, ◌/◌, ◌%◌, ◌<◌, length, get_or, refl, sym, ap, subst, ◌∙◌, arith}
-use Rattle.std.specs.Prelude.{Bool, true, false, not, ◌==◌, IsTrue}
+use Rattle.std.proofs.Common.{◌≡◌, ◌↔◌, ℕ, ◌+◌, ◌*◌, ◌/◌, ◌%◌, ◌<◌, length, get_or, refl, sym, ap, subst, ◌∙◌, arith, Bool, true, false, not, ◌==◌, IsTrue}
+use Rattle.nb_shown.proofs.Common.{bits_in, inventory_place, Page, Image, page_at, image_size, is_free_page}
 use Rattle.std.proofs.lemmas.Nat.{div-mul-add, mod-mul-add}
 use Rattle.std.proofs.lemmas.Nat.Bits.{bit_at-lt}
-use Rattle.nb_fields.specs.Places.{bits_in, inventory_place}
 use Rattle.nb_fields.specs.Payloads.{bit_of}
 use Rattle.nb_pip.specs.Bits.{bits}
 use Rattle.nb_pip.proofs.BitLaws.{get_or-bits}
-use Rattle.nb_model.specs.Image.{Page, Image, page_at, image_size}
-use Rattle.nb_model.specs.Forms.{is_free_page}
 use Rattle.nb_model.proofs.ReadLaws.{eq_no, eq_yes}
 use Rattle.nb_host.proofs.PlainLaws.{never}
 

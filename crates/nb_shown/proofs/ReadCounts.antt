@@ -1,6 +1,5 @@
 -- How many reads were made.
-use Rattle.std.proofs.Common.{ℕ, zero, suc, ◌+◌, ◌-◌, ◌<◌, ◌≤◌, arith}
-use Rattle.std.specs.Prelude.{min}
+use Rattle.std.proofs.Common.{ℕ, zero, suc, ◌+◌, ◌-◌, ◌<◌, ◌≤◌, arith, min}
 
 -- Page 0 may have taken two.
 pub page_read : (old loop new number bit : ℕ) → (0 < number → new ≤ loop + 1) → new ≤ loop + 2 → bit ≤ number → loop ≤ old + bit + min bit 1 → new ≤ old + (bit + 1) + min (bit + 1) 1

@@ -1,20 +1,11 @@
 -- A database is created or opened, as it is held.
-use Rattle.std.proofs.Common.{◌≡◌, ℕ, ◌<◌, List, [], subst, replicate, refl, sym, ap, ◌∙◌, arith}
-use Rattle.std.specs.Prelude.{Bool, false, not, ◌==◌, None, Ok}
-use Rattle.nb_fields.specs.Bytes.{number_in}
-use Rattle.nb_fields.specs.Header.{scn_of, guid_of}
+use Rattle.std.proofs.Common.{◌≡◌, ℕ, ◌<◌, List, [], subst, replicate, refl, sym, ap, ◌∙◌, arith, Bool, false, not, ◌==◌, None, Ok}
+use Rattle.nb_state.proofs.Common.{number_in, scn_of, guid_of, World, Trail, settled, Page, Image, first_page, base_of, NoneWaits, Pages, AreOf, open_settled, Held, IsOpen}
 use Rattle.nb_fields.specs.Fresh.{fresh}
-use Rattle.nb_host.specs.World.{World}
-use Rattle.nb_model.specs.Trail.{Trail, settled}
 use Rattle.nb_model.proofs.FreshImageLaws.{fresh_first, fresh_state, fresh_scn, fresh_open}
 use Rattle.nb_base.specs.Beginnings.{Creates as CreatesFiles, IsAttached as AreAttached}
 use Rattle.nb_base.specs.Open.{IsOpen as FilesOpen}
-use Rattle.nb_model.specs.Image.{Page, Image, first_page}
-use Rattle.nb_model.specs.Account.{base_of}
-use Rattle.nb_cache.specs.Held.{NoneWaits}
-use Rattle.nb_owner.specs.Open.{Pages, AreOf, IsOpen as PairOpen}
-use Rattle.nb_owner.proofs.WaitLaws.{open_settled}
-use Rattle.nb_state.specs.Open.{Held, IsOpen}
+use Rattle.nb_owner.specs.Open.{IsOpen as PairOpen}
 use Rattle.nb_state.specs.Beginnings.{IsAttached, Creates}
 use Rattle.nb_model.proofs.FreshSound.{header_guid}
 

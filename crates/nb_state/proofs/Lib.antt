@@ -5,3 +5,4 @@ pub mod AgreeLaws
 pub mod BeginLaws
 pub mod TurnLaws
 pub mod SizeLaws
+mod Common

@@ -1,40 +1,12 @@
 -- What is open after the turns of a backup.
-use Rattle.std.proofs.Common.{◌≡◌, ◌≢◌, ◌⊎◌, ⊎_elim, ℕ, ◌+◌, ◌<◌, ◌≤◌, List, [], ◌∷◌, ◌++◌, length, drop, refl, sym, ap, subst, ◌∙◌, arith, length-append, drop_at}
-use Rattle.std.specs.Prelude.{Bool, true, false, Option, Some, None, Result, Ok, Err}
-use Rattle.std.proofs.lemmas.Bool.{eq-eqb, ne_eqb}
-use Rattle.nb_fields.specs.Header.{is_header, state_of}
-use Rattle.nb_fields.specs.States.{normal_state, stalled_state, merge_state}
-use Rattle.nb_host.specs.World.{World}
-use Rattle.nb_host.specs.Calls.{IsStill}
+use Rattle.std.proofs.Common.{◌≡◌, ◌≢◌, ◌⊎◌, ⊎_elim, ℕ, ◌+◌, ◌<◌, ◌≤◌, List, [], ◌∷◌, ◌++◌, length, drop, refl, sym, ap, subst, ◌∙◌, arith, length-append, drop_at, Bool, true, false, Option, Some, None, Result, Ok, Err}
+use Rattle.nb_state.proofs.Common.{eq-eqb, ne_eqb, is_header, state_of, normal_state, stalled_state, merge_state, World, IsStill, Fault, Refused, Device, Memory, Refusal, weaker_has, strokes_composed, reached_front, Image, first_page, image_state, image_scn, image_guid, trimmed, Ask, Base, Cause, Stroke, begin, ends, finish, on_base, with_control, Trail, StandsIn, after_stroke, control_state, header-long, header-room, some_page, trail_base, OfFiles, AreMerged, Strikes, with_control-first, Quiet, GaveNothing, after_strokes, but_drafts, Held, AgreesWith, IsOpen, name_of, Tested, unless_by, begin_cause, end_cause, Begins, Ends, Merges}
 use Rattle.nb_host.specs.Moments.{IsTimely, Passes}
-use Rattle.nb_host.specs.declared.faults.Fault.{Fault}
 use Rattle.nb_host.specs.declared.faults.HostFault.{HostFault}
-use Rattle.nb_host.specs.declared.faults.Fault.TheVariants.{Refused, Device, Memory}
-use Rattle.nb_host.specs.declared.refusals.Refusal.{Refusal}
-use Rattle.nb_change.proofs.ChangesLaws.{weaker_has}
 use Rattle.nb_change.proofs.CallLaws.{still_alone}
-use Rattle.nb_change.proofs.ReachedLaws.{strokes_composed, reached_front}
-use Rattle.nb_model.specs.Image.{Image, first_page, image_state, image_scn, image_guid, trimmed}
-use Rattle.nb_model.specs.Account.{Ask, Base}
-use Rattle.nb_model.specs.Causes.{Cause}
-use Rattle.nb_model.specs.Strokes.{Stroke, begin, ends, finish, on_base, with_control}
-use Rattle.nb_model.specs.Trail.{Trail, StandsIn, after_stroke}
 use Rattle.nb_model.specs.Pages.{end_strokes, end_scn}
-use Rattle.nb_model.proofs.ControlLaws.{control_state}
-use Rattle.nb_model.proofs.HeaderLaws.{header-long, header-room}
-use Rattle.nb_model.proofs.MainLaws.{some_page}
-use Rattle.nb_model.proofs.TrailLaws.{trail_base}
 use Rattle.nb_model.proofs.TrimLaws.{trimmed_front, finish_base}
-use Rattle.nb_base.specs.Open.{OfFiles, AreMerged}
-use Rattle.nb_base.specs.Takes.{Strikes}
-use Rattle.nb_base.proofs.ControlLaws.{with_control-first}
-use Rattle.nb_page.specs.Quiet.{Quiet}
-use Rattle.nb_change.specs.Gave.{GaveNothing}
-use Rattle.nb_base.specs.Takes.{after_strokes}
-use Rattle.nb_owner.specs.Open.{IsOpen as PairOpen, but_drafts}
-use Rattle.nb_state.specs.Open.{Held, AgreesWith, IsOpen, name_of}
-use Rattle.nb_state.specs.Does.{Tested, unless_by}
-use Rattle.nb_state.specs.Turns.{begin_cause, end_cause, Begins, Ends, Merges}
+use Rattle.nb_owner.specs.Open.{IsOpen as PairOpen}
 use Rattle.nb_state.specs.declared.turns.Progress.{Progress}
 use Rattle.nb_state.proofs.AgreeLaws.{agrees_front, agrees_control}
 use Rattle.nb_state.proofs.MakesLaws.{none_yet, gave_none}

@@ -1,38 +1,8 @@
 -- What a row's turn does, once its table's rows are come by.
-use Rattle.std.proofs.Common.{◌≡◌, ℕ, List, [], ◌∷◌, refl, sym, ap, ◌∙◌}
-use Rattle.std.specs.Prelude.{true, false, Option, Some, None, Result, Ok, Err, IfOk, is_some}
-use Rattle.nb_fields.specs.Kinds.{data_kind}
-use Rattle.nb_host.specs.World.{World}
-use Rattle.nb_host.specs.declared.faults.Fault.{Fault}
-use Rattle.nb_host.specs.declared.refusals.Refusal.{Refusal}
-use Rattle.nb_host.specs.declared.refusals.Refusal.TheVariants.{KeyExists, NoKey}
-use Rattle.nb_model.specs.declared.reply.Reply.TheVariants.{Refused, Done}
-use Rattle.nb_model.specs.Image.{Image}
-use Rattle.nb_model.specs.Trail.{Trail}
-use Rattle.nb_model.specs.Forms.{Draft, drafted}
-use Rattle.nb_model.specs.Causes.{Cause, when, read_only, too_long, not_kind, not_of_form, no_room, broken_at, short_for}
-use Rattle.nb_model.specs.Chains.{Chain, RowsFrom, Slot, Spot, pages_of, found_pages, spots, table_spot, row_spot, free_spot, first_in, row_slot, free_slot, put_slot, place_slot}
-use Rattle.nb_model.specs.Outcomes.{Seen, Outcome, says, unless, changes}
-use Rattle.nb_model.specs.Tables.{with_spot, in_row, insert_turn, update_turn, delete_turn}
-use Rattle.nb_state.specs.Open.{Held}
-use Rattle.nb_state.specs.Does.{Does}
-use Rattle.nb_engine.specs.Put.{entry_cause}
-use Rattle.nb_engine.specs.Replies.{done}
-use Rattle.nb_engine.specs.Tries.{Tries}
-use Rattle.nb_alloc.proofs.CauseLaws.{refused_by, judged_by}
-use Rattle.nb_alloc.proofs.DoesLaws.{seeing, tries_does}
-use Rattle.nb_alloc.proofs.RoomsLaws.{slot_alone}
-use Rattle.nb_table.specs.declared.look.Found.{Found}
-use Rattle.nb_table.specs.declared.look.Sought.TheVariants.{Row}
-use Rattle.nb_table.specs.declared.look.Walked.{Walked}
-use Rattle.nb_table.specs.Rows.{rows_cause, place_cause}
-use Rattle.nb_table.specs.Walks.{gathered, found_at, place_at}
+use Rattle.std.proofs.Common.{◌≡◌, ℕ, List, [], ◌∷◌, refl, sym, ap, ◌∙◌, true, false, Option, Some, None, Result, Ok, Err, IfOk, is_some}
+use Rattle.nb_table.proofs.Common.{data_kind, World, Fault, Refusal, KeyExists, NoKey, Refused, Done, Image, Trail, Draft, drafted, Cause, when, read_only, too_long, not_kind, not_of_form, no_room, broken_at, short_for, Chain, RowsFrom, Slot, Spot, pages_of, found_pages, spots, table_spot, row_spot, free_spot, first_in, row_slot, free_slot, put_slot, place_slot, Seen, Outcome, says, unless, changes, with_spot, in_row, insert_turn, update_turn, delete_turn, Held, Does, entry_cause, done, Tries, refused_by, judged_by, seeing, tries_does, slot_alone, Found, Row, Walked, rows_cause, place_cause, gathered, found_at, place_at, row_kind, applies, first_here, first_next, no_cause, when_false}
 use Rattle.nb_table.proofs.InTableLaws.{table_refused, table_goes_from}
 use Rattle.nb_table.proofs.PlaceLaws.{IsPlaceOf, found_some, found_there}
-use Rattle.nb_walk.proofs.SpotPages.{row_kind}
-use Rattle.nb_base.proofs.AttachLaws.{applies, first_here, first_next}
-use Rattle.nb_model.proofs.TurnCases.{no_cause}
-use Rattle.nb_model.proofs.WholeLaws.{when_false}
 
 -- what is said is `ok`
 pub said : (result : Result (Unit {0}) Fault) → IfOk result (λ value. done value ≡ Done)

@@ -1,24 +1,7 @@
 -- The pages of a chain are tested one after the other, along their links, before any of them is given back.
-use Rattle.std.proofs.Common.{◌≡◌, ◌≢◌, ℕ, zero, suc, ◌-◌, ◌<◌, List, [], ◌∷◌, ◌++◌, length, refl, sym, ap, subst, ◌∙◌, arith}
-use Rattle.std.specs.Prelude.{min, Option, Some, None, Ok}
-use Rattle.std.proofs.lemmas.List.{append-nil}
-use Rattle.nb_fields.specs.Kinds.{data_kind}
-use Rattle.nb_host.specs.declared.refusals.Refusal.{Refusal}
-use Rattle.nb_host.specs.declared.refusals.Refusal.TheVariants.{NotDatabase}
-use Rattle.nb_model.specs.Causes.{Cause, lowest_of, lowest_broken}
-use Rattle.nb_model.specs.Chains.{Chain, first_of, owner_of, next_in, walk, pages_of}
-use Rattle.nb_model.specs.Image.{Image, page_at}
-use Rattle.nb_model.proofs.ChainWalks.{walk_zero}
-use Rattle.nb_model.proofs.RoomLaws.{in_chain, chain_owner}
-use Rattle.nb_engine.specs.Behind.{give_broken}
-use Rattle.nb_engine.specs.Data.{not_data}
-use Rattle.nb_engine.specs.Find.{need_cause}
-use Rattle.nb_alloc.proofs.DataLaws.{owner_is}
-use Rattle.nb_alloc.proofs.RoomsLaws.{lowest_append}
-use Rattle.nb_alloc.proofs.TestLaws.{kind_is}
-use Rattle.nb_table.specs.Drops.{drop_broken}
+use Rattle.std.proofs.Common.{◌≡◌, ◌≢◌, ℕ, zero, suc, ◌-◌, ◌<◌, List, [], ◌∷◌, ◌++◌, length, refl, sym, ap, subst, ◌∙◌, arith, min, Option, Some, None, Ok}
+use Rattle.nb_table.proofs.Common.{append-nil, data_kind, Refusal, NotDatabase, Cause, lowest_of, lowest_broken, Chain, first_of, owner_of, next_in, walk, pages_of, Image, page_at, walk_zero, in_chain, chain_owner, give_broken, not_data, need_cause, owner_is, lowest_append, kind_is, drop_broken, err_ok}
 use Rattle.nb_table.proofs.GiveLaws.{IsFirst, walk_first}
-use Rattle.nb_host.proofs.PlainLaws.{err_ok}
 
 page_same : (p q : ℕ) → Some (NotDatabase p) ≡ Some (NotDatabase q) → p ≡ q
 page_same p q e = cc

@@ -1,15 +1,6 @@
 -- A table or a row that was looked for: it is found, or there is none.
-use Rattle.std.proofs.Common.{◌≡◌, ℕ, [], ◌∷◌, refl, sym, ap, ◌∙◌}
-use Rattle.std.specs.Prelude.{Option, Some, None, is_none}
-use Rattle.nb_host.specs.declared.refusals.Refusal.{Refusal}
-use Rattle.nb_host.specs.declared.refusals.Refusal.TheVariants.{NoKey}
-use Rattle.nb_model.specs.Image.{Image}
-use Rattle.nb_model.specs.Causes.{Cause, first_cause, when, broken_at}
-use Rattle.nb_model.specs.Chains.{Spot, RowsFrom, pages_of, spots, row_spot}
-use Rattle.nb_table.specs.declared.look.Found.{Found}
-use Rattle.nb_table.specs.Walks.{found_of, spot_of, found_at}
-use Rattle.nb_base.proofs.AttachLaws.{first_here, first_next}
-use Rattle.nb_model.proofs.TurnCases.{no_cause}
+use Rattle.std.proofs.Common.{◌≡◌, ℕ, [], ◌∷◌, refl, sym, ap, ◌∙◌, Option, Some, None, is_none}
+use Rattle.nb_table.proofs.Common.{Refusal, NoKey, Image, Cause, first_cause, when, broken_at, Spot, RowsFrom, pages_of, spots, row_spot, Found, found_of, spot_of, found_at, first_here, first_next, no_cause}
 
 some_same : (f g : Found) → Some f ≡ Some g → f ≡ g
 some_same f g e = cc

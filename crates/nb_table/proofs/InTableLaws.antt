@@ -1,30 +1,8 @@
 -- A statement on a table, test by test: before the table is looked for, that it is there, after that, and that its chain is of the form.
-use Rattle.std.proofs.Common.{◌≡◌, ℕ, List, [], ◌∷◌, refl, sym, ap, subst, ◌∙◌}
-use Rattle.std.specs.Prelude.{Option, Some, None, is_none, Result}
-use Rattle.nb_host.specs.World.{World}
-use Rattle.nb_host.specs.declared.faults.Fault.{Fault}
-use Rattle.nb_host.specs.declared.refusals.Refusal.{Refusal}
-use Rattle.nb_host.specs.declared.refusals.Refusal.TheVariants.{NoTable}
-use Rattle.nb_page.specs.Quiet.{Quiet}
-use Rattle.nb_page.proofs.QuietLaws.{quiet_joined}
+use Rattle.std.proofs.Common.{◌≡◌, ℕ, List, [], ◌∷◌, refl, sym, ap, subst, ◌∙◌, Option, Some, None, is_none, Result}
+use Rattle.nb_table.proofs.Common.{World, Fault, Refusal, NoTable, Quiet, quiet_joined, Refused, Done, Image, Cause, first_cause, when, broken_at, Chain, Catalogue, RowsFrom, Spot, pages_of, table_spot, first_in, Seen, Outcome, says, unless, with_spot, in_table, Trail, Held, IsOpen, but_pages, Does, makes_after, unless_refused, unless_allowed, one_cause, seeing, chain_cause, rows_cause, first_here, first_next, same_some, no_cause}
 use Rattle.nb_model.specs.declared.reply.Reply.{Reply}
-use Rattle.nb_model.specs.declared.reply.Reply.TheVariants.{Refused, Done}
 use Rattle.nb_model.specs.Account.{Base}
-use Rattle.nb_model.specs.Image.{Image}
-use Rattle.nb_model.specs.Causes.{Cause, first_cause, when, broken_at}
-use Rattle.nb_model.specs.Chains.{Chain, Catalogue, RowsFrom, Spot, pages_of, table_spot, first_in}
-use Rattle.nb_model.specs.Outcomes.{Seen, Outcome, says, unless}
-use Rattle.nb_model.specs.Tables.{with_spot, in_table}
-use Rattle.nb_model.specs.Trail.{Trail}
-use Rattle.nb_state.specs.Open.{Held, IsOpen, but_pages}
-use Rattle.nb_state.specs.Does.{Does}
-use Rattle.nb_state.proofs.MakesLaws.{makes_after}
-use Rattle.nb_alloc.proofs.CauseLaws.{unless_refused, unless_allowed, one_cause}
-use Rattle.nb_alloc.proofs.DoesLaws.{seeing}
-use Rattle.nb_table.specs.Rows.{chain_cause, rows_cause}
-use Rattle.nb_base.proofs.AttachLaws.{first_here, first_next}
-use Rattle.nb_model.proofs.SpotMaps.{same_some}
-use Rattle.nb_model.proofs.TurnCases.{no_cause}
 
 -- The chain of the rows that a slot of the catalogue leads to.
 abbrev pub chain_at : Spot → Chain

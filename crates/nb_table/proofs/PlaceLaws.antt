@@ -1,33 +1,6 @@
 -- A slot of a chain is written, or its chain grows: what that does of a turn.
-use Rattle.std.proofs.Common.{◌≡◌, ℕ, ◌+◌, ◌*◌, List, [], ◌∷◌, ◌++◌, refl, sym, ap, ◌∙◌}
-use Rattle.std.specs.Prelude.{Bool, true, false, Option, Some, None, Result, is_some, Err, Ok}
-use Rattle.nb_fields.specs.Bytes.{with_part}
-use Rattle.nb_fields.specs.Kinds.{data_kind}
-use Rattle.nb_host.specs.World.{World}
-use Rattle.nb_host.specs.declared.faults.Fault.{Fault}
-use Rattle.nb_host.specs.declared.refusals.Refusal.TheVariants.{NotDatabase}
-use Rattle.nb_model.specs.Image.{Image, page_at}
-use Rattle.nb_model.specs.Trail.{Trail}
-use Rattle.nb_model.specs.Forms.{Draft, drafted, is_kind, other_kind, wants}
-use Rattle.nb_model.specs.Causes.{first_cause, not_kind, not_of_form, no_room, broken_at, too_short, short_for, Cause}
-use Rattle.nb_model.specs.Chains.{Chain, Slot, Spot, pages_of, found_pages, spots, free_spot, put_slot, grown, place_slot, last_of}
-use Rattle.nb_model.proofs.SearchLaws.{draft_cause}
-use Rattle.nb_state.specs.Open.{Held}
-use Rattle.nb_engine.specs.Data.{data_cause, put_data, unmade}
-use Rattle.nb_engine.specs.Put.{entry_cause}
-use Rattle.nb_engine.specs.Tries.{Tries}
-use Rattle.nb_engine.proofs.DataLaws.{by_entry}
-use Rattle.nb_alloc.proofs.MakeLaws.{tries_named}
-use Rattle.nb_alloc.proofs.RoomsLaws.{slot_alone}
-use Rattle.nb_table.specs.declared.look.Place.{Place}
-use Rattle.nb_table.specs.declared.look.Found.{Found}
-use Rattle.nb_table.specs.Rows.{place_cause}
-use Rattle.nb_table.specs.Walks.{place_of, found_of, place_at, found_at}
-use Rattle.nb_walk.proofs.SpotPages.{free_kind, last_kind}
-use Rattle.nb_model.specs.Strokes.{Stroke}
-use Rattle.nb_alloc.proofs.DoesLaws.{tries_other, tries_valued}
-use Rattle.nb_base.proofs.AttachLaws.{first_next}
-use Rattle.nb_model.proofs.TurnCases.{is_so}
+use Rattle.std.proofs.Common.{◌≡◌, ℕ, ◌+◌, ◌*◌, List, [], ◌∷◌, ◌++◌, refl, sym, ap, ◌∙◌, Bool, true, false, Option, Some, None, Result, is_some, Err, Ok}
+use Rattle.nb_table.proofs.Common.{with_part, data_kind, World, Fault, NotDatabase, Image, page_at, Trail, Draft, drafted, is_kind, other_kind, wants, first_cause, not_kind, not_of_form, no_room, broken_at, too_short, short_for, Cause, Chain, Slot, Spot, pages_of, found_pages, spots, free_spot, put_slot, grown, place_slot, last_of, draft_cause, Held, data_cause, put_data, unmade, entry_cause, Tries, by_entry, tries_named, slot_alone, Place, Found, place_cause, place_of, found_of, place_at, found_at, free_kind, last_kind, Stroke, tries_other, tries_valued, first_next, is_so}
 
 -- nothing is noted of it
 pub wants_met : (image : Image) (kind p : ℕ) (d : Draft) → not_kind image kind p ≡ None → wants image kind p d ≡ d

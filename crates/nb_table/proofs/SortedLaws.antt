@@ -1,21 +1,10 @@
 -- Rows in the order of their keys, slot by slot.
-use Rattle.std.proofs.Common.{Ordering, Less, Equal, Greater, ◌≡◌, ◌≢◌, inl, inr, ℕ, suc, ◌<◌, List, [], ◌∷◌, ◌++◌, refl, sym, ap, ◌∙◌, arith}
-use Rattle.std.specs.Prelude.{Bool, true, false, cond, ◌==◌, nat_lt, nat_eq, Option, Some, None, option_map, is_some, slice_index}
+use Rattle.std.proofs.Common.{Ordering, Less, Equal, Greater, ◌≡◌, ◌≢◌, inl, inr, ℕ, suc, ◌<◌, List, [], ◌∷◌, ◌++◌, refl, sym, ap, ◌∙◌, arith, Bool, true, false, cond, ◌==◌, nat_lt, nat_eq, Option, Some, None, option_map, is_some, slice_index}
+use Rattle.nb_table.proofs.Common.{list_all, insert_entry, is_at, and_from, eqb_tells, leb_tells, RowsFrom, Slot, Spot, is_used, is_slot, key_of, text_in, first_such, row_spot, slots_in, spots_on, spots_of, Page, Image, page_at, RowMap, with_row, row_at, rows_in, eq_yes, eq_no, lt_yes, lt_no, has_key, unused_key, other_key, first_held, first_miss, spots_more}
 use Rattle.std.specs.Ordering.{nat_cmp, is_eq, match_ordering}
-use Rattle.std.specs.List.{list_all}
 use Rattle.std.specs.Map.{lookup}
-use Rattle.std.specs.BTreeMap.{insert_entry, is_at}
-use Rattle.std.proofs.lemmas.Bool.{and_from}
-use Rattle.std.proofs.lemmas.Bool.Decides.{eqb_tells, leb_tells}
-use Rattle.nb_model.specs.Chains.{RowsFrom, Slot, Spot, is_used, is_slot, key_of, text_in, first_such, row_spot, slots_in, spots_on, spots_of}
-use Rattle.nb_model.specs.Image.{Page, Image, page_at}
-use Rattle.nb_model.specs.Rows.{RowMap, with_row, row_at, rows_in}
-use Rattle.nb_model.proofs.ReadLaws.{eq_yes, eq_no, lt_yes, lt_no}
 use Rattle.nb_model.proofs.RowMaps.{rows_rise, same_maps, rows_at}
-use Rattle.nb_model.proofs.SpotMaps.{has_key, unused_key, other_key}
 use Rattle.nb_model.proofs.SpotMore.{more_rows}
-use Rattle.nb_walk.proofs.FirstLaws.{first_held, first_miss}
-use Rattle.nb_walk.proofs.SpotLaws.{spots_more}
 
 -- How two numbers compare.
 cmp_less : (a b : ℕ) → a < b → nat_cmp a b ≡ Less

@@ -1,23 +1,11 @@
 -- Files of a chain, of a fold or of a plan are never refused as words are that name no job.
-use Rattle.std.proofs.Common.{◌≡◌, ◌≢◌, ℕ, ◌+◌, List, [], ◌∷◌, length, true, false, ap, subst}
-use Rattle.std.specs.Prelude.{Bool, ◌==◌, not, Option, None, Some, Result, Ok, Err}
+use Rattle.std.proofs.Common.{◌≡◌, ◌≢◌, ℕ, ◌+◌, List, [], ◌∷◌, length, true, false, ap, subst, Bool, ◌==◌, not, Option, None, Some, Result, Ok, Err}
+use Rattle.nb_top.proofs.Common.{is_header, signature, state_of, stalled_state, File, Files, same_name, Refusal, Usage, NoFile, BadLevel, ChainLevel, ChainGuid, ChainSize, ChainScn, Cause, first_cause, when, Contents, read_level, begins_level, Link, whole_link, level_link, is_bad_length, not_whole, first_link, not_behind, next_link, linked, next_links, verdict, chained, file_after, files_after, not_after, with_first, Retention, planned, IsOther, other_first, other_when}
 use Rattle.nb_fields.specs.Bytes.{number_in}
-use Rattle.nb_fields.specs.Header.{is_header, signature, state_of}
-use Rattle.nb_fields.specs.States.{stalled_state}
-use Rattle.nb_host.specs.Files.{File, Files}
-use Rattle.nb_host.specs.Names.{same_name}
-use Rattle.nb_host.specs.declared.refusals.Refusal.{Refusal}
-use Rattle.nb_host.specs.declared.refusals.Refusal.TheVariants.{Usage, NoFile, BadLevel, ChainLevel, ChainGuid, ChainSize, ChainScn}
-use Rattle.nb_model.specs.Causes.{Cause, first_cause, when}
-use Rattle.nb_model.specs.Levels.{Contents, read_level, begins_level}
-use Rattle.nb_model.specs.Restoring.{Link, whole_link, level_link, is_bad_length, not_whole, first_link, not_behind, next_link, linked, next_links, verdict}
-use Rattle.nb_fold.specs.Verdict.{chained, file_after, files_after, not_after, with_files}
-use Rattle.nb_catalog.specs.Answers.{with_first}
+use Rattle.nb_fold.specs.Verdict.{with_files}
 use Rattle.nb_catalog.specs.Heads.{level_head, read_file, read_files, whole_head}
-use Rattle.nb_catalog.specs.Plans.{Retention, plan_of}
-use Rattle.nb_catalog.specs.Turns.{planned}
+use Rattle.nb_catalog.specs.Plans.{plan_of}
 use Rattle.nb_level.specs.declared.head.LevelHead.{LevelHead}
-use Rattle.nb_model.proofs.UsageCauses.{IsOther, other_first, other_when}
 
 -- it isn't refused, or for another reason
 abbrev IsFine : {T : Type 0} → Result T Refusal → Type 0

@@ -1,23 +1,6 @@
 -- Copies of files that stand for an account stand for one with the same records.
-use Rattle.std.proofs.Common.{◌≡◌, ◌≢◌, ℕ, zero, suc, List, refl, sym, ap, subst, ◌∙◌, true, false, arith}
-use Rattle.std.specs.Prelude.{Bool, ◌==◌, Some, None, Result, Ok, Err}
-use Rattle.nb_fields.specs.Header.{state_of}
-use Rattle.nb_fields.specs.States.{normal_state, stalled_state}
-use Rattle.nb_host.specs.Files.{File, Files}
-use Rattle.nb_host.specs.Names.{is_delta}
-use Rattle.nb_host.specs.World.{World}
-use Rattle.nb_host.specs.declared.refusals.Refusal.{Refusal}
-use Rattle.nb_host.specs.declared.refusals.Refusal.TheVariants.{Unfinished}
-use Rattle.nb_model.specs.Account.{Base, base_of, IsBase, Account}
-use Rattle.nb_model.specs.Causes.{Cause, not_database}
-use Rattle.nb_model.specs.Image.{Image, image_in, image_state}
-use Rattle.nb_model.specs.Main.{HoldsMain}
-use Rattle.nb_model.specs.Owner.{delta_name, owner, owner_in, owner_with, entry_in}
-use Rattle.nb_model.specs.Stands.{Stands, Belongs, to_base, to_record}
-use Rattle.nb_model.proofs.FrontLaws.{owner_of_entry}
-use Rattle.nb_model.proofs.MainLaws.{main_state, owner-formed, owner-refused, owner_main}
-use Rattle.nb_top.specs.Standing.{StandsFor}
-use Rattle.nb_top.specs.Worlds.{StartsFrom, AreCopies, account_of}
+use Rattle.std.proofs.Common.{◌≡◌, ◌≢◌, ℕ, zero, suc, List, refl, sym, ap, subst, ◌∙◌, true, false, arith, Bool, ◌==◌, Some, None, Result, Ok, Err}
+use Rattle.nb_top.proofs.Common.{state_of, normal_state, stalled_state, File, Files, is_delta, World, Refusal, Unfinished, Base, base_of, IsBase, Account, Cause, not_database, Image, image_in, image_state, HoldsMain, delta_name, owner, owner_in, owner_with, entry_in, Stands, Belongs, to_base, to_record, owner_of_entry, main_state, owner-formed, owner-refused, owner_main, StandsFor, StartsFrom, AreCopies, account_of}
 use Rattle.nb_top.proofs.OpenLaws.{none_shown, shown_entry}
 use Rattle.nb_top.proofs.WorldLaws.{stands_from, none_beside, not_beside}
 

@@ -1,31 +1,17 @@
 -- Level files of kept backups, folded: what they tell is the file of the last backup that goes on from what the first goes on from.
-use Rattle.std.proofs.Common.{◌≡◌, ◌≢◌, inl, inr, ℕ, suc, ◌+◌, ◌<◌, ◌≤◌, List, [], ◌∷◌, ◌++◌, length, refl, sym, ap, ap₂, subst, ◌∙◌, arith}
-use Rattle.std.specs.Prelude.{Bool, true, false, nat_lt, nat_le, Option, Some, None, Ok, Contains}
-use Rattle.std.specs.List.{AllByRecursion}
-use Rattle.std.proofs.lemmas.Bool.{and_from, and_parts, leb-true, le-leb}
-use Rattle.std.proofs.lemmas.Bool.Decides.{eqb_tells, leb_tells}
-use Rattle.nb_fields.specs.Page.{stamp_of}
+use Rattle.std.proofs.Common.{◌≡◌, ◌≢◌, inl, inr, ℕ, suc, ◌+◌, ◌<◌, ◌≤◌, List, [], ◌∷◌, ◌++◌, length, refl, sym, ap, ap₂, subst, ◌∙◌, arith, Bool, true, false, nat_lt, nat_le, Option, Some, None, Ok, Contains}
+use Rattle.nb_top.proofs.Common.{AllByRecursion, and_from, and_parts, leb-true, le-leb, eqb_tells, leb_tells, stamp_of, Files, is_delta, Kept, Account, Page, Image, image_size, AreRising, Contents, Head, file_for, head_for, level_bytes, taken, taken_from, changed, IsSoundImage, IsAncestor, IsKeptAs, IsLineTo, IsSpan, Stands, nil, to_record, span_bytes, level_told, bytes_for, first_head, folded, folded_head, folded_pages, last_head, last_page, or_before, page_of, pages_of_each, chained, files_after, GoesAfter, files_rise, folded_page, goes_after, next_files, AreOfKept}
 use Rattle.nb_fields.specs.Places.{most_pages}
-use Rattle.nb_host.specs.Files.{Files}
-use Rattle.nb_host.specs.Names.{is_delta}
-use Rattle.nb_model.specs.Account.{Ask, Kept, Account}
-use Rattle.nb_model.specs.Image.{Page, Image, Numbered, image_size}
-use Rattle.nb_model.specs.Levels.{AreRising, Contents, Head, file_for, head_for, level_bytes, taken, taken_from, changed}
-use Rattle.nb_model.specs.Sound.{IsSoundImage}
-use Rattle.nb_model.specs.Stands.{IsAncestor, IsKeptAs, IsLineTo, IsSpan, Stands, nil, to_record}
+use Rattle.nb_model.specs.Account.{Ask}
+use Rattle.nb_model.specs.Image.{Numbered}
 use Rattle.nb_model.proofs.ChainLaws.{taken_rise}
 use Rattle.nb_model.proofs.ChangedLaws.{sound_changed}
 use Rattle.nb_model.proofs.FollowsLaws.{Meets, follows_on, meets}
-use Rattle.nb_model.proofs.MadeLaws.{span_bytes}
 use Rattle.nb_model.proofs.ReadLaws.{eq_no, eq_yes, lt_no, lt_yes}
-use Rattle.nb_level.proofs.ToldLaws.{level_told}
 use Rattle.nb_restore.proofs.ParentLaws.{LeadsTo}
 use Rattle.nb_inplace.proofs.KeptLaws.{IsOfRecord, of_record}
-use Rattle.nb_fold.specs.Folding.{bytes_for, first_head, folded, folded_head, folded_pages, last_head, last_page, or_before, page_of, pages_of_each}
-use Rattle.nb_fold.specs.Verdict.{chained, files_after}
 use Rattle.nb_fold.proofs.FoldedLaws.{folded_rises, none_below}
-use Rattle.nb_fold.proofs.SameLaws.{GoesAfter, files_rise, folded_page, goes_after, next_files, no_files}
-use Rattle.nb_top.specs.OneTurn.{AreOfKept}
+use Rattle.nb_fold.proofs.SameLaws.{no_files}
 
 -- ---- the pages that a level takes, by their numbers
 

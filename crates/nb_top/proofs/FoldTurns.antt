@@ -1,17 +1,6 @@
 -- The one turn of a fold: what it must be, and what stands after it.
-use Rattle.std.proofs.Common.{◌≡◌, ◌≢◌, inl, inr, ℕ, List, true, false, refl, sym, ap, ◌∙◌}
-use Rattle.std.specs.Prelude.{Bool, None, Result, Ok, Err}
-use Rattle.nb_host.specs.Files.{Files}
-use Rattle.nb_host.specs.declared.refusals.Refusal.{Refusal}
-use Rattle.nb_host.specs.declared.refusals.Refusal.TheVariants.{FileExists, Usage}
-use Rattle.nb_page.specs.Free.{is_free_name}
-use Rattle.nb_model.specs.Account.{Account, Plain, with_entry}
-use Rattle.nb_model.specs.Causes.{is_free_entry}
-use Rattle.nb_model.specs.Jobs.{only_refusal, account_behind}
-use Rattle.nb_model.specs.Levels.{Contents}
-use Rattle.nb_model.specs.Run.{with_made}
-use Rattle.nb_fold.specs.Folding.{bytes_for, folded}
-use Rattle.nb_fold.specs.Verdict.{chained, fold_turn, fold_verdict, made_turn}
+use Rattle.std.proofs.Common.{◌≡◌, ◌≢◌, inl, inr, ℕ, List, true, false, refl, sym, ap, ◌∙◌, Bool, None, Result, Ok, Err}
+use Rattle.nb_top.proofs.Common.{Files, Refusal, FileExists, Usage, is_free_name, Account, Plain, with_entry, is_free_entry, only_refusal, account_behind, Contents, with_made, bytes_for, folded, chained, fold_turn, fold_verdict, made_turn}
 use Rattle.nb_top.proofs.ChainRefusals.{refused_files}
 use Rattle.nb_top.proofs.TargetTurns.{IsRefused, TargetTurn, target_refused, target_turn, never_usage}
 

@@ -1,21 +1,6 @@
 -- A job is what it asks for: the run of a script, or one turn.
-use Rattle.std.proofs.Common.{◌≡◌, ◌∙◌, ℕ, List, length, refl, sym, subst}
-use Rattle.std.specs.Prelude.{Bool, true, false, Option, Some, None, Ok}
-use Rattle.nb_host.specs.Files.{Files}
-use Rattle.nb_model.specs.declared.job.Ask.{Ask}
-use Rattle.nb_model.specs.declared.job.Deed.{Deed}
-use Rattle.nb_model.specs.declared.job.Deed.TheVariants.{Restore, Fixup, Apply}
-use Rattle.nb_model.specs.declared.job.Job.TheVariants.{Turn}
-use Rattle.nb_model.specs.Account.{Account}
-use Rattle.nb_model.specs.Jobs.{IsAttaching, all_sized, apply_turn, asks_size, fixup_turn, quiet, restore_turn, turn_of}
-use Rattle.nb_model.specs.Outcomes.{Given}
-use Rattle.nb_model.specs.Run.{Event}
-use Rattle.nb_model.specs.Strokes.{base_in}
-use Rattle.nb_top.specs.declared.telling.Telling.{Telling}
-use Rattle.nb_top.specs.declared.telling.Telling.TheVariants.{Quietly, WithSize}
-use Rattle.nb_top.specs.OneTurn.{one_turn}
-use Rattle.nb_top.specs.Performed.{IsPerformed, told}
-use Rattle.nb_top.specs.Requests.{Does, attached, request_of}
+use Rattle.std.proofs.Common.{◌≡◌, ◌∙◌, ℕ, List, length, refl, sym, subst, Bool, true, false, Option, Some, None, Ok}
+use Rattle.nb_top.proofs.Common.{Files, Ask, Deed, Restore, Fixup, Apply, Turn, Account, IsAttaching, all_sized, apply_turn, asks_size, fixup_turn, quiet, restore_turn, turn_of, Given, Event, base_in, Telling, Quietly, WithSize, one_turn, IsPerformed, told, Does, attached, request_of}
 
 -- what is told of a job that attaches is what it says
 told_so : (size : Bool) (pages : ℕ) (whole : List Event) → told (elim size as (λ z. Telling) [ true ↦ WithSize | false ↦ Quietly ]) pages whole ≡ elim size as (λ z. List Event) [ true ↦ all_sized pages (quiet whole) | false ↦ quiet whole ]

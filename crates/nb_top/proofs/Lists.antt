@@ -1,27 +1,10 @@
 -- A list of names is read, and its files are planned for.
-use Rattle.std.proofs.Common.{◌≡◌, ◌≢◌, ℕ, zero, suc, ◌+◌, List, [], ◌∷◌, ◌++◌, length, sym, ap, subst, ◌∙◌}
-use Rattle.std.specs.Prelude.{Bool, true, false, Some, None, Result, Ok, Err, IfOk, nat_lt, if◌then◌else◌}
-use Rattle.nb_host.specs.Files.{File}
-use Rattle.nb_host.specs.World.{World}
-use Rattle.nb_host.specs.declared.refusals.Refusal.{Refusal}
-use Rattle.nb_host.specs.declared.refusals.Refusal.TheVariants.{BadScript, NoFile, ScriptLong, Usage}
-use Rattle.nb_host.specs.declared.faults.RunError.{RunError}
-use Rattle.nb_page.specs.Quiet.{Quiet}
+use Rattle.std.proofs.Common.{◌≡◌, ◌≢◌, ℕ, zero, suc, ◌+◌, List, [], ◌∷◌, ◌++◌, length, sym, ap, subst, ◌∙◌, Bool, true, false, Some, None, Result, Ok, Err, IfOk, nat_lt, if◌then◌else◌}
+use Rattle.nb_top.proofs.Common.{File, World, Refusal, BadScript, NoFile, ScriptLong, Usage, RunError, Quiet, status_after, Plan, Numbered, of_lines, script_of, left, lines_of, with_first, is_next, list_of, names_on, some_names_on, names_in, Status, Goes, number_of, script_in, to_plan, status_refused}
 use Rattle.nb_model.specs.declared.reply.Reply.TheVariants.{Refused as RefusedReply}
-use Rattle.nb_model.specs.Output.{status_after}
-use Rattle.nb_script.specs.Scripts.{Plan, Numbered, of_lines, script_of}
-use Rattle.nb_script.specs.Lines.{left, lines_of}
-use Rattle.nb_catalog.specs.Answers.{with_first}
-use Rattle.nb_catalog.specs.NameLists.{is_next, list_of, names_on, some_names_on}
-use Rattle.nb_catalog.specs.Turns.{names_in}
-use Rattle.nb_top.specs.declared.status.Status.{Status}
 use Rattle.nb_top.specs.declared.status.Status.TheVariants.{Refused}
-use Rattle.nb_top.specs.Goes.{Goes}
-use Rattle.nb_top.specs.Numbers.{number_of}
-use Rattle.nb_top.specs.Requests.{script_in, to_plan}
 use Rattle.nb_top.proofs.GoesLaws.{goes_quietly, goes_turn_quietly}
 use Rattle.nb_top.proofs.ScriptRead.{IsBroken, all_broken}
-use Rattle.nb_model.proofs.StatusLaws.{status_refused}
 use Rattle.nb_top.proofs.ChainRefusals.{no_file}
 
 -- a plan that begins with calls that change nothing

@@ -1,23 +1,6 @@
 -- The one turn of a merge in place: what it must be, and what stands after it.
-use Rattle.std.proofs.Common.{◌≡◌, ◌≢◌, ℕ, List, [], ◌∷◌, length, true, false, refl, sym, ap, subst, ◌∙◌}
-use Rattle.std.specs.Prelude.{Bool, ◌==◌, nat_lt, None, Some, Result, Ok, Err}
-use Rattle.nb_fields.specs.Header.{state_of}
-use Rattle.nb_fields.specs.Page.{stamp_of}
-use Rattle.nb_fields.specs.States.{applying_state}
-use Rattle.nb_host.specs.Files.{File, Files}
-use Rattle.nb_host.specs.declared.refusals.Refusal.{Refusal}
-use Rattle.nb_host.specs.declared.refusals.Refusal.TheVariants.{Usage, NoFile, BadLevel, ChainScn}
-use Rattle.nb_model.specs.declared.reply.Reply.TheVariants.{Pages}
-use Rattle.nb_model.specs.Account.{Account}
-use Rattle.nb_model.specs.Causes.{Cause}
-use Rattle.nb_model.specs.Image.{Page, image_in}
-use Rattle.nb_model.specs.InPlace.{bytes_in, in_place, in_place_of, not_finishing, not_mergeable, not_next, not_standby, other_pages, written_since}
-use Rattle.nb_model.specs.Jobs.{only_turn, only_refusal, apply_turn, account_behind}
-use Rattle.nb_model.specs.Levels.{Contents, read_level}
-use Rattle.nb_model.specs.Run.{Event, account_after, with_made}
-use Rattle.nb_model.specs.Strokes.{merge, merged}
-use Rattle.nb_model.proofs.UsageCauses.{IsOther, other_first, other_when, other_database}
-use Rattle.nb_inplace.specs.Verdict.{IsMergeable}
+use Rattle.std.proofs.Common.{◌≡◌, ◌≢◌, ℕ, List, [], ◌∷◌, length, true, false, refl, sym, ap, subst, ◌∙◌, Bool, ◌==◌, nat_lt, None, Some, Result, Ok, Err}
+use Rattle.nb_top.proofs.Common.{state_of, stamp_of, applying_state, File, Files, Refusal, Usage, NoFile, BadLevel, ChainScn, Pages, Account, Cause, Page, image_in, bytes_in, in_place, in_place_of, not_finishing, not_mergeable, not_next, not_standby, other_pages, written_since, only_turn, only_refusal, apply_turn, account_behind, Contents, read_level, Event, account_after, with_made, merge, merged, IsOther, other_first, other_when, other_database, IsMergeable}
 use Rattle.nb_top.proofs.ChainRefusals.{bad_level, no_file, some_other}
 
 -- the turn that merges what a level file holds into a standby

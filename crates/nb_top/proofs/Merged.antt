@@ -1,44 +1,12 @@
 -- The job of a merge in place: its call serves it, and it keeps what stands.
-use Rattle.std.proofs.Common.{true≢false, ◌≡◌, ◌≢◌, ◌⊎◌, inl, inr, ℕ, List, [], ◌∷◌, true, false, refl, sym, ap, subst, ◌∙◌}
-use Rattle.std.specs.Prelude.{Some, None, Result, Ok, Err}
-use Rattle.std.proofs.lemmas.List.{append-nil}
-use Rattle.nb_fields.specs.Free.{is_free_file}
-use Rattle.nb_host.specs.Files.{File, Files}
-use Rattle.nb_host.specs.Names.{is_delta}
-use Rattle.nb_host.specs.World.{World}
-use Rattle.nb_host.specs.Crash.{Leaves, LeavesAll}
-use Rattle.nb_host.specs.declared.faults.Fault.{Fault}
-use Rattle.nb_host.specs.declared.faults.Fault.TheVariants.{Refused, Device, Memory}
-use Rattle.nb_host.specs.declared.refusals.Refusal.{Refusal}
-use Rattle.nb_host.specs.declared.refusals.Refusal.TheVariants.{Unfinished}
-use Rattle.nb_change.specs.Changes.{Only}
-use Rattle.nb_change.proofs.ChangesLaws.{weaker_has}
-use Rattle.nb_page.specs.Quiet.{Quiet}
-use Rattle.nb_model.specs.declared.reply.Reply.TheVariants.{Pages}
-use Rattle.nb_model.specs.Account.{Base, base_of, Entry, Plain, IsBase, Account, with_entry}
-use Rattle.nb_model.specs.Image.{Image, image_in}
-use Rattle.nb_model.specs.InPlace.{in_place}
-use Rattle.nb_model.specs.Jobs.{apply_turn, account_behind}
-use Rattle.nb_model.specs.Levels.{Contents}
-use Rattle.nb_model.specs.Main.{HoldsMain}
-use Rattle.nb_model.specs.Owner.{delta_name, entry_of_files, owner_in}
-use Rattle.nb_model.specs.Run.{Event, account_after, with_made}
-use Rattle.nb_model.specs.Strokes.{as_standby, merge, merged, on_base, base_after, base_in, records_after, records_of}
-use Rattle.nb_model.specs.Trail.{ShowsIn}
-use Rattle.nb_model.specs.Well.{IsWellBaseIn}
-use Rattle.nb_model.proofs.MainLaws.{owner-formed, owner_main}
-use Rattle.nb_model.proofs.OpeningLaws.{with_kept, owner_applying}
-use Rattle.nb_model.proofs.StandsLaws.{opened_entry}
+use Rattle.std.proofs.Common.{true≢false, ◌≡◌, ◌≢◌, ◌⊎◌, inl, inr, ℕ, List, [], ◌∷◌, true, false, refl, sym, ap, subst, ◌∙◌, Some, None, Result, Ok, Err}
+use Rattle.nb_top.proofs.Common.{append-nil, is_free_file, File, Files, is_delta, World, Leaves, LeavesAll, Fault, Refused, Device, Memory, Refusal, Unfinished, Only, weaker_has, Quiet, Pages, Base, base_of, Entry, Plain, IsBase, Account, with_entry, Image, image_in, in_place, apply_turn, account_behind, Contents, HoldsMain, delta_name, entry_of_files, owner_in, Event, account_after, with_made, as_standby, merge, merged, on_base, base_after, base_in, records_after, records_of, ShowsIn, IsWellBaseIn, owner-formed, owner_main, with_kept, owner_applying, opened_entry, IsMergeable, OneTurn, TakesKept, leaves_all, merging, ServedAs, Serves, HoldsKept, StandsFor}
 use Rattle.nb_inplace.specs.Apply.{Applies, ApplyAnswers, ApplyLeft, base_with}
 use Rattle.nb_inplace.specs.Kept.{MergesBackup}
-use Rattle.nb_inplace.specs.Verdict.{IsMergeable}
 use Rattle.nb_inplace.proofs.ClosedLaws.{closed_entry, half_in_use}
 use Rattle.nb_inplace.proofs.KeptWay.{half_stands, kept_gives}
 use Rattle.nb_inplace.proofs.StandbyWell.{merged_well}
 use Rattle.nb_inplace.proofs.VerdictLaws.{IsFor, as_it_stands, begun, IsAccepted, accepted}
-use Rattle.nb_top.specs.OneTurn.{OneTurn, TakesKept, leaves_all, merging}
-use Rattle.nb_top.specs.Served.{ServedAs, Serves}
-use Rattle.nb_top.specs.Standing.{HoldsKept, StandsFor}
 use Rattle.nb_top.proofs.MergeTurns.{MergeTurn, refuses, merges, merged_turn, done_turn, merged_account, refused_merge, refused_turn, turn_is}
 use Rattle.nb_top.proofs.Restored.{pages_said}
 use Rattle.nb_top.proofs.Turns.{served_as}

@@ -1,48 +1,13 @@
 -- The job of a restore: its call serves it, and it keeps what stands.
-use Rattle.std.proofs.Common.{true≢false, ◌≡◌, ◌≢◌, ◌⊎◌, inl, inr, ⊎_elim, ℕ, ◌≤◌, List, [], ◌∷◌, length, true, false, refl, sym, ap, subst, ◌∙◌, arith}
-use Rattle.std.specs.Prelude.{not, is_some, Some, None, Result, Ok, Err}
-use Rattle.std.specs.List.{AllByRecursion}
-use Rattle.std.proofs.lemmas.Bool.{and_parts}
-use Rattle.std.proofs.lemmas.List.{append-nil}
-use Rattle.nb_fields.specs.Free.{is_free_file}
-use Rattle.nb_host.specs.Files.{File, Files}
-use Rattle.nb_host.specs.Names.{is_delta}
-use Rattle.nb_host.specs.World.{World}
-use Rattle.nb_host.specs.Crash.{Leaves, LeavesAll}
-use Rattle.nb_host.specs.declared.faults.Fault.{Fault}
-use Rattle.nb_host.specs.declared.faults.Fault.TheVariants.{Refused, Device, Memory}
-use Rattle.nb_host.specs.declared.refusals.Refusal.{Refusal}
-use Rattle.nb_change.specs.Changes.{Only}
-use Rattle.nb_change.proofs.ChangesLaws.{weaker_has}
-use Rattle.nb_page.specs.Free.{is_free_name}
-use Rattle.nb_page.specs.Quiet.{Quiet}
-use Rattle.nb_model.specs.declared.reply.Reply.{Reply}
-use Rattle.nb_model.specs.declared.reply.Reply.TheVariants.{Pages}
-use Rattle.nb_model.specs.Account.{base_of, IsBase, Account, with_entry}
-use Rattle.nb_model.specs.Causes.{is_free_entry}
-use Rattle.nb_model.specs.Image.{Image}
-use Rattle.nb_model.specs.Jobs.{restore_turn, account_behind}
-use Rattle.nb_model.specs.Owner.{delta_name, entry_in}
-use Rattle.nb_model.specs.Restoring.{Link, verdict, applied}
-use Rattle.nb_model.specs.Run.{Event, account_after, with_made}
-use Rattle.nb_model.specs.Strokes.{make, fixed, on_base, base_after, records_after, records_of}
-use Rattle.nb_model.specs.Trail.{ShowsIn}
-use Rattle.nb_model.specs.Well.{IsWellBaseIn}
-use Rattle.nb_model.proofs.FreeLaws.{stands_free}
-use Rattle.nb_model.proofs.OpeningLaws.{free_entry, with_kept}
-use Rattle.nb_model.proofs.StandsLaws.{no_main}
+use Rattle.std.proofs.Common.{true≢false, ◌≡◌, ◌≢◌, ◌⊎◌, inl, inr, ⊎_elim, ℕ, ◌≤◌, List, [], ◌∷◌, length, true, false, refl, sym, ap, subst, ◌∙◌, arith, not, is_some, Some, None, Result, Ok, Err}
+use Rattle.nb_top.proofs.Common.{AllByRecursion, and_parts, append-nil, is_free_file, File, Files, is_delta, World, Leaves, LeavesAll, Fault, Refused, Device, Memory, Refusal, Only, weaker_has, is_free_name, Quiet, Reply, Pages, base_of, IsBase, Account, with_entry, is_free_entry, Image, restore_turn, account_behind, delta_name, entry_in, Link, verdict, applied, Event, account_after, with_made, make, fixed, on_base, base_after, records_after, records_of, ShowsIn, IsWellBaseIn, stands_free, free_entry, with_kept, no_main, chain_kept, restored_well, OneTurn, leaves_all, restoring, ServedAs, Serves, HoldsKept, StandsFor, not_some}
 use Rattle.nb_restore.specs.Kept.{AreKept, GivesKept}
 use Rattle.nb_restore.specs.Restore.{RestoreAnswers, RestoreLeft, Restores, base_from}
 use Rattle.nb_restore.proofs.ChainLaws.{split_chain}
-use Rattle.nb_restore.proofs.KeptLaws.{chain_kept, restored_well}
-use Rattle.nb_top.specs.OneTurn.{OneTurn, leaves_all, restoring}
-use Rattle.nb_top.specs.Served.{ServedAs, Serves}
-use Rattle.nb_top.specs.Standing.{HoldsKept, StandsFor}
 use Rattle.nb_top.proofs.RestoreTurns.{RestoreTurn, WhyRefused, made_turn, made_account, turn_is, refused_turn, done_turn, refused_restore}
 use Rattle.nb_top.proofs.TargetTurns.{refuses, makes}
 use Rattle.nb_top.proofs.Turns.{served_as}
 use Rattle.nb_top.proofs.TurnsStand.{IsSoundJob, IsWellBased, sound_on}
-use Rattle.nb_host.proofs.PlainLaws.{not_some}
 
 -- its reply
 abbrev pub pages_said : Result ℕ Fault → Result Reply Fault

@@ -1,18 +1,9 @@
 -- A script that can't be read is refused, and never as words that name no job.
-use Rattle.std.proofs.Common.{◌≡◌, ◌≢◌, ℕ, ◌+◌, ◌<◌, List, [], ◌∷◌, Bool, true, false, length, refl, sym, ap, subst, ◌∙◌}
-use Rattle.std.specs.Prelude.{Result, Ok, Err, Option, Some, None, nat_lt, if◌then◌else◌}
+use Rattle.std.proofs.Common.{◌≡◌, ◌≢◌, ℕ, ◌+◌, ◌<◌, List, [], ◌∷◌, Bool, true, false, length, refl, sym, ap, subst, ◌∙◌, Result, Ok, Err, Option, Some, None, nat_lt, if◌then◌else◌}
+use Rattle.nb_top.proofs.Common.{lt-ltb, File, Refusal, Usage, NoFile, BadScript, ScriptLong, Statement, Bytes, lines_of, left, Plan, Numbered, started, with_statement, or_bad, with_lines, order_in, with_order, of_lines, script_of, script_in}
 use Rattle.std.specs.Option.{option_map}
-use Rattle.std.proofs.lemmas.Bool.{lt-ltb}
-use Rattle.nb_host.specs.Files.{File}
-use Rattle.nb_host.specs.declared.refusals.Refusal.{Refusal}
-use Rattle.nb_host.specs.declared.refusals.Refusal.TheVariants.{Usage, NoFile, BadScript, ScriptLong}
-use Rattle.nb_model.specs.declared.statement.Statement.{Statement}
-use Rattle.nb_script.specs.Words.{Bytes}
-use Rattle.nb_script.specs.Lines.{lines_of, left}
 use Rattle.nb_script.specs.FirstLine.{first_at}
 use Rattle.nb_script.specs.Statements.{statement_at}
-use Rattle.nb_script.specs.Scripts.{Plan, Numbered, started, with_statement, or_bad, with_lines, order_in, with_order, of_lines, script_of}
-use Rattle.nb_top.specs.Requests.{script_in}
 
 -- a script is broken at a line, or spelled
 abbrev pub IsBroken : Result Plan Refusal → Type 0

@@ -1,44 +1,9 @@
 -- Where the files stand for the account as a run begins, and the GUIDs that it takes are new, they stand for one at each moment.
-use Rattle.std.proofs.Common.{◌≡◌, ℕ, zero, suc, ◌<◌, ◌≤◌, List, [], ◌∷◌, ◌++◌, length, take, true, false, refl, sym, ap, subst, ◌∙◌, arith}
-use Rattle.std.specs.Prelude.{Bool, Result, Ok, Err, Option, Some, None, Contains}
-use Rattle.nb_fields.specs.Fresh.{fresh}
-use Rattle.nb_host.specs.Files.{Files}
-use Rattle.nb_host.specs.Names.{is_delta}
-use Rattle.nb_host.specs.World.{World}
-use Rattle.nb_host.specs.Crash.{Leaves}
-use Rattle.nb_host.specs.Moments.{IsTimely, AtEachMoment}
-use Rattle.nb_host.specs.declared.refusals.Refusal.{Refusal}
-use Rattle.nb_host.specs.declared.refusals.Refusal.TheVariants.{FileExists}
-use Rattle.nb_model.specs.declared.reply.Reply.{Reply}
+use Rattle.std.proofs.Common.{◌≡◌, ℕ, zero, suc, ◌<◌, ◌≤◌, List, [], ◌∷◌, ◌++◌, length, take, true, false, refl, sym, ap, subst, ◌∙◌, arith, Bool, Result, Ok, Err, Option, Some, None, Contains}
+use Rattle.nb_top.proofs.Common.{fresh, Files, is_delta, World, Leaves, IsTimely, AtEachMoment, Refusal, FileExists, Reply, Statement, CreateDb, OpenDb, Base, base_of, IsBase, Account, is_free_entry, Image, image_scn, MadeFile, IsNoneOf, Given, delta_name, owner, not_opened, Event, Opening, IsRun, IsRest, opening, refused_opening, files_made, Step, makes, settles, after_step, after_steps, made, steps_of, strokes_in, make, base_in, on_base, records_of, records_after, Trail, StandsIn, settled, settles_at, after_stroke, IsGrown, opened_trail, IsCreated, created, not_created, IsReopened, reopened, not_reopened, base_in_base, settled_shows, IsAskable, FitsFirst, Plan, Status, RunLeft, RunReads, Finished, HasSmallScn, IsScriptRun, IsSure, MayBeGiven, Target, begins_refused, kept_after, pages_first, seen_after, target_named, target_of, HoldsKept, StandsFor, Telling, Request, ToRun, false_true, after_no_step}
 use Rattle.nb_model.specs.declared.reply.Reply.TheVariants.{Refused}
-use Rattle.nb_model.specs.declared.statement.Statement.{Statement}
-use Rattle.nb_model.specs.declared.statement.Statement.TheVariants.{CreateDb, OpenDb}
-use Rattle.nb_model.specs.Account.{Base, base_of, IsBase, Account}
-use Rattle.nb_model.specs.Causes.{is_free_entry}
-use Rattle.nb_model.specs.Image.{Image, image_scn}
-use Rattle.nb_model.specs.Making.{MadeFile, IsNoneOf}
-use Rattle.nb_model.specs.Outcomes.{Given}
-use Rattle.nb_model.specs.Owner.{delta_name, owner, not_opened}
-use Rattle.nb_model.specs.Run.{Event, Opening, IsRun, IsRest, opening, refused_opening, files_made}
-use Rattle.nb_model.specs.Steps.{Step, makes, settles, after_step, after_steps, made, steps_of, strokes_in}
-use Rattle.nb_model.specs.Strokes.{make, base_in, on_base, records_of, records_after}
-use Rattle.nb_model.specs.Trail.{Trail, StandsIn, settled, settles_at, after_stroke}
-use Rattle.nb_model.proofs.AccountLaws.{IsGrown}
-use Rattle.nb_model.proofs.OpenedLaws.{opened_trail}
-use Rattle.nb_model.proofs.OpeningLaws.{IsCreated, created, not_created}
-use Rattle.nb_model.proofs.ReopenLaws.{IsReopened, reopened, not_reopened}
-use Rattle.nb_model.proofs.RunLaws.{base_in_base}
-use Rattle.nb_model.proofs.TrailLaws.{settled_shows}
 use Rattle.nb_model.proofs.UnseenLaws.{unseen}
 use Rattle.nb_model.proofs.WellTrailLaws.{fresh_trail}
-use Rattle.nb_script.specs.Asked.{IsAskable}
-use Rattle.nb_script.specs.Fits.{FitsFirst}
-use Rattle.nb_script.specs.Scripts.{Plan}
-use Rattle.nb_top.specs.declared.status.Status.{Status}
-use Rattle.nb_top.specs.Performed.{RunLeft, RunReads, Finished, HasSmallScn, IsScriptRun, IsSure, MayBeGiven, Target, begins_refused, kept_after, pages_first, seen_after, target_named, target_of}
-use Rattle.nb_top.specs.Standing.{HoldsKept, StandsFor}
-use Rattle.nb_top.specs.declared.telling.Telling.{Telling}
-use Rattle.nb_top.specs.Requests.{Request, ToRun}
 use Rattle.nb_top.proofs.FirstReady.{base_name}
 use Rattle.nb_top.proofs.MadeRuns.{no_file, made_behind}
 use Rattle.nb_top.proofs.OpenLaws.{shown_entry, refused_entry}
@@ -47,8 +12,6 @@ use Rattle.nb_top.proofs.SureFiles.{still_stands}
 use Rattle.nb_top.proofs.SureTargets.{IsSureRun, target_after, target_left, target_end}
 use Rattle.nb_top.proofs.ToldLaws.{told_files, told_steps, told_begins}
 use Rattle.nb_top.proofs.WellRuns.{IsWellRun, IsWellBehind, rest_well}
-use Rattle.nb_host.proofs.PlainLaws.{false_true}
-use Rattle.nb_model.proofs.StepsLaws.{after_no_step}
 
 -- an event with a refusal begins no run
 refused_begins : (o : Opening) (session : ℕ) (refusal : Refusal) (account : Account) (events rest : List Event) → events ≡ o.event ∷ rest → o ≡ refused_opening session (Refused refusal) account → begins_refused events ≡ true

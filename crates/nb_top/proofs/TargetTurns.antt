@@ -1,12 +1,6 @@
 -- The one turn that makes a file: it is refused by the file's name or by what other files give, or it makes what they give.
-use Rattle.std.proofs.Common.{◌≡◌, ◌≢◌, ◌⊎◌, inl, inr, ℕ, List, true, false, refl, sym, ap, ◌∙◌}
-use Rattle.std.specs.Prelude.{Bool, Result, Ok, Err}
-use Rattle.nb_host.specs.declared.refusals.Refusal.{Refusal}
-use Rattle.nb_host.specs.declared.refusals.Refusal.TheVariants.{FileExists, Usage}
-use Rattle.nb_model.specs.Account.{Account}
-use Rattle.nb_model.specs.Causes.{is_free_entry}
-use Rattle.nb_model.specs.Jobs.{only_refusal}
-use Rattle.nb_model.specs.Run.{Event}
+use Rattle.std.proofs.Common.{◌≡◌, ◌≢◌, ◌⊎◌, inl, inr, ℕ, List, true, false, refl, sym, ap, ◌∙◌, Bool, Result, Ok, Err}
+use Rattle.nb_top.proofs.Common.{Refusal, FileExists, Usage, Account, is_free_entry, only_refusal, Event}
 
 -- the name isn't free, or what they give is a refusal
 abbrev pub IsRefused : {T : Type 0} → Account → (name : List ℕ) → (given : Result T Refusal) → Refusal → Type 0

@@ -1,29 +1,9 @@
 -- What is told of a run: the same events, a quiet one with no reply of the first but a refusal, and with the number of pages where a begin tells it.
-use Rattle.std.proofs.Common.{◌≡◌, ℕ, List, [], ◌∷◌, false, refl, sym, ap, ◌∙◌}
-use Rattle.std.specs.Prelude.{Bool, Option, Some, None, if◌then◌else◌}
-use Rattle.nb_fields.specs.States.{normal_state}
-use Rattle.nb_host.specs.declared.refusals.Refusal.{Refusal}
-use Rattle.nb_model.specs.declared.reply.Reply.{Reply}
-use Rattle.nb_model.specs.declared.reply.Reply.TheVariants.{PagesShown, Refused}
-use Rattle.nb_model.specs.declared.statement.Statement.{Statement}
-use Rattle.nb_model.specs.declared.statement.Statement.TheVariants.{OpenDb}
-use Rattle.nb_model.specs.Account.{Account}
-use Rattle.nb_model.specs.Generated.{last_or_refusal, said_by_generated}
-use Rattle.nb_model.specs.Jobs.{all_sized, quiet, refusal_in, sized}
-use Rattle.nb_model.specs.Lines.{line_text}
-use Rattle.nb_model.specs.Outcomes.{Given}
-use Rattle.nb_model.specs.Output.{output, status_of, status_after}
-use Rattle.nb_model.specs.Run.{Event, IsRun, files_made, replies_of}
-use Rattle.nb_model.specs.Steps.{steps_in, steps_of}
-use Rattle.nb_model.specs.Strokes.{Stroke}
-use Rattle.nb_model.proofs.OutputLaws.{output_one, status_one, output-quiet, output_no_event}
-use Rattle.nb_script.specs.Scripts.{Plan}
-use Rattle.nb_session.specs.Replies.{is_refusal}
+use Rattle.std.proofs.Common.{◌≡◌, ℕ, List, [], ◌∷◌, false, refl, sym, ap, ◌∙◌, Bool, Option, Some, None, if◌then◌else◌}
+use Rattle.nb_top.proofs.Common.{normal_state, Refusal, Reply, PagesShown, Statement, OpenDb, Account, last_or_refusal, said_by_generated, all_sized, quiet, refusal_in, sized, line_text, Given, output, status_of, status_after, Event, IsRun, files_made, replies_of, steps_in, steps_of, Stroke, output_one, status_one, output-quiet, output_no_event, Plan, is_refusal, Telling, All, Quietly, WithSize, Sparingly, IsScriptRun, begins_refused, first_event, is_all, opened_reply, pages_first, refused_at, told, told_first, told_later}
+use Rattle.nb_model.specs.declared.reply.Reply.TheVariants.{Refused}
 use Rattle.nb_session.specs.declared.told.Told.TheVariants.{Sparingly as SparinglyTold}
 use Rattle.nb_session.proofs.ToldLaws.{told_steps as later_steps, told_files as files_as, sized_files, sized_steps}
-use Rattle.nb_top.specs.declared.telling.Telling.{Telling}
-use Rattle.nb_top.specs.declared.telling.Telling.TheVariants.{All, Quietly, WithSize, Sparingly}
-use Rattle.nb_top.specs.Performed.{IsScriptRun, begins_refused, first_event, is_all, opened_reply, pages_first, refused_at, told, told_first, told_later}
 
 -- the run of a script to these events
 abbrev pub Ran : Account → Given → Plan → List Event → (last : Account) → (left : Given) → Type 0

@@ -1,23 +1,6 @@
 -- Worlds in which the files stand for an account as a run begins.
-use Rattle.std.proofs.Common.{◌≡◌, ◌≢◌, ℕ, List, [], refl, sym, ap, ◌∙◌, arith}
-use Rattle.std.specs.Prelude.{Some, None, Result, Ok, Err, IsTrue, is_some, false, Contains}
-use Rattle.std.proofs.lemmas.Bool.{true≢false}
-use Rattle.nb_fields.specs.Header.{is_header}
-use Rattle.nb_host.specs.Files.{File, Files}
-use Rattle.nb_host.specs.Names.{is_delta}
-use Rattle.nb_host.specs.World.{World}
-use Rattle.nb_host.specs.declared.refusals.Refusal.{Refusal}
-use Rattle.nb_model.specs.Account.{Kept, Base, Missing, IsBase, Account}
-use Rattle.nb_model.specs.Causes.{Cause, not_database}
-use Rattle.nb_model.specs.Image.{Image}
-use Rattle.nb_model.specs.Owner.{delta_name, owner, entry_of_files, entry_in}
-use Rattle.nb_model.specs.Stands.{Stands, Belongs, to_base, to_record}
-use Rattle.nb_model.proofs.FreeLaws.{stands_files}
-use Rattle.nb_model.proofs.FrontLaws.{owner_of_entry}
-use Rattle.nb_model.proofs.MainLaws.{owner-refused}
-use Rattle.nb_model.proofs.StandsLaws.{delta_named, formed_header, stands_same}
-use Rattle.nb_top.specs.Standing.{HoldsKept, StandsFor}
-use Rattle.nb_top.specs.Worlds.{StartsFrom, ArePlain, no_files, account_of, empty}
+use Rattle.std.proofs.Common.{◌≡◌, ◌≢◌, ℕ, List, [], refl, sym, ap, ◌∙◌, arith, Some, None, Result, Ok, Err, IsTrue, is_some, false, Contains}
+use Rattle.nb_top.proofs.Common.{true≢false, is_header, File, Files, is_delta, World, Refusal, Kept, Base, Missing, IsBase, Account, Cause, not_database, Image, delta_name, owner, entry_of_files, entry_in, Stands, Belongs, to_base, to_record, stands_files, owner_of_entry, owner-refused, delta_named, formed_header, stands_same, HoldsKept, StandsFor, StartsFrom, ArePlain, no_files, account_of, empty}
 use Rattle.nb_top.proofs.OpenLaws.{none_shown}
 
 -- A world that starts from files stands for each account for which they stand.

@@ -1,7 +1,6 @@
 -- The first that passes a test, of a list that gets one more.
-use Rattle.std.proofs.Common.{◌≡◌, List, [], ◌∷◌, ◌++◌, refl, sym, ap, ◌∙◌}
-use Rattle.std.specs.Prelude.{Bool, true, false, Option, Some, None, is_some}
-use Rattle.nb_model.specs.Chains.{Spot, first_such}
+use Rattle.std.proofs.Common.{◌≡◌, List, [], ◌∷◌, ◌++◌, refl, sym, ap, ◌∙◌, Bool, true, false, Option, Some, None, is_some}
+use Rattle.nb_walk.proofs.Common.{Spot, first_such}
 
 module _ {X : Type 0} (test : X → Bool) (x : X) where
   abbrev next_such : (y : X) → (ys : List X) → Bool → Option X

@@ -1,20 +1,9 @@
 -- Whether a page is one of a chain, by the tests of it in their order.
-use Rattle.std.proofs.Common.{◌≡◌, ℕ, length, refl, ap, ◌∙◌}
-use Rattle.std.specs.Prelude.{Bool, true, false, not, ◌&&◌, ◌==◌, nat_lt, Some, None}
-use Rattle.std.specs.List.{list_all}
+use Rattle.std.proofs.Common.{◌≡◌, ℕ, length, refl, ap, ◌∙◌, Bool, true, false, not, ◌&&◌, ◌==◌, nat_lt, Some, None}
+use Rattle.nb_walk.proofs.Common.{list_all, data_kind, Refusal, NotDatabase, Page, Image, page_at, when, Chain, owner_of, is_slot, slots_in, is_in_chain, owner_in, and_no_right, is_data, not_data, not_linked, is_so}
 use Rattle.nb_fields.specs.Page.{kind_of}
-use Rattle.nb_fields.specs.Kinds.{data_kind}
-use Rattle.nb_host.specs.declared.refusals.Refusal.{Refusal}
-use Rattle.nb_host.specs.declared.refusals.Refusal.TheVariants.{NotDatabase}
-use Rattle.nb_model.specs.Image.{Page, Image, page_at}
 use Rattle.nb_model.specs.Forms.{is_kind}
-use Rattle.nb_model.specs.Causes.{when}
-use Rattle.nb_model.specs.Chains.{Chain, owner_of, is_slot, slots_in, is_in_chain, owner_in}
-use Rattle.nb_model.proofs.ReadLaws.{and_no_right}
-use Rattle.nb_alloc.specs.Data.{is_data, not_data}
-use Rattle.nb_walk.specs.Walks.{not_linked}
 use Rattle.nb_alloc.proofs.DataLaws.{by_kind}
-use Rattle.nb_model.proofs.TurnCases.{is_so}
 
 and_groups : (a b c d : Bool) → (a && (b && (c && d))) ≡ (((a && b) && c) && d)
 and_groups true true c d = refl

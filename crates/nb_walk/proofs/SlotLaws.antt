@@ -1,12 +1,7 @@
 -- The slots of a page, one by one.
-use Rattle.std.proofs.Common.{◌≡◌, ◌≢◌, ℕ, zero, suc, ◌+◌, ◌-◌, ◌*◌, ◌/◌, ◌<◌, ◌≤◌, List, [], ◌∷◌, length, get_or, refl, sym, ap, ◌∙◌, arith}
-use Rattle.std.specs.Prelude.{Bool, true, false, ◌&&◌, ◌||◌, slice_index}
-use Rattle.std.specs.List.{list_all}
+use Rattle.std.proofs.Common.{◌≡◌, ◌≢◌, ℕ, zero, suc, ◌+◌, ◌-◌, ◌*◌, ◌/◌, ◌<◌, ◌≤◌, List, [], ◌∷◌, length, get_or, refl, sym, ap, ◌∙◌, arith, Bool, true, false, ◌&&◌, ◌||◌, slice_index}
+use Rattle.nb_walk.proofs.Common.{list_all, number_of, number_in, part, Page, Chain, Slot, is_used, is_filled, is_slot, slots_from, slots_in, eq_no, eq_yes}
 use Rattle.std.proofs.lemmas.Bool.{and_parts}
-use Rattle.nb_fields.specs.Bytes.{number_of, number_in, part}
-use Rattle.nb_model.specs.Image.{Page}
-use Rattle.nb_model.specs.Chains.{Chain, Slot, is_used, is_filled, is_slot, slots_from, slots_in}
-use Rattle.nb_model.proofs.ReadLaws.{eq_no, eq_yes}
 
 -- a number of one byte is that byte
 pub byte_at : (at : ℕ) (bytes : List ℕ) → number_in at 1 bytes ≡ get_or bytes at 0

@@ -1,17 +1,6 @@
 -- The jobs of the cells, by the words that they ask for.
-use Rattle.uuid.specs.Text.{parsed_hyphenated}
-use Rattle.nb_model.specs.declared.job.Ask.TheVariants.{Backup, BackupSince}
-use Rattle.nb_model.specs.declared.job.Deed.TheVariants.{Fold, Restore}
-use Rattle.nb_model.specs.declared.job.Job.TheVariants.{Run, Attach, Turn}
-use Rattle.std.proofs.lemmas.List.{take_more, take_all, map-append, get_or_default, length-map}
 use Rattle.std.proofs.Common.{drop, nat_le, take, ◌++◌, ◌-◌, ap₂, slice_index, ◌≡◌, ◌∙◌, ◌+◌, ◌<◌, ◌≤◌, ℕ, zero, suc, ◌&&◌, Bool, true, false, List, [], ◌∷◌, length, get_or, Option, Some, None, refl, ap, sym, subst, cond, arith, Bor, codes}
-use Rattle.std.specs.List.{list_all}
-use Rattle.std.proofs.lemmas.Bool.{and_left, and_right, and_from, le-leb}
-use Rattle.nb_host.specs.Names.{same_name}
-use Rattle.nb_model.specs.Words.{Word, is_database, is_file, job_if, asks_one, named_job, backup_job, fold_job, restore_job}
-use Rattle.nb_model.specs.declared.job.Job.{Job}
-use Rattle.nb_words.specs.Parts.{is_level, named}
-use Rattle.nb_words.specs.Read.{words_of}
+use Rattle.nb_words.proofs.Common.{parsed_hyphenated, Backup, BackupSince, Fold, Restore, Run, Attach, Turn, take_more, take_all, map-append, get_or_default, length-map, list_all, and_left, and_right, and_from, le-leb, same_name, Word, is_database, is_file, job_if, asks_one, named_job, backup_job, fold_job, restore_job, Job, is_level, named, words_of}
 
 refused : (b : Bool) (w : Word) → cond b (Some w) None ≡ None → b ≡ false
 refused true w e = absurd (cc)

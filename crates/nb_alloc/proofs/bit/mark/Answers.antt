@@ -1,14 +1,9 @@
 use Rattle.std.proofs.Common.{◌/◌, ◌<◌, ℕ, sym, ap, subst, ◌∙◌, arith}
-use Rattle.nb_fields.specs.Places.{bits_in, inventory_place}
-use Rattle.nb_fields.specs.Kinds.{inventory_kind}
-use Rattle.nb_model.specs.Image.{page_at}
-use Rattle.nb_model.specs.Causes.{not_kind}
+use Rattle.nb_alloc.proofs.Common.{bits_in, inventory_place, inventory_kind, page_at, not_kind, Held, inventory_place-some}
 use Rattle.nb_alloc.proofs.TestLaws.{inventory_place_is}
 use Rattle.nb_alloc.proofs.MarkLaws.{mark_other}
 use Rattle.nb_alloc.proofs.DoesLaws.{tries_early, tries_after}
-use Rattle.nb_state.specs.Open.{Held}
 use Rattle.nb_alloc.proofs.WantLaws.{stops_after}
-use Rattle.nb_fields.proofs.PlaceLaws.{inventory_place-some}
 use Rattle.nb_alloc.proofs.bit.mark.Goals as goal
 
 pub returns-in_err-read-clause-tries : goal.returns-in_err-read-clause-tries

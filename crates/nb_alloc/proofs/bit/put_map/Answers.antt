@@ -1,23 +1,10 @@
-use Rattle.std.proofs.Common.{◌/◌, ℕ, ◌%◌, [], ◌∷◌, ap, subst, ◌∙◌, arith, sym}
-use Rattle.std.specs.Prelude.{Result, Ok, Err}
-use Rattle.nb_host.specs.Faults.{as_fault}
-use Rattle.nb_host.specs.declared.faults.Fault.{Fault}
-use Rattle.nb_fields.specs.Places.{bits_in, inventory_place}
-use Rattle.nb_model.specs.Image.{Image}
-use Rattle.nb_model.specs.Forms.{inventory_of, bit_number}
-use Rattle.nb_model.proofs.SoundLaws.{inventory_place_some}
-use Rattle.nb_state.proofs.MakesLaws.{none_refused}
-use Rattle.nb_alloc.specs.Tries.{Tries}
-use Rattle.nb_alloc.specs.Put.{entry_cause, raise_strokes}
-use Rattle.nb_alloc.specs.Mark.{bit_for, bit_stroke, mark_cause, mark_stroke, mark_strokes}
+use Rattle.std.proofs.Common.{◌/◌, ℕ, ◌%◌, [], ◌∷◌, ap, subst, ◌∙◌, arith, sym, Result, Ok, Err}
+use Rattle.nb_alloc.proofs.Common.{as_fault, Fault, bits_in, inventory_place, Image, inventory_of, bit_number, inventory_place_some, none_refused, Tries, entry_cause, raise_strokes, bit_for, bit_stroke, mark_cause, mark_stroke, mark_strokes, counts_passed, memory_wanted, none_wanted, passed_on, after_strokes}
 use Rattle.nb_alloc.proofs.TestLaws.{inventory_place_is}
 use Rattle.nb_alloc.proofs.MarkLaws.{plain, entries_some, mark_stroke-after}
 use Rattle.nb_alloc.proofs.DoesLaws.{tries_passed, tries_front, tries_opened}
 use Rattle.nb_alloc.proofs.PageLaws.{then_page, bit_at, mark_tries}
-use Rattle.nb_change.proofs.FaultLaws.{counts_passed, memory_wanted, none_wanted}
-use Rattle.nb_change.proofs.ResultLaws.{passed_on}
 use Rattle.nb_alloc.proofs.WantLaws.{stops_first, stops_then}
-use Rattle.nb_base.specs.Takes.{after_strokes}
 use Rattle.nb_alloc.proofs.bit.put_map.Goals as goal
 
 pub write_bit-requires-clause-low : goal.write_bit-requires-clause-low

@@ -1,10 +1,5 @@
-use Rattle.std.proofs.Common.{rules, ◌≡◌, ◌+◌, ◌*◌, ◌/◌, ◌<◌, ◌≤◌, ℕ, length, sym, ap, subst, ◌∙◌, arith}
-use Rattle.std.specs.Prelude.{Option, IsTrue, max}
-use Rattle.nb_fields.specs.Places.{is_page_size, bits_in}
-use Rattle.nb_fields.proofs.PlaceLaws.{bits-least}
-use Rattle.nb_page.proofs.QuietLaws.{quiet_joined}
-use Rattle.nb_model.specs.Image.{image_size}
-use Rattle.nb_state.specs.Open.{Held}
+use Rattle.std.proofs.Common.{rules, ◌≡◌, ◌+◌, ◌*◌, ◌/◌, ◌<◌, ◌≤◌, ℕ, length, sym, ap, subst, ◌∙◌, arith, Option, IsTrue, max}
+use Rattle.nb_alloc.proofs.Common.{is_page_size, bits_in, bits-least, quiet_joined, image_size, Held}
 use Rattle.nb_alloc.proofs.FindLaws.{some_near, taken_behind, found_near, found_none, map_near, map_behind, map_last}
 use Rattle.nb_alloc.proofs.NeedReads.{read_broken, read_next, read_near, read_end, refused_on, index_same, next_group, next_whole}
 use Rattle.nb_alloc.proofs.SearchReads.{no_lower, found_later}

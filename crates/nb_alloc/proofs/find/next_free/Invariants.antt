@@ -1,13 +1,5 @@
-use Rattle.std.proofs.Common.{◌≡◌, ℕ, ◌+◌, ◌-◌, ◌*◌, ◌/◌, ◌<◌, ◌≤◌, length, IsTrue}
-use Rattle.std.specs.Prelude.{true, min}
-use Rattle.nb_page.specs.Quiet.{Quiet}
-use Rattle.nb_model.specs.Trail.{Trail}
-use Rattle.nb_model.specs.Image.{image_size}
-use Rattle.nb_model.specs.Forms.{is_kind}
-use Rattle.nb_state.specs.Open.{IsOpen, but_pages}
-use Rattle.nb_alloc.specs.Find.{AreTaken, IsMap}
-use Rattle.nb_fields.specs.Places.{bits_in, inventory_place, most_pages}
-use Rattle.nb_fields.specs.Kinds.{inventory_kind}
+use Rattle.std.proofs.Common.{◌≡◌, ℕ, ◌+◌, ◌-◌, ◌*◌, ◌/◌, ◌<◌, ◌≤◌, length, IsTrue, true, min}
+use Rattle.nb_alloc.proofs.Common.{Quiet, Trail, image_size, is_kind, IsOpen, but_pages, AreTaken, IsMap, bits_in, inventory_place, most_pages, inventory_kind}
 use Rattle.nb_alloc.proofs.FindLaws.{maps_before}
 use Rattle.nb_alloc.proofs.find.next_free.Given as goal
 

@@ -1,11 +1,6 @@
-use Rattle.std.proofs.Common.{◌<◌, ◌≤◌, ℕ, length, sym, ap, ◌∙◌, arith}
-use Rattle.std.specs.Prelude.{◌==◌}
-use Rattle.nb_fields.specs.Page.{kind_of}
-use Rattle.nb_model.specs.Image.{page_at}
-use Rattle.nb_model.proofs.ReadLaws.{lt_no}
-use Rattle.nb_state.specs.Open.{Held}
+use Rattle.std.proofs.Common.{◌<◌, ◌≤◌, ℕ, length, sym, ap, ◌∙◌, arith, ◌==◌}
+use Rattle.nb_alloc.proofs.Common.{kind_of, page_at, lt_no, Held, true≢false}
 use Rattle.nb_alloc.proofs.TestLaws.{kind_past_end, kind_below, kind_read}
-use Rattle.std.proofs.lemmas.Bool.{true≢false}
 use Rattle.nb_alloc.proofs.make.has_page.Goals as goal
 use Rattle.nb_alloc.proofs.PutLaws.{old_below}
 

@@ -1,14 +1,8 @@
 use Rattle.std.proofs.Common.{◌≡◌, ◌≤◌, ◌+◌, ℕ, List, length, ap, ◌∙◌, arith}
-use Rattle.nb_fields.specs.Page.{with_payload}
-use Rattle.nb_fields.proofs.SizeLaws.{size_facts}
-use Rattle.nb_model.specs.Image.{Page}
-use Rattle.nb_model.specs.Forms.{old_page}
-use Rattle.nb_alloc.specs.Put.{entry_cause}
-use Rattle.nb_alloc.specs.Make.{content}
+use Rattle.nb_alloc.proofs.Common.{with_payload, size_facts, Page, old_page, entry_cause, content, Held}
 use Rattle.nb_alloc.proofs.DoesLaws.{tries_after}
 use Rattle.nb_alloc.proofs.MakeLaws.{tries_fault}
 use Rattle.nb_alloc.proofs.ContentLaws.{content_short}
-use Rattle.nb_state.specs.Open.{Held}
 use Rattle.nb_alloc.proofs.make.make_page.Goals as goal
 
 pub returns-in_err-take_old-clause-tries : goal.returns-in_err-take_old-clause-tries

@@ -1,14 +1,5 @@
-use Rattle.std.proofs.Common.{◌≡◌, ◌≤◌, ◌+◌, ℕ, List, [], length, refl, ap, sym, subst, ◌∙◌, arith}
-use Rattle.std.specs.Prelude.{true, false, IsTrue, Ok}
-use Rattle.nb_fields.specs.Kinds.{code_of}
-use Rattle.nb_fields.specs.Page.{with_payload}
-use Rattle.nb_fields.specs.Places.{is_page_size}
-use Rattle.nb_fields.proofs.SizeLaws.{size_facts}
-use Rattle.nb_model.specs.Image.{Page, image_size}
-use Rattle.nb_model.specs.Forms.{old_page, is_kind, system_kind, system_payload}
-use Rattle.nb_state.specs.Open.{Held}
-use Rattle.nb_state.proofs.MakesLaws.{makes_none}
-use Rattle.nb_alloc.specs.Make.{page_strokes, system_cause, system_strokes}
+use Rattle.std.proofs.Common.{◌≡◌, ◌≤◌, ◌+◌, ℕ, List, [], length, refl, ap, sym, subst, ◌∙◌, arith, true, false, IsTrue, Ok}
+use Rattle.nb_alloc.proofs.Common.{code_of, with_payload, is_page_size, size_facts, Page, image_size, old_page, is_kind, system_kind, system_payload, Held, makes_none, page_strokes, system_cause, system_strokes}
 use Rattle.nb_alloc.proofs.DoesLaws.{tries_made, tries_after}
 use Rattle.nb_alloc.proofs.MakeLaws.{tries_fault, tries_named, payload_whole, system_made, system_unmade, system_free, system_asks}
 use Rattle.nb_alloc.proofs.make.make_system.Goals as goal

@@ -1,21 +1,6 @@
-use Rattle.std.proofs.Common.{◌≡◌, ◌+◌, ◌-◌, ℕ, List, length, refl, sym, ap, subst, ◌∙◌, arith}
-use Rattle.std.specs.Prelude.{IsTrue, None, Ok, Err}
-use Rattle.nb_fields.specs.Places.{is_page_size, bits_in, most_pages}
-use Rattle.nb_fields.specs.Kinds.{inventory_kind}
-use Rattle.nb_host.specs.declared.faults.Fault.TheVariants.{Refused}
-use Rattle.nb_host.specs.declared.refusals.Refusal.TheVariants.{Full}
-use Rattle.nb_page.proofs.QuietLaws.{quiet_joined}
-use Rattle.nb_model.specs.Image.{Image, image_size}
-use Rattle.nb_model.specs.Strokes.{Stroke}
-use Rattle.nb_model.specs.Forms.{free_from, inventory_of, first_not}
-use Rattle.nb_base.specs.Takes.{after_strokes}
-use Rattle.nb_state.specs.Open.{Held}
-use Rattle.nb_model.specs.Way.{maps_up_to}
-use Rattle.nb_model.specs.Causes.{not_kind}
-use Rattle.nb_alloc.specs.Find.{need_cause}
+use Rattle.std.proofs.Common.{◌≡◌, ◌+◌, ◌-◌, ℕ, List, length, refl, sym, ap, subst, ◌∙◌, arith, IsTrue, None, Ok, Err}
+use Rattle.nb_alloc.proofs.Common.{is_page_size, bits_in, most_pages, inventory_kind, Refused, Full, quiet_joined, Image, image_size, Stroke, free_from, inventory_of, first_not, after_strokes, Held, maps_up_to, not_kind, need_cause, IsOnward, round, behind, Tries}
 use Rattle.nb_alloc.proofs.ReadyLaws.{sure_refused, next_maps, next_map}
-use Rattle.nb_alloc.specs.Make.{IsOnward, round, behind}
-use Rattle.nb_alloc.specs.Tries.{Tries}
 use Rattle.nb_alloc.proofs.DoesLaws.{sure_of, tries_passed, tries_opened, tries_on, tries_before}
 use Rattle.nb_alloc.proofs.NewLaws.{image_is, round_is}
 use Rattle.nb_alloc.proofs.SearchReads.{maps_few}

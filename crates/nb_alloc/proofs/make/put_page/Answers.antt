@@ -1,18 +1,5 @@
-use Rattle.std.proofs.Common.{◌≡◌, ℕ, [], ◌∷◌, sym, ap, subst, ◌∙◌, arith}
-use Rattle.std.specs.Prelude.{Result, Ok, Err, false, ◌==◌}
-use Rattle.nb_host.specs.Faults.{as_fault}
-use Rattle.nb_host.specs.declared.faults.Fault.{Fault}
-use Rattle.nb_fields.specs.Bytes.{is_zeros}
-use Rattle.nb_fields.specs.Kinds.{code_of}
-use Rattle.nb_fields.specs.Page.{stamped}
-use Rattle.nb_model.specs.Image.{Page, image_scn}
-use Rattle.nb_model.specs.Strokes.{page}
-use Rattle.nb_model.specs.Forms.{old_page}
-use Rattle.nb_change.proofs.FaultLaws.{counts_passed, none_wanted}
-use Rattle.nb_state.proofs.MakesLaws.{none_refused}
-use Rattle.nb_alloc.specs.Tries.{Tries}
-use Rattle.nb_alloc.specs.Put.{entry_cause, raise_strokes}
-use Rattle.nb_alloc.specs.Make.{page_strokes}
+use Rattle.std.proofs.Common.{◌≡◌, ℕ, [], ◌∷◌, sym, ap, subst, ◌∙◌, arith, Result, Ok, Err, false, ◌==◌}
+use Rattle.nb_alloc.proofs.Common.{as_fault, Fault, is_zeros, code_of, stamped, Page, image_scn, page, old_page, counts_passed, none_wanted, none_refused, Tries, entry_cause, raise_strokes, page_strokes}
 use Rattle.nb_alloc.proofs.DoesLaws.{tries_passed, tries_front}
 use Rattle.nb_alloc.proofs.RaiseLaws.{stamped-some}
 use Rattle.nb_alloc.proofs.MakeLaws.{stamped_page, put_then}

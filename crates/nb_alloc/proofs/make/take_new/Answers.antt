@@ -1,24 +1,12 @@
-use Rattle.std.proofs.Common.{◌+◌, ◌≤◌, ℕ, List, length, subst, arith}
-use Rattle.std.specs.Prelude.{None, Ok}
-use Rattle.nb_fields.specs.Kinds.{code_of}
-use Rattle.nb_model.specs.Image.{image_size}
-use Rattle.nb_model.specs.Account.{Base}
-use Rattle.nb_model.specs.Strokes.{Stroke}
-use Rattle.nb_model.specs.Forms.{Draft, drafted, put}
-use Rattle.nb_change.proofs.ResultLaws.{on_ok}
-use Rattle.nb_base.specs.Takes.{after_strokes}
-use Rattle.nb_alloc.specs.Put.{entry_cause}
-use Rattle.nb_alloc.specs.Find.{IsMap}
-use Rattle.nb_alloc.specs.Make.{page_strokes, content}
+use Rattle.std.proofs.Common.{◌+◌, ◌≤◌, ℕ, List, length, subst, arith, None, Ok}
+use Rattle.nb_alloc.proofs.Common.{code_of, image_size, Base, Stroke, Draft, drafted, put, on_ok, after_strokes, entry_cause, IsMap, page_strokes, content, SizeFacts, size_facts, plain_unkept}
 use Rattle.nb_alloc.proofs.PageLaws.{seen_after}
 use Rattle.nb_alloc.proofs.ReadyLaws.{entry_ready, mark_put, page_strokes_are}
-use Rattle.nb_fields.proofs.SizeLaws.{SizeFacts, size_facts}
 use Rattle.nb_alloc.proofs.ContentLaws.{content_short}
 use Rattle.nb_alloc.proofs.DoesLaws.{tries_opened}
 use Rattle.nb_alloc.proofs.MakeLaws.{tries_named, map_kept}
 use Rattle.nb_alloc.proofs.NewLaws.{take_not, take_after, put_of}
 use Rattle.nb_alloc.proofs.SearchReads.{inventory_most}
-use Rattle.nb_model.proofs.StepLaws.{plain_unkept}
 use Rattle.nb_alloc.proofs.make.take_new.Goals as goal
 
 pub returns-in_err-make_page-clause-makes : goal.returns-in_err-make_page-clause-makes

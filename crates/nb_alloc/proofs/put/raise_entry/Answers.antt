@@ -1,16 +1,7 @@
-use Rattle.std.proofs.Common.{◌≡◌, ◌/◌, ◌<◌, List, sym, ap, subst, ◌∙◌, []}
-use Rattle.std.specs.Prelude.{Bool, true, Ok, Err}
-use Rattle.nb_host.specs.Faults.{as_fault}
-use Rattle.nb_fields.specs.Places.{entries_in, scn_place}
-use Rattle.nb_model.specs.Strokes.{Stroke}
-use Rattle.nb_state.specs.Open.{Held}
-use Rattle.nb_state.specs.Does.{Makes}
-use Rattle.nb_state.proofs.MakesLaws.{makes_none, none_refused}
-use Rattle.nb_alloc.specs.Tries.{Tries}
-use Rattle.nb_alloc.specs.Put.{must_raise, raise_strokes, entry_cause}
+use Rattle.std.proofs.Common.{◌≡◌, ◌/◌, ◌<◌, List, sym, ap, subst, ◌∙◌, [], Bool, true, Ok, Err}
+use Rattle.nb_alloc.proofs.Common.{as_fault, entries_in, scn_place, Stroke, Held, Makes, makes_none, none_refused, Tries, must_raise, raise_strokes, entry_cause, counts_passed, memory_wanted, none_wanted}
 use Rattle.nb_alloc.proofs.PutLaws.{raised_not, raised_once}
 use Rattle.nb_alloc.proofs.DoesLaws.{tries_early, tries_passed, tries_made, tries_after}
-use Rattle.nb_change.proofs.FaultLaws.{counts_passed, memory_wanted, none_wanted}
 use Rattle.nb_alloc.proofs.WantLaws.{strikes_after}
 use Rattle.nb_alloc.proofs.put.raise_entry.Goals.{then-branch+in_ok-raise, else-branch}
 use Rattle.nb_alloc.proofs.put.raise_entry.Goals as goal

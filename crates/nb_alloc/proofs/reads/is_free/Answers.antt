@@ -1,11 +1,7 @@
-use Rattle.std.proofs.Common.{◌≡◌, ℕ, length, refl, sym, ap, ◌∙◌, arith}
-use Rattle.std.specs.Prelude.{Bool}
-use Rattle.nb_fields.specs.Kinds.{inventory_kind}
-use Rattle.nb_model.specs.Forms.{inventory_of}
-use Rattle.nb_model.specs.Causes.{not_kind}
+use Rattle.std.proofs.Common.{◌≡◌, ℕ, length, refl, sym, ap, ◌∙◌, arith, Bool}
+use Rattle.nb_alloc.proofs.Common.{inventory_kind, inventory_of, not_kind, never}
 use Rattle.nb_alloc.proofs.DoesLaws.{tested_on}
 use Rattle.nb_alloc.proofs.TestLaws.{inventory_place_is, reads_bit, free_read, used_read}
-use Rattle.nb_host.proofs.PlainLaws.{never}
 use Rattle.nb_alloc.proofs.reads.is_free.Goals as goal
 
 pub returns-in_err-read-clause-test : goal.returns-in_err-read-clause-test

@@ -1,6 +1,5 @@
-use Rattle.std.proofs.Common.{◌<◌, ◌≤◌, ℕ, length, sym, ap, ◌∙◌, arith}
-use Rattle.std.specs.Prelude.{Some}
-use Rattle.nb_host.specs.declared.refusals.Refusal.TheVariants.{PageRange}
+use Rattle.std.proofs.Common.{◌<◌, ◌≤◌, ℕ, length, sym, ap, ◌∙◌, arith, Some}
+use Rattle.nb_alloc.proofs.Common.{PageRange}
 use Rattle.nb_alloc.proofs.DoesLaws.{tested_on, on_err}
 use Rattle.nb_alloc.proofs.TestLaws.{kind_read, raw_past, raw_untaken, raw_system, raw_is}
 use Rattle.nb_alloc.proofs.reads.read_raw.Goals as goal

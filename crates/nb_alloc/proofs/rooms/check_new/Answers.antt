@@ -1,7 +1,5 @@
-use Rattle.std.proofs.Common.{◌≡◌, ℕ, subst, ◌∙◌, arith}
-use Rattle.std.specs.Prelude.{IsTrue, IfOk}
-use Rattle.nb_fields.specs.Places.{is_page_size}
-use Rattle.nb_model.specs.Image.{image_size}
+use Rattle.std.proofs.Common.{◌≡◌, ℕ, subst, ◌∙◌, arith, IsTrue, IfOk}
+use Rattle.nb_alloc.proofs.Common.{is_page_size, image_size}
 use Rattle.nb_alloc.proofs.NewReads.{few_tested}
 use Rattle.nb_alloc.proofs.WayLaws.{begins_at, place_begins, ends_tested}
 use Rattle.nb_alloc.proofs.rooms.check_new.Goals as goal

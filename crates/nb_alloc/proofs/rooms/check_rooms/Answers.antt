@@ -1,17 +1,8 @@
-use Rattle.std.proofs.Common.{◌≡◌, ◌<◌, ◌≤◌, ℕ, subst, ◌∙◌, arith, ap}
-use Rattle.std.specs.Prelude.{true, false, None, OnOk, IfOk}
-use Rattle.nb_fields.specs.Places.{most_pages}
-use Rattle.nb_model.specs.Forms.{Draft, is_kind, lowest_free}
-use Rattle.nb_state.specs.Does.{Tested}
-use Rattle.nb_alloc.specs.declared.behind.Behind.{Behind}
-use Rattle.nb_alloc.specs.Behind.{IsKnown, behind_cause}
-use Rattle.nb_alloc.specs.Data.{second_data}
-use Rattle.nb_alloc.specs.Find.{HoldsMap}
-use Rattle.nb_alloc.specs.Make.{new_of}
+use Rattle.std.proofs.Common.{◌≡◌, ◌<◌, ◌≤◌, ℕ, subst, ◌∙◌, arith, ap, true, false, None, OnOk, IfOk}
+use Rattle.nb_alloc.proofs.Common.{most_pages, Draft, is_kind, lowest_free, Tested, Behind, IsKnown, behind_cause, second_data, HoldsMap, new_of, Held}
 use Rattle.nb_alloc.proofs.DoesLaws.{tested_on}
 use Rattle.nb_alloc.proofs.PassLaws.{none_is}
 use Rattle.nb_alloc.proofs.RoomsLaws.{tested_where, ended_alike, found_ok, value_found, behind_judged}
-use Rattle.nb_state.specs.Open.{Held}
 use Rattle.nb_alloc.proofs.rooms.check_rooms.Goals as goal
 
 pub returns-in_err-behind-clause-one : goal.returns-in_err-behind-clause-one

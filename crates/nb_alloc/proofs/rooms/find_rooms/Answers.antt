@@ -1,12 +1,5 @@
-use Rattle.std.proofs.Common.{ℕ, sym, ap, subst, ◌∙◌, arith}
-use Rattle.std.specs.Prelude.{IsTrue, Ok}
-use Rattle.std.proofs.lemmas.Bool.{true≢false}
-use Rattle.nb_fields.specs.Places.{is_page_size}
-use Rattle.nb_model.specs.Image.{image_size}
-use Rattle.nb_alloc.specs.Make.{new_of}
-use Rattle.nb_alloc.specs.declared.behind.Behind.{Behind}
-use Rattle.nb_alloc.specs.Behind.{IsKnown}
-use Rattle.nb_model.specs.Forms.{is_kind}
+use Rattle.std.proofs.Common.{ℕ, sym, ap, subst, ◌∙◌, arith, IsTrue, Ok}
+use Rattle.nb_alloc.proofs.Common.{true≢false, is_page_size, image_size, new_of, Behind, IsKnown, is_kind}
 use Rattle.nb_alloc.proofs.RoomsLaws.{not_lost, ends_judged, second_judged, twice_judged}
 use Rattle.nb_alloc.proofs.WayLaws.{begins_at, place_begins, ends_passed}
 use Rattle.nb_alloc.proofs.rooms.find_rooms.Goals as goal

@@ -1,10 +1,5 @@
-use Rattle.std.proofs.Common.{◌≡◌, ◌≢◌, ℕ, refl, sym, ap, subst, ◌∙◌, arith}
-use Rattle.std.specs.Prelude.{IsTrue}
-use Rattle.nb_fields.specs.Places.{is_page_size, most_pages}
-use Rattle.nb_model.specs.Image.{image_size}
-use Rattle.nb_model.specs.Forms.{inventory_of}
-use Rattle.nb_model.specs.Way.{next_place}
-use Rattle.nb_alloc.specs.Find.{need_cause}
+use Rattle.std.proofs.Common.{◌≡◌, ◌≢◌, ℕ, refl, sym, ap, subst, ◌∙◌, arith, IsTrue}
+use Rattle.nb_alloc.proofs.Common.{is_page_size, most_pages, image_size, inventory_of, next_place, need_cause}
 use Rattle.nb_alloc.proofs.DoesLaws.{tested_on}
 use Rattle.nb_alloc.proofs.TestLaws.{inventory_place_is}
 use Rattle.nb_alloc.proofs.NeedReads.{ends_found, ends_broken, ends_last, tested_by}

@@ -1,9 +1,5 @@
-use Rattle.std.proofs.Common.{◌≡◌, ℕ, ◌+◌, ◌-◌, ◌*◌, ◌/◌, ◌≤◌, length, refl, ap, ◌∙◌, arith}
-use Rattle.std.specs.Prelude.{Bool, true, false}
-use Rattle.nb_fields.specs.Places.{bits_in, is_system_place, most_pages}
-use Rattle.nb_state.specs.Open.{Held}
-use Rattle.nb_host.specs.declared.refusals.Refusal.TheVariants.{Full}
-use Rattle.nb_alloc.specs.declared.behind.Behind.{Behind}
+use Rattle.std.proofs.Common.{◌≡◌, ℕ, ◌+◌, ◌-◌, ◌*◌, ◌/◌, ◌≤◌, length, refl, ap, ◌∙◌, arith, Bool, true, false}
+use Rattle.nb_alloc.proofs.Common.{bits_in, is_system_place, most_pages, Held, Full, Behind}
 use Rattle.nb_alloc.proofs.WayLaws.{search_begins, end_cause, goes_begin, goes_at, goes_refused, goes_failed, ends_passed}
 use Rattle.nb_alloc.proofs.way.find_room.Goals as goal
 

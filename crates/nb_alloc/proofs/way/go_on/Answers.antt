@@ -1,18 +1,5 @@
-use Rattle.std.proofs.Common.{◌≡◌, ◌≢◌, inl, inr, ℕ, ◌+◌, ◌≤◌, length, refl, sym, ap, subst, ◌∙◌, arith}
-use Rattle.std.specs.Prelude.{true, false, None, Err}
-use Rattle.std.proofs.lemmas.Bool.{true≢false}
-use Rattle.std.proofs.lemmas.Bool.Decides.{eqb_tells}
-use Rattle.nb_fields.specs.Places.{bits_in, is_system_place, most_pages}
-use Rattle.nb_host.specs.declared.refusals.Refusal.TheVariants.{Full}
-use Rattle.nb_page.proofs.QuietLaws.{quiet_begun, quiet_joined}
-use Rattle.nb_model.specs.Image.{image_size}
-use Rattle.nb_model.specs.Way.{next_place}
-use Rattle.nb_state.specs.Open.{Held}
-use Rattle.nb_state.specs.Does.{Tested}
-use Rattle.nb_alloc.specs.declared.behind.Behind.{Behind}
-use Rattle.nb_alloc.specs.Way.{way_cause}
-use Rattle.nb_alloc.specs.Behind.{gone}
-use Rattle.nb_alloc.specs.Search.{AtKnown, Finds, Refuses, EndsBy}
+use Rattle.std.proofs.Common.{◌≡◌, ◌≢◌, inl, inr, ℕ, ◌+◌, ◌≤◌, length, refl, sym, ap, subst, ◌∙◌, arith, true, false, None, Err}
+use Rattle.nb_alloc.proofs.Common.{true≢false, eqb_tells, bits_in, is_system_place, most_pages, Full, quiet_begun, quiet_joined, image_size, next_place, Held, Tested, Behind, way_cause, gone, AtKnown, Finds, Refuses, EndsBy}
 use Rattle.nb_alloc.proofs.WayLaws.{end_cause, goes_on, goes_at, goes_found, goes_refused, goes_failed}
 use Rattle.nb_alloc.proofs.BehindLaws.{gone_page, gone_lost}
 use Rattle.nb_alloc.proofs.SearchReads.{maps_few}

@@ -1,13 +1,5 @@
-use Rattle.std.proofs.Common.{◌≡◌, ◌≢◌, ◌+◌, ◌-◌, ◌*◌, ◌<◌, ◌≤◌, ℕ, length, IsTrue}
-use Rattle.std.specs.Prelude.{true, false}
-use Rattle.nb_fields.specs.Places.{is_system_place, most_pages}
-use Rattle.nb_page.specs.Quiet.{Quiet}
-use Rattle.nb_model.specs.Image.{Image}
-use Rattle.nb_model.specs.Trail.{Trail}
-use Rattle.nb_state.specs.Open.{IsOpen, but_pages}
-use Rattle.nb_alloc.specs.declared.behind.Behind.{Behind}
-use Rattle.nb_alloc.specs.Find.{HoldsMap}
-use Rattle.nb_alloc.specs.Search.{AtKnown}
+use Rattle.std.proofs.Common.{◌≡◌, ◌≢◌, ◌+◌, ◌-◌, ◌*◌, ◌<◌, ◌≤◌, ℕ, length, IsTrue, true, false}
+use Rattle.nb_alloc.proofs.Common.{is_system_place, most_pages, Quiet, Image, Trail, IsOpen, but_pages, Behind, HoldsMap, AtKnown}
 use Rattle.nb_alloc.proofs.way.go_on.Given as goal
 
 abbrev pub invariant-loop-behind : goal.invariant-loop-behind

@@ -1,12 +1,5 @@
-use Rattle.std.proofs.Common.{◌≡◌, ℕ, sym, ap, subst, ◌∙◌}
-use Rattle.std.specs.Prelude.{Bool, true, false, IsTrue, None}
-use Rattle.nb_fields.specs.Places.{is_page_size, is_inventory_place, is_system_place}
-use Rattle.nb_model.specs.Image.{image_size}
-use Rattle.nb_model.specs.Forms.{is_kind, system_kind, first_not}
-use Rattle.nb_model.specs.Trail.{Trail}
-use Rattle.nb_model.specs.Way.{own_entry_on}
-use Rattle.nb_state.specs.Open.{IsOpen}
-use Rattle.nb_alloc.specs.Find.{need_cause}
+use Rattle.std.proofs.Common.{◌≡◌, ℕ, sym, ap, subst, ◌∙◌, Bool, true, false, IsTrue, None}
+use Rattle.nb_alloc.proofs.Common.{is_page_size, is_inventory_place, is_system_place, image_size, is_kind, system_kind, first_not, Trail, own_entry_on, IsOpen, need_cause}
 use Rattle.nb_alloc.proofs.DoesLaws.{tested_on}
 use Rattle.nb_alloc.proofs.PassLaws.{none_is, own_kept, own_asked, kept_there, made_kept, made_map, made_entries, fresh_kept, fresh_map, fresh_entries}
 use Rattle.nb_alloc.proofs.way.pass.Goals as goal

@@ -1,19 +1,9 @@
-use Rattle.std.proofs.Common.{◌≡◌, ◌≢◌, ℕ, refl, sym, ap, ◌∙◌, arith}
-use Rattle.std.specs.Prelude.{Bool, true, false, IsTrue}
-use Rattle.std.proofs.lemmas.Bool.{true≢false}
-use Rattle.nb_fields.specs.Places.{is_system_place, most_pages}
-use Rattle.nb_model.specs.Image.{image_size}
-use Rattle.nb_model.specs.Forms.{first_not}
-use Rattle.nb_model.specs.Trail.{Trail}
-use Rattle.nb_model.specs.Way.{maps_on, own_entry_on}
-use Rattle.nb_state.specs.Open.{IsOpen}
-use Rattle.nb_alloc.specs.Find.{need_cause}
-use Rattle.nb_alloc.specs.Way.{way_cause}
+use Rattle.std.proofs.Common.{◌≡◌, ◌≢◌, ℕ, refl, sym, ap, ◌∙◌, arith, Bool, true, false, IsTrue}
+use Rattle.nb_alloc.proofs.Common.{true≢false, is_system_place, most_pages, image_size, first_not, Trail, maps_on, own_entry_on, IsOpen, need_cause, way_cause, plain_unkept}
 use Rattle.nb_alloc.proofs.DoesLaws.{tested_on}
 use Rattle.nb_alloc.proofs.PassLaws.{way_maps, way_full, way_map_entry, way_own, own_asked, made_plain, fresh_plain}
 use Rattle.nb_alloc.proofs.way.visit.Goals as goal
 use Rattle.nb_alloc.proofs.way.visit.Goals.{After-is_system_place}
-use Rattle.nb_model.proofs.StepLaws.{plain_unkept}
 
 -- The search has come to a page below the greatest number, and the SCN page of its inventory page was tested: that of the page itself decides.
 module _ (g : _) (c : goal.After-is_system_place g) (t : Trail) (tells : IsTrue g.H.Host.tells) (is : IsOpen (g.H.Host.world c.args.host.now) c.args.store.now t) where

@@ -1,7 +1,6 @@
 use Rattle.std.proofs.Common.{length, ◌∙◌, ap, arith}
-use Rattle.nb_fields.specs.Fresh.{fresh_page}
+use Rattle.nb_base.proofs.Common.{fresh_page, fresh_count-least}
 use Rattle.nb_change.proofs.GaveLaws.{silent_gave, nothing_joined}
-use Rattle.nb_model.proofs.FreshImageLaws.{fresh_count-least}
 use Rattle.nb_base.proofs.CreateLaws.{named, rest_begun, far_behind, rest_more}
 use Rattle.nb_base.proofs.MakingLaws.{made, made_reads, making_reads, making_begun, page_more, synced, synced_reads, synced_whole, rest_kept, first_page, first_page_reads, settled}
 use Rattle.nb_base.proofs.beginnings.make_file.Goals as goal

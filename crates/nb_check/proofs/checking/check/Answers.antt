@@ -1,17 +1,5 @@
-use Rattle.std.proofs.Common.{◌≡◌, ℕ, List, [], length, sym, ap, subst, ◌∙◌, arith}
-use Rattle.std.specs.Prelude.{IsTrue}
-use Rattle.nb_fields.specs.Places.{is_page_size}
-use Rattle.nb_page.proofs.QuietLaws.{quiet_joined}
-use Rattle.nb_model.specs.declared.reply.Reply.TheVariants.{Leaked}
-use Rattle.nb_model.specs.Image.{Page, image_size}
-use Rattle.nb_model.specs.Outcomes.{says}
-use Rattle.nb_model.specs.Rows.{chains}
-use Rattle.nb_model.proofs.SoundLaws.{all_from}
-use Rattle.nb_state.proofs.MakesLaws.{goes_nowhere}
-use Rattle.nb_alloc.proofs.DoesLaws.{seeing, valued_does, tested_does, tested_on}
-use Rattle.nb_model.specs.Facts.{unsound}
-use Rattle.nb_model.specs.Leaks.{leaked}
-use Rattle.nb_model.specs.Checks.{unsound_by, chains_cause, check_cause, check_turn}
+use Rattle.std.proofs.Common.{◌≡◌, ℕ, List, [], length, sym, ap, subst, ◌∙◌, arith, IsTrue}
+use Rattle.nb_check.proofs.Common.{is_page_size, quiet_joined, Leaked, Page, image_size, says, chains, all_from, goes_nowhere, seeing, valued_does, tested_does, tested_on, unsound, leaked, unsound_by, chains_cause, check_cause, check_turn}
 use Rattle.nb_check.proofs.CauseLaws.{unsound_fails, chain_fails, check_free, check_refused, check_says}
 use Rattle.nb_check.proofs.ReportLaws.{leaked_pages}
 use Rattle.nb_check.proofs.SoundLaws.{check_long, sound_whole, no_unsound}

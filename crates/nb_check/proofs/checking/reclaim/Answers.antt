@@ -1,20 +1,6 @@
-use Rattle.std.proofs.Common.{◌≡◌, ◌≢◌, ℕ, List, length, refl, sym, ap, ◌∙◌, arith}
-use Rattle.std.specs.Prelude.{Bool, Result, Ok, Err, IsErr, IsErrAnd, None}
-use Rattle.nb_host.specs.declared.faults.Fault.{Fault}
-use Rattle.nb_host.specs.declared.faults.Fault.TheVariants.{Memory}
-use Rattle.nb_host.specs.declared.refusals.Refusal.TheVariants.{Access}
-use Rattle.nb_page.proofs.QuietLaws.{quiet_begun}
-use Rattle.nb_change.proofs.ResultLaws.{passed_on}
-use Rattle.nb_model.specs.declared.reply.Reply.TheVariants.{Freed}
-use Rattle.nb_model.specs.Causes.{when}
-use Rattle.nb_model.specs.Outcomes.{says}
-use Rattle.nb_state.proofs.MakesLaws.{goes_on, goes_nowhere}
+use Rattle.std.proofs.Common.{◌≡◌, ◌≢◌, ℕ, List, length, refl, sym, ap, ◌∙◌, arith, Bool, Result, Ok, Err, IsErr, IsErrAnd, None}
+use Rattle.nb_check.proofs.Common.{Fault, Memory, Access, quiet_begun, passed_on, Freed, when, says, goes_on, goes_nowhere, seeing, refused_does, tested_does, tries_other, tries_valued, tries_passed, tries_after, tries_does, Does, Held, leaked, check_cause, reclaimed, reclaim_turn}
 use Rattle.nb_alloc.proofs.CauseLaws.{unless_allowed}
-use Rattle.nb_alloc.proofs.DoesLaws.{seeing, refused_does, tested_does, tries_other, tries_valued, tries_passed, tries_after, tries_does}
-use Rattle.nb_state.specs.Does.{Does}
-use Rattle.nb_state.specs.Open.{Held}
-use Rattle.nb_model.specs.Leaks.{leaked}
-use Rattle.nb_model.specs.Checks.{check_cause, reclaimed, reclaim_turn}
 use Rattle.nb_check.proofs.CauseLaws.{closed_fails, check_fails, reclaim_free, reclaim_refused, reclaim_says}
 use Rattle.nb_check.proofs.checking.reclaim.Goals as goal
 

@@ -1,10 +1,5 @@
-use Rattle.std.proofs.Common.{◌≡◌, ℕ, ◌-◌, ◌≤◌, List, length, sym, ap, subst, ◌∙◌, arith}
-use Rattle.std.specs.Prelude.{IsTrue}
-use Rattle.nb_fields.specs.Places.{is_page_size}
-use Rattle.nb_model.specs.Facts.{covered}
-use Rattle.nb_model.specs.Image.{image_size}
-use Rattle.nb_state.specs.Open.{Held}
-use Rattle.nb_check.specs.Passes.{IsOf, IsFirstBelow, HoldsTaken, AreSized, IsMapOf, HasEntryOf}
+use Rattle.std.proofs.Common.{◌≡◌, ℕ, ◌-◌, ◌≤◌, List, length, sym, ap, subst, ◌∙◌, arith, IsTrue}
+use Rattle.nb_check.proofs.Common.{is_page_size, covered, image_size, Held, IsOf, IsFirstBelow, HoldsTaken, AreSized, IsMapOf, HasEntryOf}
 use Rattle.nb_check.proofs.CoverLaws.{first_far, none_few, none_far, group_end, group_within, valid_of, ends_of}
 use Rattle.nb_engine.proofs.FlagLaws.{some_first}
 use Rattle.nb_check.proofs.pass.pass.Goals as goal

@@ -1,10 +1,5 @@
-use Rattle.std.proofs.Common.{◌≡◌, inl, inr, ℕ, ◌+◌, ◌-◌, length, refl, sym, ap, subst, ◌∙◌, arith}
-use Rattle.std.specs.Prelude.{IsTrue}
-use Rattle.nb_fields.specs.Places.{is_page_size}
-use Rattle.nb_page.proofs.QuietLaws.{quiet_begun, quiet_joined}
-use Rattle.nb_model.specs.Image.{page_at}
-use Rattle.nb_state.specs.Open.{Held}
-use Rattle.nb_check.specs.Passes.{IsFirstBelow, HoldsTaken, AreSized, IsMapOf, HasEntryOf}
+use Rattle.std.proofs.Common.{◌≡◌, inl, inr, ℕ, ◌+◌, ◌-◌, length, refl, sym, ap, subst, ◌∙◌, arith, IsTrue}
+use Rattle.nb_check.proofs.Common.{is_page_size, quiet_begun, quiet_joined, page_at, Held, IsFirstBelow, HoldsTaken, AreSized, IsMapOf, HasEntryOf}
 use Rattle.nb_check.proofs.PassLaws.{below_more, page_read}
 use Rattle.nb_check.proofs.pass.pass_pages.Goals as goal
 

@@ -1,9 +1,5 @@
-use Rattle.std.proofs.Common.{◌≡◌, ◌+◌, ◌-◌, ◌<◌, ◌≤◌, length}
-use Rattle.std.specs.Prelude.{IsTrue, min}
-use Rattle.nb_page.specs.Quiet.{Quiet}
-use Rattle.nb_model.specs.Trail.{Trail}
-use Rattle.nb_state.specs.Open.{IsOpen, but_pages}
-use Rattle.nb_check.specs.Passes.{IsFirstBelow, HoldsTaken, AreSized, IsMapOf, HasEntryOf}
+use Rattle.std.proofs.Common.{◌≡◌, ◌+◌, ◌-◌, ◌<◌, ◌≤◌, length, IsTrue, min}
+use Rattle.nb_check.proofs.Common.{Quiet, Trail, IsOpen, but_pages, IsFirstBelow, HoldsTaken, AreSized, IsMapOf, HasEntryOf}
 use Rattle.nb_check.proofs.pass.pass_pages.Given as goal
 
 -- the pages so far are passed

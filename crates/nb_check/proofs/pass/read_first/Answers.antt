@@ -1,7 +1,5 @@
-use Rattle.std.proofs.Common.{ℕ, sym, ap, subst, ◌∙◌}
-use Rattle.std.specs.Prelude.{IsTrue}
-use Rattle.nb_fields.specs.Places.{is_page_size}
-use Rattle.nb_model.specs.Image.{page_at, image_size}
+use Rattle.std.proofs.Common.{ℕ, sym, ap, subst, ◌∙◌, IsTrue}
+use Rattle.nb_check.proofs.Common.{is_page_size, page_at, image_size}
 use Rattle.nb_check.proofs.PassLaws.{first_map_is, first_entries_are}
 use Rattle.nb_check.proofs.pass.read_first.Goals as goal
 

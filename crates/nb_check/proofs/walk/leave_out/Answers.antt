@@ -1,13 +1,6 @@
 use Rattle.std.proofs.Common.{ℕ, [], ◌∷◌, refl, ap, ◌∙◌, arith}
-use Rattle.nb_page.proofs.QuietLaws.{quiet_begun, quiet_joined}
-use Rattle.nb_model.specs.Causes.{broken_at}
-use Rattle.nb_model.specs.Chains.{next_in, pages_of}
-use Rattle.nb_state.specs.Open.{Held}
-use Rattle.nb_alloc.proofs.DoesLaws.{tested_on}
-use Rattle.nb_check.specs.Sets.{IsWithout}
-use Rattle.nb_walk.specs.Walks.{chain_by, not_linked}
+use Rattle.nb_check.proofs.Common.{quiet_begun, quiet_joined, broken_at, next_in, pages_of, Held, tested_on, IsWithout, chain_by, not_linked, walks_first, walks_broken, walks_next, walks_none, walks_all, walks_length, walks_over}
 use Rattle.nb_check.proofs.SetLaws.{without_none, without_both}
-use Rattle.nb_walk.proofs.WalkLaws.{walks_first, walks_broken, walks_next, walks_none, walks_all, walks_length, walks_over}
 use Rattle.nb_check.proofs.walk.leave_out.Goals as goal
 
 pub loop-left-init : goal.loop-left-init

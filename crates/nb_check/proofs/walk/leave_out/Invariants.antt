@@ -1,11 +1,5 @@
-use Rattle.std.proofs.Common.{◌≡◌, ◌+◌, ◌-◌, ◌≤◌, length}
-use Rattle.std.specs.Prelude.{IsTrue}
-use Rattle.nb_page.specs.Quiet.{Quiet}
-use Rattle.nb_model.specs.Trail.{Trail}
-use Rattle.nb_state.specs.Open.{IsOpen, but_pages}
-use Rattle.nb_check.specs.Sets.{IsWithout}
-use Rattle.nb_walk.specs.Walks.{chain_by}
-use Rattle.nb_walk.proofs.WalkLaws.{Walks}
+use Rattle.std.proofs.Common.{◌≡◌, ◌+◌, ◌-◌, ◌≤◌, length, IsTrue}
+use Rattle.nb_check.proofs.Common.{Quiet, Trail, IsOpen, but_pages, IsWithout, chain_by, Walks}
 use Rattle.nb_check.proofs.walk.leave_out.Given as goal
 
 -- the pages so far are out of the set

@@ -1,17 +1,6 @@
-use Rattle.std.proofs.Common.{◌≡◌, ◌≢◌, ℕ, ◌+◌, ◌*◌, ◌≤◌, length, refl, sym, ap, subst, ◌∙◌, arith}
-use Rattle.std.specs.Prelude.{true, false, slice_index}
-use Rattle.nb_fields.specs.Bytes.{part}
-use Rattle.nb_page.proofs.QuietLaws.{quiet_begun, quiet_joined}
-use Rattle.nb_model.specs.Causes.{broken_at}
-use Rattle.nb_model.specs.Chains.{RowsFrom, Slot, is_used, first_in, pages_of, found_pages}
-use Rattle.nb_model.specs.Checks.{chains_cause}
-use Rattle.nb_model.proofs.ReadLaws.{eq_no, eq_yes}
-use Rattle.nb_alloc.proofs.DoesLaws.{tested_on}
-use Rattle.nb_state.specs.Open.{Held}
-use Rattle.nb_check.specs.Sets.{IsWithout}
-use Rattle.nb_check.specs.Walks.{chains_on}
+use Rattle.std.proofs.Common.{◌≡◌, ◌≢◌, ℕ, ◌+◌, ◌*◌, ◌≤◌, length, refl, sym, ap, subst, ◌∙◌, arith, true, false, slice_index}
+use Rattle.nb_check.proofs.Common.{part, quiet_begun, quiet_joined, broken_at, RowsFrom, Slot, is_used, first_in, pages_of, found_pages, chains_cause, eq_no, eq_yes, tested_on, Held, IsWithout, chains_on, slot_inside}
 use Rattle.nb_check.proofs.ListLaws.{lists_first, lists_free, lists_used, lists_broken, lists_last}
-use Rattle.nb_walk.proofs.SlotLaws.{slot_inside}
 use Rattle.nb_check.proofs.walk.leave_out_listed.Goals as goal
 
 -- whether a slot is used, by its first byte

@@ -1,8 +1,5 @@
-use Rattle.std.proofs.Common.{◌≡◌, ◌-◌, ◌/◌, length}
-use Rattle.std.specs.Prelude.{IsTrue}
-use Rattle.nb_page.specs.Quiet.{Quiet}
-use Rattle.nb_model.specs.Trail.{Trail}
-use Rattle.nb_state.specs.Open.{IsOpen, but_pages}
+use Rattle.std.proofs.Common.{◌≡◌, ◌-◌, ◌/◌, length, IsTrue}
+use Rattle.nb_check.proofs.Common.{Quiet, Trail, IsOpen, but_pages}
 use Rattle.nb_check.proofs.ListLaws.{Lists}
 use Rattle.nb_check.proofs.walk.leave_out_listed.Given as goal
 

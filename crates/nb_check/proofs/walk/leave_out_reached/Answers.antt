@@ -1,12 +1,6 @@
 use Rattle.std.proofs.Common.{ap, arith}
-use Rattle.nb_model.specs.Causes.{broken_at}
-use Rattle.nb_model.specs.Chains.{Catalogue, History, pages_of}
-use Rattle.nb_model.specs.Checks.{chains_cause}
-use Rattle.nb_model.specs.Rows.{chains}
-use Rattle.nb_state.specs.Open.{Held}
-use Rattle.nb_alloc.proofs.DoesLaws.{tested_on, tested_by_name}
+use Rattle.nb_check.proofs.Common.{broken_at, Catalogue, History, pages_of, chains_cause, chains, Held, tested_on, tested_by_name, on_ok_then}
 use Rattle.nb_check.proofs.ListLaws.{tables, first_broken, second_broken, rest_cause, reached_out, reached_few}
-use Rattle.nb_change.proofs.ResultLaws.{on_ok_then}
 use Rattle.nb_check.proofs.walk.leave_out_reached.Goals as goal
 
 pub returns-in_err-leave_out-clause-test : goal.returns-in_err-leave_out-clause-test

@@ -1,20 +1,8 @@
-use Rattle.std.proofs.Common.{◌≡◌, ℕ, List, [], ◌+◌, length, refl, sym, ap, subst, ◌∙◌, arith, ◌++◌, ◌≢◌, ◌-◌, ◌∷◌}
-use Rattle.std.specs.Prelude.{None, IsTrue}
-use Rattle.nb_page.proofs.QuietLaws.{quiet_begun, quiet_joined}
-use Rattle.nb_model.specs.Image.{Image, page_at}
-use Rattle.nb_model.specs.Chains.{Catalogue, Chain, next_in, found_pages, pages_of}
-use Rattle.nb_model.specs.Checks.{chains_cause}
-use Rattle.nb_state.specs.Open.{Held, IsOpen}
-use Rattle.nb_alloc.proofs.DoesLaws.{tested_on}
-use Rattle.nb_walk.specs.Walks.{not_linked}
-use Rattle.nb_check.specs.Walks.{chains_on}
+use Rattle.std.proofs.Common.{◌≡◌, ℕ, List, [], ◌+◌, length, refl, sym, ap, subst, ◌∙◌, arith, ◌++◌, ◌≢◌, ◌-◌, ◌∷◌, None, IsTrue}
+use Rattle.nb_check.proofs.Common.{quiet_begun, quiet_joined, Image, page_at, Catalogue, Chain, next_in, found_pages, pages_of, chains_cause, Held, IsOpen, tested_on, not_linked, chains_on, so, walks_first, walks_broken, walks_split, walks_next, walks_all, walks_over, Walks, Trail, broken_at, none_some}
 use Rattle.nb_check.proofs.ListLaws.{AreOut, chains_of_pages, tables, tables_begun, tables_more, tables_are, tables_broken}
-use Rattle.nb_walk.proofs.WalkLaws.{so, walks_first, walks_broken, walks_split, walks_next, walks_all, walks_over, Walks}
-use Rattle.nb_model.specs.Trail.{Trail}
-use Rattle.nb_model.specs.Causes.{broken_at}
 use Rattle.nb_check.proofs.walk.leave_out_tables.Goals as goal
 use Rattle.nb_check.proofs.walk.leave_out_tables.Goals.{In_ok-leave_out_listed}
-use Rattle.nb_host.proofs.PlainLaws.{none_some}
 
 -- what came of the pages of the catalogue so far
 abbrev Out : Image → (before after : List ℕ) (old now : ℕ) → List ℕ → Type 0

@@ -1,12 +1,6 @@
-use Rattle.std.proofs.Common.{◌≡◌, ◌+◌, length}
-use Rattle.std.specs.Prelude.{IsTrue, None}
-use Rattle.nb_page.specs.Quiet.{Quiet}
-use Rattle.nb_model.specs.Causes.{broken_at}
-use Rattle.nb_model.specs.Chains.{Catalogue, pages_of}
-use Rattle.nb_model.specs.Trail.{Trail}
-use Rattle.nb_state.specs.Open.{IsOpen, but_pages}
+use Rattle.std.proofs.Common.{◌≡◌, ◌+◌, length, IsTrue, None}
+use Rattle.nb_check.proofs.Common.{Quiet, broken_at, Catalogue, pages_of, Trail, IsOpen, but_pages, Walks}
 use Rattle.nb_check.proofs.ListLaws.{AreOut, chains_of_pages}
-use Rattle.nb_walk.proofs.WalkLaws.{Walks}
 use Rattle.nb_check.proofs.walk.leave_out_tables.Given as goal
 
 -- the chains that the pages of the catalogue so far name are out of the set

@@ -1,13 +1,6 @@
 use Rattle.std.proofs.Common.{[], ◌∷◌, subst}
-use Rattle.nb_level.specs.declared.head.LevelHead.{LevelHead}
-use Rattle.nb_model.specs.Causes.{Cause, first_cause}
-use Rattle.nb_state.specs.Does.{Tested}
-use Rattle.nb_state.proofs.MakesLaws.{open_quiet}
-use Rattle.nb_alloc.proofs.DoesLaws.{tested_on}
-use Rattle.nb_copy.specs.Starting.{earlier_cause, file_cause}
+use Rattle.nb_copy.proofs.Common.{LevelHead, Cause, first_cause, Tested, open_quiet, tested_on, earlier_cause, file_cause, on_ok, first_here}
 use Rattle.nb_copy.proofs.StartCauses.{after_none}
-use Rattle.nb_change.proofs.ResultLaws.{on_ok}
-use Rattle.nb_base.proofs.AttachLaws.{first_here}
 use Rattle.nb_copy.proofs.copier.check_start.Goals as goal
 
 pub returns-in_err-check_file-clause-test : goal.returns-in_err-check_file-clause-test

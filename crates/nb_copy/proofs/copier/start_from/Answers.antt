@@ -1,32 +1,10 @@
-use Rattle.std.proofs.Common.{◌≡◌, inl, inr, ◌≤◌, ℕ, List, length, replicate, refl, sym, ap, subst, ◌∙◌}
-use Rattle.std.specs.Prelude.{Result, Ok, Err, None, Some}
-use Rattle.nb_host.specs.declared.faults.Fault.{Fault}
-use Rattle.nb_host.specs.declared.faults.Fault.TheVariants.{Device, Memory}
-use Rattle.nb_change.specs.Changes.{Only}
-use Rattle.nb_change.specs.Gave.{GaveNothing}
-use Rattle.nb_change.proofs.CallLaws.{remade_alone}
-use Rattle.nb_model.specs.Account.{Base}
-use Rattle.nb_model.specs.Image.{image_state}
-use Rattle.nb_model.specs.Outcomes.{Seen, next_guid}
-use Rattle.nb_change.proofs.ResultLaws.{passed_on}
-use Rattle.nb_copy.specs.Starting.{Backed, IsNotMemory, StartsBackup, IsItsLevel, turn_since}
+use Rattle.std.proofs.Common.{◌≡◌, inl, inr, ◌≤◌, ℕ, List, length, replicate, refl, sym, ap, subst, ◌∙◌, Result, Ok, Err, None, Some}
+use Rattle.nb_copy.proofs.Common.{Fault, Device, Memory, Only, GaveNothing, remade_alone, Base, image_state, Seen, next_guid, passed_on, Backed, IsNotMemory, StartsBackup, IsItsLevel, turn_since, after_strokes, quiet_gave, room_cause, tries_after, room_in, ask_in, ask_by, given_guid, IsEmpty, is_made, OfFiles, name_of, goes_nowhere, goes_on}
 use Rattle.nb_change.proofs.GaveLaws.{nothing_joined}
-use Rattle.nb_base.specs.Takes.{after_strokes}
-use Rattle.nb_gather.proofs.QuietLaws.{quiet_gave}
-use Rattle.nb_engine.specs.Room.{room_cause}
 use Rattle.nb_engine.specs.declared.walk.Room.{Room}
-use Rattle.nb_alloc.proofs.DoesLaws.{tries_after}
-use Rattle.nb_model.specs.Backups.{room_in}
-use Rattle.nb_copy.specs.Starting.{ask_in, ask_by}
-use Rattle.nb_state.proofs.TurnLaws.{given_guid}
 use Rattle.nb_copy.proofs.StartLaws.{start_failed, given_later, given_before, starts_of, starts_passed}
-use Rattle.nb_gather.specs.Making.{IsEmpty}
 use Rattle.nb_copy.proofs.InUseLaws.{free_apart}
-use Rattle.nb_gather.proofs.QuietLaws.{is_made}
 use Rattle.nb_copy.proofs.RoomStartLaws.{start_roomless, start_unmade, made_open, start_unbegun, start_done, started_is}
-use Rattle.nb_base.specs.Open.{OfFiles}
-use Rattle.nb_state.specs.Open.{name_of}
-use Rattle.nb_state.proofs.MakesLaws.{goes_nowhere, goes_on}
 use Rattle.nb_copy.proofs.BesideLaws.{made_kept}
 use Rattle.nb_copy.proofs.AsideLaws.{open_aside}
 use Rattle.nb_copy.proofs.copier.start_from.Goals as goal

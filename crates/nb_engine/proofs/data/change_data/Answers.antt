@@ -1,17 +1,6 @@
-use Rattle.std.proofs.Common.{◌≡◌, ◌+◌, ◌≤◌, ℕ, List, length, drop, sym, ap, subst, ◌∙◌, arith}
-use Rattle.std.specs.Prelude.{IsTrue}
-use Rattle.nb_fields.specs.Bytes.{with_part}
-use Rattle.nb_fields.specs.Page.{with_payload}
-use Rattle.nb_fields.specs.Places.{is_page_size}
-use Rattle.nb_fields.specs.Kinds.{data_kind}
-use Rattle.nb_model.specs.Image.{Page, page_at}
-use Rattle.nb_model.specs.Forms.{old_page}
-use Rattle.nb_model.specs.Causes.{not_kind}
-use Rattle.nb_alloc.specs.Data.{data_cause}
-use Rattle.nb_state.specs.Open.{Held}
+use Rattle.std.proofs.Common.{◌≡◌, ◌+◌, ◌≤◌, ℕ, List, length, drop, sym, ap, subst, ◌∙◌, arith, IsTrue}
+use Rattle.nb_engine.proofs.Common.{with_part, with_payload, is_page_size, data_kind, Page, page_at, old_page, not_kind, data_cause, Held, tries_early, old_below}
 use Rattle.nb_engine.proofs.DataLaws.{data_there, none_there, put_tries}
-use Rattle.nb_alloc.proofs.DoesLaws.{tries_early}
-use Rattle.nb_alloc.proofs.PutLaws.{old_below}
 use Rattle.nb_engine.proofs.LinkLaws.{written_payload, payload_inside}
 use Rattle.nb_engine.proofs.data.change_data.Goals as goal
 

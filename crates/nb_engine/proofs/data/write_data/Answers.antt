@@ -1,17 +1,6 @@
-use Rattle.std.proofs.Common.{◌≡◌, ◌+◌, ◌≤◌, ◌++◌, ℕ, List, length, take, drop, sym, ap, subst, ◌∙◌, arith, length-drop}
-use Rattle.std.specs.Prelude.{IsTrue}
-use Rattle.nb_fields.specs.Page.{with_payload}
-use Rattle.nb_fields.specs.Places.{is_page_size}
-use Rattle.nb_fields.proofs.SizeLaws.{size_facts}
-use Rattle.nb_fields.specs.Kinds.{data_kind}
-use Rattle.nb_model.specs.Image.{Page, page_at}
-use Rattle.nb_model.specs.Forms.{old_page}
-use Rattle.nb_model.specs.Causes.{not_kind}
-use Rattle.nb_alloc.specs.Data.{data_cause}
-use Rattle.nb_state.specs.Open.{Held}
+use Rattle.std.proofs.Common.{◌≡◌, ◌+◌, ◌≤◌, ◌++◌, ℕ, List, length, take, drop, sym, ap, subst, ◌∙◌, arith, length-drop, IsTrue}
+use Rattle.nb_engine.proofs.Common.{with_payload, is_page_size, size_facts, data_kind, Page, page_at, old_page, not_kind, data_cause, Held, tries_early, old_below}
 use Rattle.nb_engine.proofs.DataLaws.{data_there, none_there, behind_payload, put_tries}
-use Rattle.nb_alloc.proofs.DoesLaws.{tries_early}
-use Rattle.nb_alloc.proofs.PutLaws.{old_below}
 use Rattle.nb_engine.proofs.data.write_data.Goals as goal
 
 pub put_behind-requires-clause-head : goal.put_behind-requires-clause-head

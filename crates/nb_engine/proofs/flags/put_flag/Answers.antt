@@ -1,19 +1,6 @@
-use Rattle.std.proofs.Common.{◌≤◌, List, [], length, take, refl, sym, ap, subst, ◌∙◌, arith}
-use Rattle.std.specs.Prelude.{Ok, Err, None}
-use Rattle.nb_host.specs.Faults.{as_fault}
-use Rattle.nb_fields.proofs.SizeLaws.{size_facts}
-use Rattle.nb_model.specs.Lines.{flag}
-use Rattle.nb_model.specs.Strokes.{Stroke}
-use Rattle.nb_model.specs.Pages.{byte_strokes}
-use Rattle.nb_page.specs.Quiet.{Quiet}
-use Rattle.nb_change.proofs.FaultLaws.{counts_passed, memory_wanted, none_wanted}
-use Rattle.nb_state.specs.Open.{Held, but_pages}
-use Rattle.nb_state.specs.Does.{Makes}
-use Rattle.nb_state.proofs.MakesLaws.{none_refused}
-use Rattle.nb_alloc.specs.Tries.{Tries}
-use Rattle.nb_alloc.proofs.DoesLaws.{tries_early, tries_passed, tries_after, tries_made}
+use Rattle.std.proofs.Common.{◌≤◌, List, [], length, take, refl, sym, ap, subst, ◌∙◌, arith, Ok, Err, None}
+use Rattle.nb_engine.proofs.Common.{as_fault, size_facts, flag, Stroke, byte_strokes, Quiet, counts_passed, memory_wanted, none_wanted, Held, but_pages, Makes, none_refused, Tries, tries_early, tries_passed, tries_after, tries_made, strikes_after}
 use Rattle.nb_engine.proofs.FlagLaws.{byte_is, front_stays, flagged-some, flag_strokes}
-use Rattle.nb_alloc.proofs.WantLaws.{strikes_after}
 use Rattle.nb_engine.proofs.flags.put_flag.Goals as goal
 
 pub write-requires-clause-some : goal.write-requires-clause-some

@@ -1,15 +1,5 @@
 use Rattle.std.proofs.Common.{◌≡◌, ◌+◌, ◌≤◌, ◌<◌, ℕ, List, length, refl, sym, ap, ◌∙◌, arith}
-use Rattle.nb_fields.specs.Bytes.{bytes_of, with_part}
-use Rattle.nb_fields.specs.Page.{with_payload}
-use Rattle.nb_fields.proofs.SizeLaws.{size_facts}
-use Rattle.nb_page.proofs.QuietLaws.{quiet_begun}
-use Rattle.nb_model.specs.Image.{Page, page_at}
-use Rattle.nb_model.specs.Forms.{old_page}
-use Rattle.nb_engine.specs.Room.{linked_payload, write_cause}
-use Rattle.nb_alloc.proofs.DoesLaws.{tries_failed, tries_after}
-use Rattle.nb_alloc.proofs.MakeLaws.{tries_fault, tries_named}
-use Rattle.nb_alloc.proofs.PutLaws.{old_below}
-use Rattle.nb_state.specs.Open.{Held}
+use Rattle.nb_engine.proofs.Common.{bytes_of, with_part, with_payload, size_facts, quiet_begun, Page, page_at, old_page, linked_payload, write_cause, tries_failed, tries_after, tries_fault, tries_named, old_below, Held}
 use Rattle.nb_engine.proofs.LinkLaws.{written_payload, payload_inside, write_low, write_past}
 use Rattle.nb_engine.proofs.grow.link.Goals as goal
 

@@ -1,16 +1,5 @@
-use Rattle.std.proofs.Common.{◌≡◌, ◌+◌, ◌*◌, ◌<◌, ◌≤◌, ℕ, List, length, drop, sym, ap, subst, ◌∙◌, arith}
-use Rattle.std.specs.Prelude.{IsTrue}
-use Rattle.nb_fields.specs.Bytes.{with_part}
-use Rattle.nb_fields.specs.Page.{with_payload}
-use Rattle.nb_fields.specs.Places.{is_page_size}
-use Rattle.nb_model.specs.Image.{Page, page_at, image_size}
-use Rattle.nb_model.specs.Forms.{old_page}
-use Rattle.nb_model.specs.Chains.{Slot, backup_slot}
-use Rattle.nb_alloc.specs.Put.{entry_cause}
-use Rattle.nb_alloc.proofs.DoesLaws.{tries_after, tries_these}
-use Rattle.nb_alloc.proofs.MakeLaws.{tries_fault}
-use Rattle.nb_alloc.proofs.PutLaws.{old_below}
-use Rattle.nb_state.specs.Open.{Held}
+use Rattle.std.proofs.Common.{◌≡◌, ◌+◌, ◌*◌, ◌<◌, ◌≤◌, ℕ, List, length, drop, sym, ap, subst, ◌∙◌, arith, IsTrue}
+use Rattle.nb_engine.proofs.Common.{with_part, with_payload, is_page_size, Page, page_at, image_size, old_page, Slot, backup_slot, entry_cause, tries_after, tries_these, tries_fault, old_below, Held}
 use Rattle.nb_engine.proofs.LinkLaws.{written_payload, payload_inside, slot_strokes}
 use Rattle.nb_engine.proofs.room.add_row.Goals as goal
 

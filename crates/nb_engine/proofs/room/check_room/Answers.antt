@@ -1,12 +1,5 @@
-use Rattle.std.proofs.Common.{ℕ, [], ◌∷◌, sym, subst, ◌∙◌}
-use Rattle.std.specs.Prelude.{Bool, IsTrue}
-use Rattle.nb_fields.specs.Places.{is_page_size}
-use Rattle.nb_fields.specs.Kinds.{inventory_kind, scn_kind}
-use Rattle.nb_model.specs.Image.{image_size}
-use Rattle.nb_model.specs.Forms.{inventory_of, scn_page_of}
-use Rattle.nb_model.specs.Causes.{first_cause, not_kind, not_of_form, no_scn}
-use Rattle.nb_engine.specs.Room.{taken_draft}
-use Rattle.nb_alloc.proofs.DoesLaws.{tested_on, tested_by_name}
+use Rattle.std.proofs.Common.{ℕ, [], ◌∷◌, sym, subst, ◌∙◌, Bool, IsTrue}
+use Rattle.nb_engine.proofs.Common.{is_page_size, inventory_kind, scn_kind, image_size, inventory_of, scn_page_of, first_cause, not_kind, not_of_form, no_scn, taken_draft, tested_on, tested_by_name}
 use Rattle.nb_engine.proofs.RoomLaws.{inventory_refused, scn_refused, free_refused, room_cause}
 use Rattle.nb_engine.proofs.room.check_room.Goals as goal
 

@@ -1,17 +1,6 @@
-use Rattle.std.proofs.Common.{ℕ, [], refl, sym, ap, ◌∙◌, arith}
-use Rattle.std.specs.Prelude.{None}
-use Rattle.nb_model.specs.Forms.{drafted}
-use Rattle.nb_model.specs.Causes.{no_scn}
-use Rattle.nb_model.specs.Chains.{History, grown}
-use Rattle.nb_alloc.specs.Behind.{behind_cause}
-use Rattle.nb_alloc.specs.Data.{new_behind}
-use Rattle.nb_engine.specs.Room.{no_rows, grow_cause}
-use Rattle.nb_alloc.proofs.DoesLaws.{tries_early, tries_after}
-use Rattle.nb_state.specs.Open.{Held}
+use Rattle.std.proofs.Common.{ℕ, [], refl, sym, ap, ◌∙◌, arith, None}
+use Rattle.nb_engine.proofs.Common.{drafted, no_scn, History, grown, behind_cause, new_behind, no_rows, grow_cause, tries_early, tries_after, Held, tries_named, told, grown_judged}
 use Rattle.nb_engine.proofs.GrowLaws.{rows_are, no_rows_short, grow_refused, grow_spent, grow_free}
-use Rattle.nb_alloc.proofs.MakeLaws.{tries_named}
-use Rattle.nb_alloc.proofs.NewLaws.{told}
-use Rattle.nb_alloc.proofs.RoomsLaws.{grown_judged}
 use Rattle.nb_engine.proofs.room.grow.Goals as goal
 
 pub returns-in_err-first-clause-makes : goal.returns-in_err-first-clause-makes

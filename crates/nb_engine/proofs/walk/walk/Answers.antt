@@ -1,15 +1,5 @@
-use Rattle.std.proofs.Common.{rules, ◌≡◌, ◌⊎◌, ◌<◌, inl, inr, ℕ, refl, ap, ◌∙◌, arith}
-use Rattle.std.specs.Prelude.{None}
-use Rattle.nb_page.proofs.QuietLaws.{quiet_begun, quiet_joined}
-use Rattle.nb_model.specs.Causes.{broken_at}
-use Rattle.nb_model.specs.Chains.{History, pages_of}
-use Rattle.nb_state.specs.Open.{Held}
-use Rattle.nb_alloc.proofs.DoesLaws.{tested_on}
-use Rattle.nb_walk.specs.Walks.{not_linked}
-use Rattle.nb_walk.proofs.SpotLaws.{spots_found}
-use Rattle.nb_walk.proofs.WalkLaws.{walks_first, walks_broken, walks_next, walks_none, walks_all, walks_last, walks_length, walks_over}
-use Rattle.nb_engine.specs.declared.walk.Walked.{Walked}
-use Rattle.nb_engine.specs.History.{gathered}
+use Rattle.std.proofs.Common.{rules, ◌≡◌, ◌⊎◌, ◌<◌, inl, inr, ℕ, refl, ap, ◌∙◌, arith, None}
+use Rattle.nb_engine.proofs.Common.{quiet_begun, quiet_joined, broken_at, History, pages_of, Held, tested_on, not_linked, spots_found, walks_first, walks_broken, walks_next, walks_none, walks_all, walks_last, walks_length, walks_over, Walked, gathered}
 use Rattle.nb_engine.proofs.SlotLaws.{Gathers, walked_of, gathered_none}
 use Rattle.nb_engine.proofs.walk.walk.Goals as goal
 

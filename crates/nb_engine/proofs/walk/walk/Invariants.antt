@@ -1,11 +1,5 @@
-use Rattle.std.proofs.Common.{◌≡◌, ◌⊎◌, ◌+◌, ◌-◌, ◌<◌, ◌≤◌, length}
-use Rattle.std.specs.Prelude.{IsTrue, IfSome}
-use Rattle.nb_page.specs.Quiet.{Quiet}
-use Rattle.nb_model.specs.Chains.{History}
-use Rattle.nb_model.specs.Trail.{Trail}
-use Rattle.nb_state.specs.Open.{IsOpen, but_pages}
-use Rattle.nb_walk.proofs.WalkLaws.{Walks}
-use Rattle.nb_engine.specs.History.{IsPlaced}
+use Rattle.std.proofs.Common.{◌≡◌, ◌⊎◌, ◌+◌, ◌-◌, ◌<◌, ◌≤◌, length, IsTrue, IfSome}
+use Rattle.nb_engine.proofs.Common.{Quiet, History, Trail, IsOpen, but_pages, Walks, IsPlaced}
 use Rattle.nb_engine.proofs.SlotLaws.{Gathers}
 use Rattle.nb_engine.proofs.walk.walk.Given as goal
 

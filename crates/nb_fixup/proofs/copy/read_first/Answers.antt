@@ -1,6 +1,6 @@
 use Rattle.std.proofs.Common.{ℕ, List, take, ap, sym, subst, ◌∙◌}
-use Rattle.nb_host.specs.Files.{File, Files, bytes_of}
-use Rattle.nb_fixup.specs.Tests.{Tested, file_cause}
+use Rattle.nb_fixup.proofs.Common.{File, Files, Tested, file_cause}
+use Rattle.nb_host.specs.Files.{bytes_of}
 use Rattle.nb_fixup.proofs.AnswerLaws.{IsLong, long_file, page_of}
 use Rattle.nb_fixup.proofs.copy.read_first.Goals as goal
 

@@ -1,10 +1,5 @@
-use Rattle.std.proofs.Common.{ℕ, ◌+◌, List, refl, sym, ap, subst, ◌∙◌, arith, drop, length}
-use Rattle.std.specs.Prelude.{Err}
-use Rattle.nb_host.specs.Files.{Files}
-use Rattle.nb_host.specs.declared.faults.Fault.{Fault}
-use Rattle.nb_page.proofs.QuietLaws.{quiet_begun, quiet_joined}
-use Rattle.nb_fold.specs.Checking.{AddSays, AreAlike, IsAdded}
-use Rattle.nb_fold.specs.Sources.{Held}
+use Rattle.std.proofs.Common.{ℕ, ◌+◌, List, refl, sym, ap, subst, ◌∙◌, arith, drop, length, Err}
+use Rattle.nb_fold.proofs.Common.{Files, Fault, quiet_begun, quiet_joined, AddSays, AreAlike, IsAdded, Held}
 use Rattle.nb_fold.proofs.AddLaws.{SoFarOpened, opened_none, opened_refused, opened_one, opened_all}
 use Rattle.nb_fold.proofs.OpenLaws.{fault_is}
 use Rattle.nb_restore.proofs.SourceLaws.{names_from}

@@ -1,14 +1,6 @@
-use Rattle.std.proofs.Common.{ℕ, ◌*◌, List, length, refl, sym, ap, subst}
-use Rattle.std.specs.Prelude.{Bool, OnOk}
-use Rattle.nb_host.specs.Files.{File}
-use Rattle.nb_host.specs.World.{World}
-use Rattle.nb_host.specs.Crash.{PageLeft}
-use Rattle.nb_change.specs.Changes.{Only}
-use Rattle.nb_change.proofs.MovedLaws.{remade_begun}
-use Rattle.nb_restore.specs.Target.{IsKept}
-use Rattle.nb_restore.proofs.FrontLaws.{named}
+use Rattle.std.proofs.Common.{ℕ, ◌*◌, List, length, refl, sym, ap, subst, Bool, OnOk}
+use Rattle.nb_inplace.proofs.Common.{File, World, PageLeft, Only, remade_begun, IsKept, named, begun_file}
 use Rattle.nb_restore.proofs.TargetLaws.{page_last, sync_more, sync_kept}
-use Rattle.nb_inplace.specs.Merging.{begun_file}
 use Rattle.nb_inplace.proofs.merging.begin.Goals as goal
 
 -- what a write of page 0 leaves

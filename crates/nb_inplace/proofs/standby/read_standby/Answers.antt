@@ -1,10 +1,5 @@
-use Rattle.std.proofs.Common.{ℕ, List, take, sym, ap, subst, ◌∙◌}
-use Rattle.std.specs.Prelude.{Some}
-use Rattle.nb_host.specs.Files.{File, Files, bytes_of}
-use Rattle.nb_host.specs.declared.refusals.Refusal.TheVariants.{NoFile}
-use Rattle.nb_model.specs.InPlace.{not_standby}
-use Rattle.nb_fixup.specs.Tests.{Tested}
-use Rattle.nb_fixup.proofs.AnswerLaws.{IsLong, long_file}
+use Rattle.std.proofs.Common.{ℕ, List, take, sym, ap, subst, ◌∙◌, Some}
+use Rattle.nb_inplace.proofs.Common.{File, Files, bytes_of, NoFile, not_standby, Tested, IsLong, long_file}
 use Rattle.nb_inplace.proofs.StandbyLaws.{not_there}
 use Rattle.nb_inplace.proofs.standby.read_standby.Goals as goal
 

@@ -1,7 +1,5 @@
 use Rattle.std.proofs.Common.{ℕ, ◌*◌, inl, inr, ⊎_elim, List, length, ap, ◌∙◌}
-use Rattle.nb_host.specs.Files.{File, Files, with_page}
-use Rattle.nb_host.specs.World.{World}
-use Rattle.nb_host.specs.Crash.{PageLeft}
+use Rattle.nb_restore.proofs.Common.{File, Files, with_page, World, PageLeft}
 use Rattle.nb_restore.proofs.FrontLaws.{named, page_read}
 use Rattle.nb_restore.proofs.TargetLaws.{sync_first, page_last, sync_more, sync_kept}
 use Rattle.nb_restore.proofs.first.write_first.Goals as goal

@@ -1,5 +1,5 @@
 use Rattle.std.proofs.Common.{ℕ, List, arith, ap, ◌∙◌}
-use Rattle.nb_host.specs.Files.{Files, with_bytes}
+use Rattle.nb_restore.proofs.Common.{Files, with_bytes}
 use Rattle.nb_restore.proofs.FrontLaws.{named, front_still, front_then_bytes}
 use Rattle.nb_restore.proofs.PieceLaws.{piece_short, piece_whole}
 use Rattle.nb_restore.proofs.records.copy_piece.Goals as goal

@@ -1,6 +1,5 @@
 use Rattle.std.proofs.Common.{inr, ap, sym, subst}
-use Rattle.nb_host.specs.Files.{Files}
-use Rattle.nb_restore.specs.Target.{IsFree}
+use Rattle.nb_restore.proofs.Common.{Files, IsFree}
 use Rattle.nb_restore.proofs.FrontLaws.{named}
 use Rattle.nb_restore.proofs.TargetLaws.{made, made_reads, page_made, page_reads, sync_more, kept_page}
 use Rattle.nb_restore.proofs.target.begin.Goals as goal

@@ -1,17 +1,9 @@
-use Rattle.std.proofs.Common.{ℕ, [], refl, ap, ◌∙◌}
-use Rattle.std.specs.Prelude.{Ok, Err, Some}
-use Rattle.nb_host.specs.declared.faults.Fault.TheVariants.{Device}
-use Rattle.nb_model.specs.declared.reply.Reply.TheVariants.{Done, PageMade, Value, Scn, ImageShown, CacheShown}
-use Rattle.nb_model.specs.Pages.{write_turn, header_turn}
-use Rattle.nb_model.specs.Turns.{first_turn}
-use Rattle.nb_engine.specs.Replies.{done, page_made, valued, scn_is}
+use Rattle.std.proofs.Common.{ℕ, [], refl, ap, ◌∙◌, Ok, Err, Some}
+use Rattle.nb_session.proofs.Common.{Device, Done, PageMade, Value, Scn, ImageShown, CacheShown, write_turn, header_turn, first_turn, done, page_made, valued, scn_is, Held, some_said, quiet_begun}
 use Rattle.nb_shown.specs.Replies.{pages_shown, image_shown}
-use Rattle.nb_state.specs.Open.{Held}
-use Rattle.nb_session.specs.Replies.{some_said}
 use Rattle.nb_session.proofs.ActLaws.{some_by, does_acts, does_replied, replied_err, replied_memory, may_passed, may_value, sync_acts, sync_failed, begin_acts, cache_acts}
 use Rattle.nb_session.proofs.HeaderLaws.{header_does}
 use Rattle.nb_session.proofs.TurnLaws.{seen_now}
-use Rattle.nb_page.proofs.QuietLaws.{quiet_begun}
 use Rattle.nb_session.proofs.statement.do_statement.Goals as goal
 
 pub returns-in-Write-clause-turn : goal.returns-in-Write-clause-turn

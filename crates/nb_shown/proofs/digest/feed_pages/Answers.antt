@@ -1,8 +1,5 @@
 use Rattle.std.proofs.Common.{◌≡◌, ℕ, ◌+◌, ◌<◌, ◌++◌, suc, length, take, ap, subst, ◌∙◌, arith}
-use Rattle.sha2.specs.Hashers.{Holds256}
-use Rattle.nb_page.proofs.QuietLaws.{quiet_joined}
-use Rattle.nb_model.specs.Image.{Page, page_at}
-use Rattle.nb_shown.specs.Replies.{bytes_of_image}
+use Rattle.nb_shown.proofs.Common.{Holds256, quiet_joined, Page, page_at, bytes_of_image}
 use Rattle.nb_shown.proofs.DigestLaws.{bytes_more}
 use Rattle.nb_shown.proofs.ReadCounts.{fed_read}
 use Rattle.nb_shown.proofs.digest.feed_pages.Goals as goal

@@ -1,10 +1,5 @@
-use Rattle.std.proofs.Common.{◌≡◌, ◌+◌, ◌≤◌, [], take}
-use Rattle.std.specs.Prelude.{IsTrue, min}
-use Rattle.sha2.specs.Hashers.{Holds256}
-use Rattle.nb_page.specs.Quiet.{Quiet}
-use Rattle.nb_model.specs.Trail.{Trail}
-use Rattle.nb_state.specs.Open.{IsOpen, but_pages}
-use Rattle.nb_shown.specs.Replies.{bytes_of_image}
+use Rattle.std.proofs.Common.{◌≡◌, ◌+◌, ◌≤◌, [], take, IsTrue, min}
+use Rattle.nb_shown.proofs.Common.{Holds256, Quiet, Trail, IsOpen, but_pages, bytes_of_image}
 use Rattle.nb_shown.proofs.digest.feed_pages.Given as goal
 
 -- the pages so far were fed

@@ -1,10 +1,6 @@
-use Rattle.std.proofs.Common.{ℕ, List}
-use Rattle.std.specs.Prelude.{None}
+use Rattle.std.proofs.Common.{ℕ, List, None}
+use Rattle.nb_shown.proofs.Common.{image_turn, goes_nowhere, seeing, tested_does, valued_does, bytes_of_image, image_shown}
 use Rattle.nb_host.specs.declared.faults.Fault.TheVariants.{Device}
-use Rattle.nb_model.specs.Pages.{image_turn}
-use Rattle.nb_state.proofs.MakesLaws.{goes_nowhere}
-use Rattle.nb_alloc.proofs.DoesLaws.{seeing, tested_does, valued_does}
-use Rattle.nb_shown.specs.Replies.{bytes_of_image, image_shown}
 use Rattle.nb_shown.proofs.TurnLaws.{image_says, never_refused}
 use Rattle.nb_shown.proofs.digest.image_digest.Goals as goal
 

@@ -1,15 +1,6 @@
-use Rattle.std.proofs.Common.{◌≡◌, ℕ, ◌+◌, ◌-◌, ◌*◌, ◌/◌, ◌<◌, ◌≤◌, length, refl, sym, ap, subst, ◌∙◌, arith}
-use Rattle.std.specs.Prelude.{min, Err, None}
-use Rattle.std.proofs.Math.Nat.{le-div_iff_mul-le}
-use Rattle.nb_fields.specs.Places.{bits_in, inventory_place}
-use Rattle.nb_fields.proofs.PlaceLaws.{bits-least}
-use Rattle.nb_fields.specs.Kinds.{inventory_kind}
-use Rattle.nb_page.proofs.QuietLaws.{quiet_begun, quiet_joined}
-use Rattle.nb_model.specs.Causes.{not_kind}
+use Rattle.std.proofs.Common.{◌≡◌, ℕ, ◌+◌, ◌-◌, ◌*◌, ◌/◌, ◌<◌, ◌≤◌, length, refl, sym, ap, subst, ◌∙◌, arith, min, Err, None}
+use Rattle.nb_shown.proofs.Common.{le-div_iff_mul-le, bits_in, inventory_place, bits-least, inventory_kind, quiet_begun, quiet_joined, not_kind, Held, tested_on, PageCounts}
 use Rattle.nb_model.proofs.MainLaws.{some_page}
-use Rattle.nb_state.specs.Open.{Held}
-use Rattle.nb_alloc.proofs.DoesLaws.{tested_on}
-use Rattle.nb_shown.specs.declared.counts.PageCounts.{PageCounts}
 use Rattle.nb_shown.proofs.NeedLaws.{needs_begun, needs_next, needs_refused, needs_done}
 use Rattle.nb_shown.proofs.ReadCounts.{pages_read}
 use Rattle.nb_shown.proofs.TurnLaws.{tested_at}

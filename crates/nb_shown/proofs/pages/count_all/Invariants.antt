@@ -1,10 +1,5 @@
-use Rattle.std.proofs.Common.{◌≡◌, ◌+◌, ◌-◌, ◌*◌, ◌≤◌, length}
-use Rattle.std.specs.Prelude.{IsTrue, min}
-use Rattle.nb_fields.specs.Places.{bits_in}
-use Rattle.nb_page.specs.Quiet.{Quiet}
-use Rattle.nb_model.specs.Trail.{Trail}
-use Rattle.nb_state.specs.Open.{IsOpen, but_pages}
-use Rattle.nb_shown.specs.Counts.{counts_below, inventories_below, sum_of}
+use Rattle.std.proofs.Common.{◌≡◌, ◌+◌, ◌-◌, ◌*◌, ◌≤◌, length, IsTrue, min}
+use Rattle.nb_shown.proofs.Common.{bits_in, Quiet, Trail, IsOpen, but_pages, counts_below, inventories_below, sum_of}
 use Rattle.nb_shown.proofs.NeedLaws.{NeedsFrom}
 use Rattle.nb_shown.proofs.pages.count_all.Given as goal
 

@@ -1,9 +1,5 @@
-use Rattle.std.proofs.Common.{◌≡◌, ℕ, ◌+◌, ◌*◌, ◌<◌, length, sym, ap, ◌∙◌, arith}
-use Rattle.std.specs.Prelude.{not}
-use Rattle.nb_fields.specs.Places.{bits_in}
-use Rattle.nb_page.proofs.QuietLaws.{quiet_joined}
-use Rattle.nb_model.specs.Forms.{is_free_page}
-use Rattle.nb_shown.specs.Counts.{counts_below}
+use Rattle.std.proofs.Common.{◌≡◌, ℕ, ◌+◌, ◌*◌, ◌<◌, length, sym, ap, ◌∙◌, arith, not}
+use Rattle.nb_shown.proofs.Common.{bits_in, quiet_joined, is_free_page, counts_below}
 use Rattle.nb_shown.proofs.BitLaws.{used_is}
 use Rattle.nb_shown.proofs.ReadCounts.{page_read}
 use Rattle.nb_shown.proofs.pages.count_covered.Goals as goal

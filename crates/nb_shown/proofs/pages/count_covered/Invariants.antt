@@ -1,11 +1,5 @@
-use Rattle.std.proofs.Common.{◌≡◌, ℕ, ◌+◌, ◌*◌, ◌<◌, ◌≤◌, length}
-use Rattle.std.specs.Prelude.{IsTrue, min}
-use Rattle.nb_fields.specs.Places.{bits_in, inventory_place}
-use Rattle.nb_page.specs.Quiet.{Quiet}
-use Rattle.nb_model.specs.Image.{page_at}
-use Rattle.nb_model.specs.Trail.{Trail}
-use Rattle.nb_state.specs.Open.{IsOpen, but_pages}
-use Rattle.nb_shown.specs.Counts.{counts_below, sum_of}
+use Rattle.std.proofs.Common.{◌≡◌, ℕ, ◌+◌, ◌*◌, ◌<◌, ◌≤◌, length, IsTrue, min}
+use Rattle.nb_shown.proofs.Common.{bits_in, inventory_place, Quiet, page_at, Trail, IsOpen, but_pages, counts_below, sum_of}
 use Rattle.nb_shown.proofs.pages.count_covered.Given as goal
 
 -- the pages so far are counted

@@ -1,7 +1,5 @@
 use Rattle.std.proofs.Common.{◌≡◌, ◌+◌, ◌-◌, ◌≤◌, ℕ, length, sym, ap, ◌∙◌, arith}
-use Rattle.nb_fields.specs.Places.{inventory_place}
-use Rattle.nb_model.specs.Image.{page_at}
-use Rattle.nb_shown.specs.Counts.{counts_below}
+use Rattle.nb_shown.proofs.Common.{inventory_place, page_at, counts_below}
 use Rattle.nb_shown.proofs.pages.count_next.Goals as goal
 
 pub returns-clause-counts : goal.returns-clause-counts

@@ -1,9 +1,4 @@
-use Rattle.nb_model.specs.Backups.{all_needed, pages_turn}
-use Rattle.nb_model.specs.Causes.{not_of_form}
-use Rattle.nb_state.proofs.MakesLaws.{goes_nowhere}
-use Rattle.nb_alloc.proofs.DoesLaws.{seeing, tested_does, valued_does}
-use Rattle.nb_shown.specs.declared.counts.PageCounts.{PageCounts}
-use Rattle.nb_shown.specs.Replies.{pages_shown}
+use Rattle.nb_shown.proofs.Common.{all_needed, pages_turn, not_of_form, goes_nowhere, seeing, tested_does, valued_does, PageCounts, pages_shown}
 use Rattle.nb_shown.proofs.TurnLaws.{pages_refused, pages_says}
 use Rattle.nb_shown.proofs.pages.count_pages.Goals as goal
 

@@ -1,17 +1,5 @@
-use Rattle.std.proofs.Common.{◌≡◌, ℕ, List, refl, sym, ◌∙◌}
-use Rattle.std.specs.Prelude.{true, false, is_some}
-use Rattle.nb_host.specs.declared.refusals.Refusal.TheVariants.{KeyExists}
-use Rattle.nb_model.specs.declared.reply.Reply.TheVariants.{Done}
-use Rattle.nb_model.specs.Causes.{read_only, too_long}
-use Rattle.nb_model.specs.Chains.{RowsFrom, Slot, found_pages, spots, row_spot, row_slot, place_slot}
-use Rattle.nb_model.specs.Forms.{drafted}
-use Rattle.nb_model.specs.Outcomes.{Seen}
-use Rattle.nb_model.specs.Tables.{insert_turn}
-use Rattle.nb_engine.specs.Replies.{done}
-use Rattle.nb_alloc.proofs.DoesLaws.{seeing, refused_does, tested_does, tries_does, tries_after}
-use Rattle.nb_table.specs.declared.rows.Rows.{Rows}
-use Rattle.nb_table.specs.Rows.{rows_cause, place_cause}
-use Rattle.nb_table.specs.Walks.{spot_of}
+use Rattle.std.proofs.Common.{◌≡◌, ℕ, List, refl, sym, ◌∙◌, true, false, is_some}
+use Rattle.nb_table.proofs.Common.{KeyExists, Done, read_only, too_long, RowsFrom, Slot, found_pages, spots, row_spot, row_slot, place_slot, drafted, Seen, insert_turn, done, seeing, refused_does, tested_does, tries_does, tries_after, Rows, rows_cause, place_cause, spot_of}
 use Rattle.nb_table.proofs.InTableLaws.{chain_formed_from}
 use Rattle.nb_table.proofs.ChangeLaws.{said, key_known, key_new, walked_room, walked_key, insert_refused, insert_goes}
 use Rattle.nb_table.proofs.change.insert.Goals as goal

@@ -1,13 +1,5 @@
 use Rattle.std.proofs.Common.{ℕ, List, refl}
-use Rattle.nb_model.specs.Causes.{read_only, too_long}
-use Rattle.nb_model.specs.Chains.{RowsFrom, spots}
-use Rattle.nb_model.specs.Outcomes.{Seen}
-use Rattle.nb_model.specs.Tables.{in_row, update_turn}
-use Rattle.nb_engine.specs.Replies.{done}
-use Rattle.nb_alloc.proofs.DoesLaws.{seeing, tested_does}
-use Rattle.nb_table.specs.declared.rows.Rows.{Rows}
-use Rattle.nb_table.specs.Rows.{rows_cause}
-use Rattle.nb_table.specs.Walks.{spot_of}
+use Rattle.nb_table.proofs.Common.{read_only, too_long, RowsFrom, spots, Seen, in_row, update_turn, done, seeing, tested_does, Rows, rows_cause, spot_of}
 use Rattle.nb_table.proofs.InTableLaws.{chain_formed_from, table_does}
 use Rattle.nb_table.proofs.ChangeLaws.{walked_found, update_refused, update_goes}
 use Rattle.nb_table.proofs.change.update.Goals as goal

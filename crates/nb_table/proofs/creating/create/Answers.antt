@@ -1,26 +1,8 @@
-use Rattle.std.proofs.Common.{◌≡◌, ℕ, List, refl, sym, ap, ◌∙◌, arith}
-use Rattle.std.specs.Prelude.{Option}
-use Rattle.nb_fields.specs.Kinds.{data_kind}
-use Rattle.nb_page.proofs.QuietLaws.{quiet_begun}
-use Rattle.nb_model.specs.declared.reply.Reply.TheVariants.{Done}
-use Rattle.nb_model.specs.Causes.{read_only}
-use Rattle.nb_model.specs.Forms.{is_kind}
-use Rattle.nb_host.specs.declared.refusals.Refusal.TheVariants.{NotDatabase}
-use Rattle.nb_engine.specs.Data.{unmade}
-use Rattle.nb_model.specs.Chains.{Catalogue}
-use Rattle.nb_model.specs.Image.{is_read_only}
-use Rattle.nb_model.specs.Outcomes.{Seen}
-use Rattle.nb_model.specs.Tables.{create_turn}
-use Rattle.nb_model.proofs.TableTurns.{name_short}
-use Rattle.nb_engine.specs.Replies.{done}
-use Rattle.nb_alloc.proofs.DoesLaws.{seeing, tested_does, tries_after, tries_does}
-use Rattle.nb_state.specs.Open.{Held}
-use Rattle.nb_table.specs.declared.look.Place.{Place}
-use Rattle.nb_table.specs.Creates.{new_cause, created_in, created_behind}
+use Rattle.std.proofs.Common.{◌≡◌, ℕ, List, refl, sym, ap, ◌∙◌, arith, Option}
+use Rattle.nb_table.proofs.Common.{data_kind, quiet_begun, Done, read_only, is_kind, NotDatabase, unmade, Catalogue, is_read_only, Seen, create_turn, name_short, done, seeing, tested_does, tries_after, tries_does, Held, Place, new_cause, created_in, created_behind, is_so}
 use Rattle.nb_table.proofs.CreateTurnLaws.{create_denied, create_refused, create_at, create_last, new_formed, place_data}
 use Rattle.nb_table.proofs.PlaceLaws.{last_is_data}
 use Rattle.nb_table.proofs.ChangeLaws.{said}
-use Rattle.nb_model.proofs.TurnCases.{is_so}
 use Rattle.nb_table.proofs.creating.create.Goals as goal
 
 pub returns-in_err-check_access-clause-turn : goal.returns-in_err-check_access-clause-turn

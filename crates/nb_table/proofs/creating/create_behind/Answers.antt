@@ -1,11 +1,5 @@
-use Rattle.std.proofs.Common.{ℕ, List, refl, ◌∙◌}
-use Rattle.std.specs.Prelude.{Ok, Err}
-use Rattle.nb_model.specs.Chains.{Catalogue, found_pages}
-use Rattle.nb_base.specs.Takes.{after_strokes}
-use Rattle.nb_engine.specs.Data.{second_data, unmade, unmade_behind}
-use Rattle.nb_engine.specs.Tries.{Tries}
-use Rattle.nb_alloc.proofs.DoesLaws.{tries_early, tries_passed, tries_after}
-use Rattle.nb_table.specs.Creates.{first_made, created_behind}
+use Rattle.std.proofs.Common.{ℕ, List, refl, ◌∙◌, Ok, Err}
+use Rattle.nb_table.proofs.Common.{Catalogue, found_pages, after_strokes, second_data, unmade, unmade_behind, Tries, tries_early, tries_passed, tries_after, first_made, created_behind}
 use Rattle.nb_table.proofs.CreateLaws.{first, first_short, second, data_then, behind_front, behind_by, behind_then, second_short}
 use Rattle.nb_table.proofs.creating.create_behind.Goals as goal
 

@@ -1,10 +1,5 @@
-use Rattle.std.proofs.Common.{ℕ, List, refl, ◌∙◌}
-use Rattle.std.specs.Prelude.{Err}
-use Rattle.nb_base.specs.Takes.{after_strokes}
-use Rattle.nb_engine.specs.Data.{unmade, unmade_behind}
-use Rattle.nb_engine.specs.Tries.{Tries}
-use Rattle.nb_alloc.proofs.DoesLaws.{tries_early, tries_passed, tries_after}
-use Rattle.nb_table.specs.Creates.{first_made, created_in}
+use Rattle.std.proofs.Common.{ℕ, List, refl, ◌∙◌, Err}
+use Rattle.nb_table.proofs.Common.{after_strokes, unmade, unmade_behind, Tries, tries_early, tries_passed, tries_after, first_made, created_in}
 use Rattle.nb_table.proofs.CreateLaws.{first, first_short, in_named, kind_then, in_front, in_then}
 use Rattle.nb_table.proofs.creating.create_in.Goals as goal
 

@@ -1,11 +1,5 @@
-use Rattle.std.proofs.Common.{rules, ◌<◌, refl, ◌∙◌, arith, ℕ}
-use Rattle.std.specs.Prelude.{Option}
-use Rattle.nb_page.proofs.QuietLaws.{quiet_begun, quiet_joined}
-use Rattle.nb_model.specs.Causes.{lowest_broken}
-use Rattle.nb_model.specs.Chains.{RowsFrom}
-use Rattle.nb_engine.specs.Data.{not_data}
-use Rattle.nb_alloc.proofs.DoesLaws.{tested_on}
-use Rattle.nb_table.specs.Drops.{drop_broken}
+use Rattle.std.proofs.Common.{rules, ◌<◌, refl, ◌∙◌, arith, ℕ, Option}
+use Rattle.nb_table.proofs.Common.{quiet_begun, quiet_joined, lowest_broken, RowsFrom, not_data, tested_on, drop_broken}
 use Rattle.nb_table.proofs.CheckLaws.{checks_begun, checks_refused, checks_last, checks_onward, checks_over}
 use Rattle.nb_table.proofs.dropping.check_chain.Goals as goal
 

@@ -1,11 +1,5 @@
-use Rattle.std.proofs.Common.{◌≡◌, ℕ, List, length}
-use Rattle.std.specs.Prelude.{IsTrue, Ok}
-use Rattle.nb_page.specs.Quiet.{Quiet}
-use Rattle.nb_model.specs.Causes.{lowest_broken}
-use Rattle.nb_model.specs.Chains.{RowsFrom, pages_of}
-use Rattle.nb_model.specs.Trail.{Trail}
-use Rattle.nb_state.specs.Open.{IsOpen, but_pages}
-use Rattle.nb_engine.specs.Find.{need_cause}
+use Rattle.std.proofs.Common.{◌≡◌, ℕ, List, length, IsTrue, Ok}
+use Rattle.nb_table.proofs.Common.{Quiet, lowest_broken, RowsFrom, pages_of, Trail, IsOpen, but_pages, need_cause}
 use Rattle.nb_table.proofs.CheckLaws.{Checks}
 use Rattle.nb_table.proofs.dropping.check_chain.Given as goal
 

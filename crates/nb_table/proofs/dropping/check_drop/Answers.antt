@@ -1,10 +1,5 @@
-use Rattle.std.proofs.Common.{ℕ, List}
-use Rattle.std.specs.Prelude.{Option, None}
-use Rattle.nb_model.specs.Causes.{lowest_broken}
-use Rattle.nb_engine.specs.Behind.{entry_broken}
-use Rattle.nb_alloc.proofs.DoesLaws.{tested_on}
-use Rattle.nb_table.specs.Drops.{drop_broken}
-use Rattle.nb_host.proofs.PlainLaws.{none_some}
+use Rattle.std.proofs.Common.{ℕ, List, Option, None}
+use Rattle.nb_table.proofs.Common.{lowest_broken, entry_broken, tested_on, drop_broken, none_some}
 use Rattle.nb_table.proofs.dropping.check_drop.Goals as goal
 
 pub returns-in_err-lacking-clause-test : goal.returns-in_err-lacking-clause-test

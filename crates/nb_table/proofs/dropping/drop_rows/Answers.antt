@@ -1,15 +1,6 @@
-use Rattle.std.proofs.Common.{◌<◌, ℕ, List, subst, ◌∙◌, arith}
-use Rattle.std.specs.Prelude.{IsTrue, Err}
-use Rattle.nb_fields.specs.Places.{is_page_size}
-use Rattle.nb_model.specs.Causes.{lowest_broken, not_of_form}
-use Rattle.nb_model.specs.Chains.{RowsFrom, first_in, found_pages}
-use Rattle.nb_model.specs.Image.{image_scn}
-use Rattle.nb_engine.specs.Behind.{entry_broken}
-use Rattle.nb_engine.specs.Tries.{Tries}
-use Rattle.nb_alloc.proofs.DoesLaws.{tries_early, tries_passed, tries_after}
+use Rattle.std.proofs.Common.{◌<◌, ℕ, List, subst, ◌∙◌, arith, IsTrue, Err}
+use Rattle.nb_table.proofs.Common.{is_page_size, lowest_broken, not_of_form, RowsFrom, first_in, found_pages, image_scn, entry_broken, Tries, tries_early, tries_passed, tries_after, dropped, drop_broken, spot_of}
 use Rattle.nb_engine.proofs.NewTurn.{header_of, shaped_of}
-use Rattle.nb_table.specs.Drops.{dropped, drop_broken}
-use Rattle.nb_table.specs.Walks.{spot_of}
 use Rattle.nb_table.proofs.DropLaws.{table_least, drop_cause, its_chain, its_kind, drop_front, drop_then, drop_opened, drop_shaped, drop_chain, drop_givable}
 use Rattle.nb_table.proofs.dropping.drop_rows.Goals as goal
 

@@ -1,14 +1,5 @@
 use Rattle.std.proofs.Common.{ℕ, List, [], refl}
-use Rattle.nb_model.specs.declared.reply.Reply.TheVariants.{Done}
-use Rattle.nb_model.specs.Causes.{read_only, too_long, not_of_form}
-use Rattle.nb_model.specs.Outcomes.{Seen}
-use Rattle.nb_model.specs.Tables.{drop_turn}
-use Rattle.nb_engine.specs.Replies.{done}
-use Rattle.nb_alloc.proofs.DoesLaws.{seeing, tested_does, tries_after, tries_does}
-use Rattle.nb_table.specs.declared.rows.Rows.{Rows}
-use Rattle.nb_table.specs.Drops.{dropped}
-use Rattle.nb_table.specs.Rows.{rows_cause}
-use Rattle.nb_table.specs.Walks.{spot_of}
+use Rattle.nb_table.proofs.Common.{Done, read_only, too_long, not_of_form, Seen, drop_turn, done, seeing, tested_does, tries_after, tries_does, Rows, dropped, rows_cause, spot_of}
 use Rattle.nb_table.proofs.DropTurnLaws.{drop_refused, whole_table, drop_says}
 use Rattle.nb_table.proofs.ChangeLaws.{said}
 use Rattle.nb_table.proofs.dropping.drop_table.Goals as goal

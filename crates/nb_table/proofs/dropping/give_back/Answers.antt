@@ -1,12 +1,5 @@
-use Rattle.std.proofs.Common.{ℕ, sym, ap, ◌∙◌}
-use Rattle.std.specs.Prelude.{Ok, Err}
-use Rattle.nb_model.specs.Chains.{next_in}
-use Rattle.nb_model.specs.Forms.{drafted, give_page}
-use Rattle.nb_engine.specs.Data.{not_data}
-use Rattle.nb_engine.specs.Mark.{mark_cause}
-use Rattle.nb_engine.specs.Tries.{Tries}
-use Rattle.nb_alloc.proofs.DoesLaws.{tries_early, tries_passed, tries_after, tries_other, tries_valued}
-use Rattle.nb_host.proofs.PlainLaws.{none_some}
+use Rattle.std.proofs.Common.{ℕ, sym, ap, ◌∙◌, Ok, Err}
+use Rattle.nb_table.proofs.Common.{next_in, drafted, give_page, not_data, mark_cause, Tries, tries_early, tries_passed, tries_after, tries_other, tries_valued, none_some}
 use Rattle.nb_table.proofs.dropping.give_back.Goals as goal
 
 pub returns-in_err-data_read-clause-tries : goal.returns-in_err-data_read-clause-tries

@@ -1,10 +1,5 @@
-use Rattle.std.proofs.Common.{ℕ, ap, ◌∙◌}
-use Rattle.std.specs.Prelude.{Option, None}
-use Rattle.nb_model.specs.Chains.{next_in}
-use Rattle.nb_engine.specs.Behind.{give_broken}
-use Rattle.nb_engine.specs.Data.{not_data}
-use Rattle.nb_alloc.proofs.DoesLaws.{tested_on}
-use Rattle.nb_host.proofs.PlainLaws.{none_some}
+use Rattle.std.proofs.Common.{ℕ, ap, ◌∙◌, Option, None}
+use Rattle.nb_table.proofs.Common.{next_in, give_broken, not_data, tested_on, none_some}
 use Rattle.nb_table.proofs.dropping.look_further.Goals as goal
 
 pub returns-in_err-data_read-clause-test : goal.returns-in_err-data_read-clause-test

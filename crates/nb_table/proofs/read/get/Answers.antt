@@ -1,13 +1,5 @@
 use Rattle.std.proofs.Common.{◌≡◌, ℕ, List, [], ap, sym, ◌∙◌}
-use Rattle.nb_page.proofs.QuietLaws.{quiet_joined}
-use Rattle.nb_model.specs.declared.reply.Reply.TheVariants.{Value}
-use Rattle.nb_model.specs.Chains.{Spot, text_in}
-use Rattle.nb_model.specs.Outcomes.{Seen, says}
-use Rattle.nb_model.specs.Tables.{get_turn}
-use Rattle.nb_engine.specs.Replies.{valued}
-use Rattle.nb_alloc.proofs.DoesLaws.{seeing, valued_does, tested_does}
-use Rattle.nb_table.specs.declared.look.Found.{Found}
-use Rattle.nb_table.specs.Walks.{spot_of}
+use Rattle.nb_table.proofs.Common.{quiet_joined, Value, Spot, text_in, Seen, says, get_turn, valued, seeing, valued_does, tested_does, Found, spot_of}
 use Rattle.nb_table.proofs.FindLaws.{row_cause, row_found}
 use Rattle.nb_table.proofs.ReadTurns.{get_missing, get_refused, get_says}
 use Rattle.nb_table.proofs.read.get.Goals as goal

@@ -1,20 +1,7 @@
-use Rattle.std.proofs.Common.{◌≡◌, ℕ, List, [], ap, sym, subst, ◌∙◌}
-use Rattle.std.specs.Prelude.{None, Err}
-use Rattle.std.specs.BTreeMap.{BTreeMap}
-use Rattle.nb_host.specs.declared.faults.Fault.{Fault}
-use Rattle.nb_page.proofs.QuietLaws.{quiet_joined}
+use Rattle.std.proofs.Common.{◌≡◌, ℕ, List, [], ap, sym, subst, ◌∙◌, None, Err}
+use Rattle.nb_table.proofs.Common.{BTreeMap, Fault, quiet_joined, broken_at, RowsFrom, Spot, pages_of, spots, Seen, says, RowMap, rows_in, scan_turn, Tested, seeing, valued_does, tested_does, Found, spot_of, none_some}
 use Rattle.nb_model.specs.declared.reply.Reply.TheVariants.{Rows}
-use Rattle.nb_model.specs.Causes.{broken_at}
-use Rattle.nb_model.specs.Chains.{RowsFrom, Spot, pages_of, spots}
-use Rattle.nb_model.specs.Outcomes.{Seen, says}
-use Rattle.nb_model.specs.Rows.{RowMap, rows_in}
-use Rattle.nb_model.specs.Tables.{scan_turn}
-use Rattle.nb_state.specs.Does.{Tested}
-use Rattle.nb_alloc.proofs.DoesLaws.{seeing, valued_does, tested_does}
-use Rattle.nb_table.specs.declared.look.Found.{Found}
-use Rattle.nb_table.specs.Walks.{spot_of}
 use Rattle.nb_table.proofs.ReadTurns.{scan_missing, scan_broken, scan_says}
-use Rattle.nb_host.proofs.PlainLaws.{none_some}
 use Rattle.nb_table.proofs.read.scan.Goals as goal
 
 pub returns-in_err-found-clause-turn : goal.returns-in_err-found-clause-turn

@@ -1,16 +1,6 @@
-use Rattle.std.proofs.Common.{ℕ, List, refl, sym, ap, subst, ◌∙◌, arith}
-use Rattle.std.specs.Prelude.{IsTrue}
-use Rattle.std.specs.BTreeMap.{BTreeMap}
-use Rattle.nb_fields.specs.Places.{is_page_size}
-use Rattle.nb_page.proofs.QuietLaws.{quiet_begun, quiet_joined}
-use Rattle.nb_model.specs.Causes.{broken_at}
-use Rattle.nb_model.specs.Chains.{RowsFrom, pages_of, slots_in, spots_of, next_in}
-use Rattle.nb_model.specs.Rows.{rows_in}
-use Rattle.nb_alloc.proofs.DoesLaws.{tested_on}
-use Rattle.nb_walk.specs.Walks.{not_linked}
-use Rattle.nb_walk.proofs.WalkLaws.{walks_first, walks_broken, walks_next, walks_none, walks_all, walks_over}
+use Rattle.std.proofs.Common.{ℕ, List, refl, sym, ap, subst, ◌∙◌, arith, IsTrue}
+use Rattle.nb_table.proofs.Common.{BTreeMap, is_page_size, quiet_begun, quiet_joined, broken_at, RowsFrom, pages_of, slots_in, spots_of, next_in, rows_in, tested_on, not_linked, walks_first, walks_broken, walks_next, walks_none, walks_all, walks_over, spots_found}
 use Rattle.nb_table.proofs.SortedLaws.{HoldsRows, any_rows, rows_none, rows_more}
-use Rattle.nb_walk.proofs.SpotLaws.{spots_found}
 use Rattle.nb_table.proofs.read.take_rows.Goals as goal
 
 pub loop-left-init : goal.loop-left-init

@@ -1,10 +1,5 @@
-use Rattle.std.proofs.Common.{◌≡◌, length}
-use Rattle.std.specs.Prelude.{IsTrue}
-use Rattle.nb_page.specs.Quiet.{Quiet}
-use Rattle.nb_model.specs.Chains.{RowsFrom}
-use Rattle.nb_model.specs.Trail.{Trail}
-use Rattle.nb_state.specs.Open.{IsOpen, but_pages}
-use Rattle.nb_walk.proofs.WalkLaws.{Walks}
+use Rattle.std.proofs.Common.{◌≡◌, length, IsTrue}
+use Rattle.nb_table.proofs.Common.{Quiet, RowsFrom, Trail, IsOpen, but_pages, Walks}
 use Rattle.nb_table.proofs.SortedLaws.{HoldsRows}
 use Rattle.nb_table.proofs.read.take_rows.Given as goal
 

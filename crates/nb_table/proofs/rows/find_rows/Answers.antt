@@ -1,13 +1,5 @@
 use Rattle.std.proofs.Common.{ℕ, sym, ap, ◌∙◌}
-use Rattle.nb_model.specs.Causes.{read_only, too_long, broken_at}
-use Rattle.nb_model.specs.Chains.{RowsFrom, pages_of}
-use Rattle.nb_state.specs.Open.{Held}
-use Rattle.nb_alloc.proofs.DoesLaws.{tested_on}
-use Rattle.nb_table.specs.declared.look.Found.{Found}
-use Rattle.nb_table.specs.declared.look.Walked.{Walked}
-use Rattle.nb_table.specs.declared.rows.Rows.{Rows}
-use Rattle.nb_table.specs.Rows.{rows_cause}
-use Rattle.nb_table.specs.Walks.{spot_of}
+use Rattle.nb_table.proofs.Common.{read_only, too_long, broken_at, RowsFrom, pages_of, Held, tested_on, Found, Walked, Rows, rows_cause, spot_of}
 use Rattle.nb_table.proofs.InTableLaws.{find_cause, before_fails, table_fails, behind_fails, chain_fails, rows_none}
 use Rattle.nb_table.proofs.rows.find_rows.Goals as goal
 

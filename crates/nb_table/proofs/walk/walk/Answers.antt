@@ -1,15 +1,6 @@
-use Rattle.std.proofs.Common.{rules, ℕ, refl, ap, ◌∙◌, arith}
-use Rattle.std.specs.Prelude.{None}
-use Rattle.nb_page.proofs.QuietLaws.{quiet_begun, quiet_joined}
-use Rattle.nb_model.specs.Causes.{broken_at}
-use Rattle.nb_model.specs.Chains.{first_of, pages_of}
-use Rattle.nb_alloc.proofs.DoesLaws.{tested_on}
-use Rattle.nb_table.specs.declared.look.Walked.{Walked}
-use Rattle.nb_walk.specs.Walks.{not_linked}
-use Rattle.nb_walk.proofs.WalkLaws.{walks_first, walks_broken, walks_next, walks_none, walks_all, walks_last, walks_length, walks_over}
-use Rattle.nb_table.specs.Walks.{chain_of, gathered}
+use Rattle.std.proofs.Common.{rules, ℕ, refl, ap, ◌∙◌, arith, None}
+use Rattle.nb_table.proofs.Common.{quiet_begun, quiet_joined, broken_at, first_of, pages_of, tested_on, Walked, not_linked, walks_first, walks_broken, walks_next, walks_none, walks_all, walks_last, walks_length, walks_over, chain_of, gathered, spots_found}
 use Rattle.nb_table.proofs.GatherLaws.{Gathers, walked_of, gathered_none}
-use Rattle.nb_walk.proofs.SpotLaws.{spots_found}
 use Rattle.nb_table.proofs.walk.walk.Goals as goal
 
 pub loop-left-init : goal.loop-left-init

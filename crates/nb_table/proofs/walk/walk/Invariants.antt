@@ -1,12 +1,6 @@
-use Rattle.std.proofs.Common.{◌≡◌, ◌+◌, ◌-◌, ◌≤◌, length}
-use Rattle.std.specs.Prelude.{IsTrue, IfSome}
-use Rattle.nb_page.specs.Quiet.{Quiet}
-use Rattle.nb_model.specs.Chains.{is_filled}
-use Rattle.nb_model.specs.Trail.{Trail}
-use Rattle.nb_state.specs.Open.{IsOpen, but_pages}
-use Rattle.nb_table.specs.Walks.{chain_of, IsPlaced}
+use Rattle.std.proofs.Common.{◌≡◌, ◌+◌, ◌-◌, ◌≤◌, length, IsTrue, IfSome}
+use Rattle.nb_table.proofs.Common.{Quiet, is_filled, Trail, IsOpen, but_pages, chain_of, IsPlaced, Walks}
 use Rattle.nb_table.proofs.GatherLaws.{Gathers}
-use Rattle.nb_walk.proofs.WalkLaws.{Walks}
 use Rattle.nb_table.proofs.walk.walk.Given as goal
 
 abbrev pub invariant-loop-left : goal.invariant-loop-left

@@ -1,18 +1,7 @@
-use Rattle.std.proofs.Common.{◌≡◌, ◌+◌, ◌*◌, [], length, refl, sym, ap, subst, ◌∙◌, arith}
-use Rattle.std.specs.Prelude.{slice_index, IsTrue}
-use Rattle.std.proofs.lemmas.List.{take_at}
-use Rattle.std.proofs.lemmas.Result.{on_ok_weaker}
-use Rattle.nb_host.specs.Files.{Files, bytes_of, with_file, with_page}
-use Rattle.nb_host.specs.World.{World}
-use Rattle.nb_change.proofs.ResultLaws.{whole_on_ok}
-use Rattle.nb_delta.specs.Known.{Known}
-use Rattle.nb_model.specs.Image.{image_in}
-use Rattle.nb_model.specs.Owner.{delta_name, owned_page}
-use Rattle.nb_model.specs.Trail.{Trail}
+use Rattle.std.proofs.Common.{◌≡◌, ◌+◌, ◌*◌, [], length, refl, sym, ap, subst, ◌∙◌, arith, slice_index, IsTrue}
+use Rattle.nb_base.proofs.Common.{take_at, on_ok_weaker, Files, bytes_of, with_file, World, whole_on_ok, Known, image_in, delta_name, owned_page, Trail, Held, IsOpen, AreMerged, StrikesFirm, the_view}
+use Rattle.nb_host.specs.Files.{with_page}
 use Rattle.nb_base.specs.Merging.{PutsPage}
-use Rattle.nb_base.specs.Open.{Held, IsOpen, AreMerged}
-use Rattle.nb_base.specs.Takes.{StrikesFirm}
-use Rattle.nb_base.specs.contracts.files.TwoFiles.{the_view}
 use Rattle.nb_base.proofs.AgreeLaws.{open_seen, seen_open}
 use Rattle.nb_base.proofs.StrokeLaws.{h0}
 use Rattle.nb_base.proofs.MergingLaws.{ReadsEntry, number_is, seen_still, struck_quiet, struck_joined, its_entry, merging, read_formed, read_size, its_hiding, merged_next}

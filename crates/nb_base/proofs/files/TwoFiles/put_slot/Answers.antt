@@ -1,16 +1,7 @@
 use Rattle.std.proofs.Common.{sym, ap, subst, ◌∙◌}
-use Rattle.std.proofs.lemmas.Result.{on_ok_weaker}
-use Rattle.nb_change.specs.Changes.{Only, Changes}
-use Rattle.nb_delta.specs.Known.{Known}
-use Rattle.nb_fields.specs.Table.{slot_place}
-use Rattle.nb_model.specs.Owner.{delta_name, entry_for}
-use Rattle.nb_model.specs.Trail.{StandsIn}
-use Rattle.nb_base.specs.Open.{Held}
-use Rattle.nb_base.specs.Going.{GoesIn}
-use Rattle.nb_base.specs.contracts.files.TwoFiles.{the_view}
+use Rattle.nb_base.proofs.Common.{on_ok_weaker, Only, Changes, Known, slot_place, delta_name, entry_for, StandsIn, Held, GoesIn, the_view, none_there}
 use Rattle.nb_base.proofs.PlaceLaws.{slot_answered, none_found}
 use Rattle.nb_base.proofs.SlotLaws.{slot_changes, slot_puts, slot_left, slot_goes}
-use Rattle.nb_host.proofs.PlainLaws.{none_there}
 use Rattle.nb_base.proofs.files.TwoFiles.put_slot.Goals as goal
 
 pub returns-in-Some-clause-left : goal.returns-in-Some-clause-left

@@ -1,12 +1,6 @@
-use Rattle.std.proofs.Common.{◌≡◌, ◌≤◌, ℕ, List, length, sym, ap, subst, arith}
-use Rattle.std.specs.Prelude.{OnOk}
-use Rattle.nb_fields.proofs.SizeLaws.{size_facts}
-use Rattle.nb_model.specs.Levels.{joined}
-use Rattle.nb_copy.specs.Copying.{Copying, IsOf, IsBegun}
-use Rattle.nb_gather.specs.Making.{IsFreeOr, IsKept}
-use Rattle.nb_gather.proofs.QuietLaws.{renamed, sync_then}
+use Rattle.std.proofs.Common.{◌≡◌, ◌≤◌, ℕ, List, length, sym, ap, subst, arith, OnOk}
+use Rattle.nb_copy.proofs.Common.{size_facts, joined, Copying, IsOf, IsBegun, IsFreeOr, IsKept, renamed, sync_then, touches_named, touches_then, touches_still, touches_page}
 use Rattle.nb_copy.proofs.CopyLaws.{page_is, close_synced, close_written, close_kept}
-use Rattle.nb_gather.proofs.TouchLaws.{touches_named, touches_then, touches_still, touches_page}
 use Rattle.nb_copy.proofs.page_copy.PageCopy.close.Goals as goal
 
 pub returns-in_err-write_page-clause-left : goal.returns-in_err-write_page-clause-left

@@ -1,12 +1,6 @@
 use Rattle.std.proofs.Common.{◌≡◌, ◌+◌, length, sym, ap, subst, ◌∙◌, arith}
-use Rattle.std.specs.Vec.{with_items}
-use Rattle.std.proofs.lemmas.List.{with_items_is}
-use Rattle.nb_fields.proofs.SizeLaws.{size_facts}
-use Rattle.nb_copy.specs.Copying.{Copying, IsOf, IsBegun}
-use Rattle.nb_gather.specs.Making.{IsBlank}
-use Rattle.nb_gather.proofs.QuietLaws.{named, renamed}
+use Rattle.nb_copy.proofs.Common.{with_items, with_items_is, size_facts, Copying, IsOf, IsBegun, IsBlank, named, renamed, touches_named, touches_then, touches_quiet, touches_page}
 use Rattle.nb_copy.proofs.CopyLaws.{page_written, quiet_keeps, begun_next}
-use Rattle.nb_gather.proofs.TouchLaws.{touches_named, touches_then, touches_quiet, touches_page}
 use Rattle.nb_copy.proofs.page_copy.PageCopy.copy_page.Goals as goal
 
 pub returns-in_err-write_page-clause-left : goal.returns-in_err-write_page-clause-left

@@ -1,22 +1,7 @@
-use Rattle.std.proofs.Common.{◌≡◌, ◌≤◌, ℕ, length, refl, sym, ap, subst, ◌∙◌, arith}
-use Rattle.std.specs.Prelude.{Some, None}
-use Rattle.std.proofs.lemmas.Result.{IfOk-weaker}
-use Rattle.nb_fields.specs.Payloads.{data_payload}
+use Rattle.std.proofs.Common.{◌≡◌, ◌≤◌, ℕ, length, refl, sym, ap, subst, ◌∙◌, arith, Some, None}
+use Rattle.nb_engine.proofs.Common.{IfOk-weaker, data_payload, NotDatabase, quiet_begun, drafted, owner_of, grown, Held, IsOpen, but_pages, behind_cause, new_behind, unmade, IsShort, data_short, tries_early, tries_failed, tries_after, tries_named, IsGrown, unmade_short, grown_unmade}
 use Rattle.nb_host.specs.declared.faults.Fault.TheVariants.{Refused}
-use Rattle.nb_host.specs.declared.refusals.Refusal.TheVariants.{NotDatabase}
-use Rattle.nb_page.proofs.QuietLaws.{quiet_begun}
-use Rattle.nb_model.specs.Forms.{drafted}
-use Rattle.nb_model.specs.Chains.{owner_of, grown}
-use Rattle.nb_state.specs.Open.{Held, IsOpen, but_pages}
-use Rattle.nb_alloc.specs.Behind.{behind_cause}
-use Rattle.nb_alloc.specs.Data.{new_behind, unmade}
-use Rattle.nb_alloc.specs.Search.{IsShort}
-use Rattle.nb_alloc.proofs.ContentLaws.{data_short}
-use Rattle.nb_alloc.proofs.DoesLaws.{tries_early, tries_failed, tries_after}
-use Rattle.nb_alloc.proofs.MakeLaws.{tries_named}
-use Rattle.nb_engine.specs.Room.{IsGrown}
 use Rattle.nb_engine.proofs.NewTurn.{searchable_of}
-use Rattle.nb_alloc.proofs.RoomsLaws.{unmade_short, grown_unmade}
 use Rattle.nb_engine.proofs.engine.Engine.data_grow.Goals as goal
 
 pub returns-then-count-lt-FIRST_TO_GIVE-clause-makes : goal.returns-then-count-lt-FIRST_TO_GIVE-clause-makes

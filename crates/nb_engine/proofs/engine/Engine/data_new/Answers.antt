@@ -1,20 +1,7 @@
-use Rattle.std.proofs.Common.{◌≡◌, ◌≤◌, ℕ, length, refl, sym, ap, subst, ◌∙◌, arith}
-use Rattle.std.specs.Prelude.{Some, None, IfOk}
-use Rattle.nb_fields.specs.Payloads.{data_payload}
+use Rattle.std.proofs.Common.{◌≡◌, ◌≤◌, ℕ, length, refl, sym, ap, subst, ◌∙◌, arith, Some, None, IfOk}
+use Rattle.nb_engine.proofs.Common.{data_payload, NotDatabase, quiet_begun, Draft, draft_cause, Held, IsOpen, but_pages, Tries, owner_by, new_data, unmade, IsShort, new_named, data_short, tries_early, tries_failed, tries_after, tries_named, unmade_short, unmade_long}
 use Rattle.nb_host.specs.declared.faults.Fault.TheVariants.{Refused}
-use Rattle.nb_host.specs.declared.refusals.Refusal.TheVariants.{NotDatabase}
-use Rattle.nb_page.proofs.QuietLaws.{quiet_begun}
-use Rattle.nb_model.specs.Forms.{Draft}
-use Rattle.nb_model.proofs.SearchLaws.{draft_cause}
-use Rattle.nb_state.specs.Open.{Held, IsOpen, but_pages}
-use Rattle.nb_alloc.specs.Tries.{Tries}
-use Rattle.nb_alloc.specs.Data.{owner_by, new_data, unmade}
-use Rattle.nb_alloc.specs.Search.{IsShort}
-use Rattle.nb_alloc.proofs.ContentLaws.{new_named, data_short}
-use Rattle.nb_alloc.proofs.DoesLaws.{tries_early, tries_failed, tries_after}
-use Rattle.nb_alloc.proofs.MakeLaws.{tries_named}
 use Rattle.nb_engine.proofs.NewTurn.{searchable_of}
-use Rattle.nb_alloc.proofs.RoomsLaws.{unmade_short, unmade_long}
 use Rattle.nb_engine.proofs.engine.Engine.data_new.Goals as goal
 
 pub returns-then-count-lt-FIRST_TO_GIVE-clause-makes : goal.returns-then-count-lt-FIRST_TO_GIVE-clause-makes

@@ -1,15 +1,6 @@
-use Rattle.std.proofs.Common.{◌≡◌, ℕ, List, [], ◌∷◌, ◌++◌, sym, ap, subst, ◌∙◌, arith}
-use Rattle.std.specs.Prelude.{true, false}
-use Rattle.std.proofs.lemmas.List.{append-nil}
-use Rattle.nb_fields.specs.Kinds.{inventory_kind}
-use Rattle.nb_model.specs.Causes.{lowest_broken}
-use Rattle.nb_model.specs.Forms.{inventory_of}
-use Rattle.nb_model.proofs.SoundLaws.{inventory_place_some}
-use Rattle.nb_state.specs.Open.{Held, IsOpen}
-use Rattle.nb_alloc.specs.Behind.{entry_broken, give_broken, page_in}
-use Rattle.nb_alloc.proofs.BehindLaws.{lacking_cause, other_none, other_page}
+use Rattle.std.proofs.Common.{◌≡◌, ℕ, List, [], ◌∷◌, ◌++◌, sym, ap, subst, ◌∙◌, arith, true, false}
+use Rattle.nb_engine.proofs.Common.{append-nil, inventory_kind, lowest_broken, inventory_of, inventory_place_some, Held, IsOpen, entry_broken, give_broken, page_in, lacking_cause, other_none, other_page, inventory_place_is}
 use Rattle.nb_alloc.proofs.PassLaws.{map_found}
-use Rattle.nb_alloc.proofs.TestLaws.{inventory_place_is}
 use Rattle.nb_engine.proofs.engine.Engine.free_ready.Goals as goal
 
 pub find_lacking-requires-clause-low : goal.find_lacking-requires-clause-low

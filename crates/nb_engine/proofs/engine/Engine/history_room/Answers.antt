@@ -1,32 +1,10 @@
-use Rattle.std.proofs.Common.{◌≡◌, ℕ, List, [], ◌∷◌, sym, ap, subst, ◌∙◌}
-use Rattle.std.specs.Prelude.{IsTrue, true, None, Ok, Err}
-use Rattle.nb_fields.specs.Page.{kind_of}
-use Rattle.nb_fields.specs.Kinds.{data_kind}
-use Rattle.nb_page.proofs.QuietLaws.{quiet_joined}
-use Rattle.nb_model.specs.Image.{page_at}
-use Rattle.nb_model.specs.Strokes.{Stroke}
-use Rattle.nb_model.specs.Trail.{Trail}
-use Rattle.nb_model.specs.Forms.{drafted, is_kind}
-use Rattle.nb_model.specs.Causes.{first_cause, broken_at, not_of_form, no_room, no_scn, short_for}
-use Rattle.nb_model.specs.Chains.{History, pages_of, found_pages, spots, free_spot, last_of, grown}
-use Rattle.nb_model.specs.Backups.{room_in}
-use Rattle.nb_state.specs.Open.{Held, IsOpen, but_pages}
-use Rattle.nb_state.specs.Does.{Makes}
-use Rattle.nb_state.proofs.MakesLaws.{makes_none}
-use Rattle.nb_engine.specs.declared.walk.Room.{Room}
-use Rattle.nb_engine.specs.declared.walk.Walked.{Walked}
-use Rattle.nb_engine.specs.Room.{room_cause, taken_draft, grow_cause}
-use Rattle.nb_alloc.specs.Search.{IsSearchable}
-use Rattle.nb_alloc.specs.Tries.{Tries}
-use Rattle.nb_alloc.proofs.DoesLaws.{tries_early, tries_passed, tries_made, tries_after, tries_other, tries_valued}
+use Rattle.std.proofs.Common.{◌≡◌, ℕ, List, [], ◌∷◌, sym, ap, subst, ◌∙◌, IsTrue, true, None, Ok, Err}
+use Rattle.nb_engine.proofs.Common.{kind_of, data_kind, quiet_joined, page_at, Stroke, Trail, drafted, is_kind, first_cause, broken_at, not_of_form, no_room, no_scn, short_for, History, pages_of, found_pages, spots, free_spot, last_of, grown, room_in, Held, IsOpen, but_pages, Makes, makes_none, Room, Walked, room_cause, taken_draft, grow_cause, IsSearchable, Tries, tries_early, tries_passed, tries_made, tries_after, tries_other, tries_valued, tries_named, first_here, kind_found}
 use Rattle.nb_engine.proofs.KeepLaws.{IsSpot, kept_room, kept_below, kept_none, kept_cause, grown_room, grown_low, grown_draft, grown_cause, room_some, room_none}
-use Rattle.nb_alloc.proofs.MakeLaws.{tries_named}
 use Rattle.nb_engine.proofs.NewTurn.{searchable_of}
 use Rattle.nb_engine.proofs.WalkLaws.{last_data, spot_data, history_least}
 use Rattle.nb_engine.proofs.engine.Engine.history_room.Goals as goal
 use Rattle.nb_engine.proofs.engine.Engine.history_room.Goals.{In-Some, In-None}
-use Rattle.nb_base.proofs.AttachLaws.{first_here}
-use Rattle.nb_model.proofs.RoundLaws.{kind_found}
 
 -- The walk has found a free slot.
 module _ (g : _) (c : goal.In-Some g) (t : Trail) (tells : IsTrue g.H.Host.tells) (is : IsOpen (g.H.Host.world c.args.host.now) c.args.self.now t) where

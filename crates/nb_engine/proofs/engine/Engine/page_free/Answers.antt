@@ -1,16 +1,7 @@
-use Rattle.std.proofs.Common.{◌≡◌, refl, sym, subst, ◌∙◌, ap}
-use Rattle.std.specs.Prelude.{true, None}
-use Rattle.nb_model.specs.declared.reply.Reply.TheVariants.{Done}
-use Rattle.nb_model.specs.Image.{is_read_only}
-use Rattle.nb_model.specs.Causes.{read_only}
-use Rattle.nb_model.specs.Outcomes.{Seen}
-use Rattle.nb_model.specs.Pages.{free_turn}
-use Rattle.nb_state.specs.Open.{Held, IsOpen, but_pages}
-use Rattle.nb_engine.specs.Replies.{done}
-use Rattle.nb_alloc.proofs.DoesLaws.{seeing, tested_does, refused_does, tries_does, if_ok, tries_after}
+use Rattle.std.proofs.Common.{◌≡◌, refl, sym, subst, ◌∙◌, ap, true, None}
+use Rattle.nb_engine.proofs.Common.{Done, is_read_only, read_only, Seen, free_turn, Held, IsOpen, but_pages, done, seeing, tested_does, refused_does, tries_does, if_ok, tries_after, stops_after}
 use Rattle.nb_engine.proofs.WriteLaws.{no_header}
 use Rattle.nb_engine.proofs.FreeLaws.{free_untaken, free_closed, free_is, closed_cause, open_cause}
-use Rattle.nb_alloc.proofs.WantLaws.{stops_after}
 use Rattle.nb_engine.proofs.engine.Engine.page_free.Goals as goal
 
 pub returns-in_err-read_raw-clause-turn : goal.returns-in_err-read_raw-clause-turn

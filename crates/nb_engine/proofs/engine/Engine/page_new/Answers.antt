@@ -1,19 +1,7 @@
-use Rattle.std.proofs.Common.{◌≡◌, ◌≤◌, ℕ, List, [], ◌∷◌, length, refl, sym, subst, ◌∙◌, arith, ap}
-use Rattle.std.specs.Prelude.{true, false, None, IfOk}
-use Rattle.nb_fields.specs.Payloads.{text_payload}
-use Rattle.nb_host.specs.declared.refusals.Refusal.TheVariants.{Access, NotDatabase}
-use Rattle.nb_page.proofs.QuietLaws.{quiet_begun}
-use Rattle.nb_model.specs.Image.{is_read_only}
+use Rattle.std.proofs.Common.{◌≡◌, ◌≤◌, ℕ, List, [], ◌∷◌, length, refl, sym, subst, ◌∙◌, arith, ap, true, false, None, IfOk}
+use Rattle.nb_engine.proofs.Common.{text_payload, Access, NotDatabase, quiet_begun, is_read_only, says, new_turn, draft_cause, Held, IsOpen, but_pages, Tries, new_raw, new_of, page_made, seeing, tries_after, tested_does, refused_does}
 use Rattle.nb_model.specs.declared.reply.Reply.TheVariants.{Refused as RefusedBy}
-use Rattle.nb_model.specs.Outcomes.{says}
-use Rattle.nb_model.specs.Pages.{new_turn}
 use Rattle.nb_model.proofs.NewSound.{empty_text}
-use Rattle.nb_model.proofs.SearchLaws.{draft_cause}
-use Rattle.nb_state.specs.Open.{Held, IsOpen, but_pages}
-use Rattle.nb_alloc.specs.Tries.{Tries}
-use Rattle.nb_alloc.specs.Make.{new_raw, new_of}
-use Rattle.nb_engine.specs.Replies.{page_made}
-use Rattle.nb_alloc.proofs.DoesLaws.{seeing, tries_after, tested_does, refused_does}
 use Rattle.nb_engine.proofs.NewTurn.{empty_is, searchable_of, new_closed, new_short, new_refused, new_says, made_does}
 use Rattle.nb_alloc.proofs.NewReads.{new_read}
 use Rattle.nb_engine.proofs.engine.Engine.page_new.Goals as goal

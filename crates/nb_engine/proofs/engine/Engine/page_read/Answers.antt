@@ -1,13 +1,5 @@
 use Rattle.std.proofs.Common.{◌≡◌, ℕ, ◌+◌, ◌≤◌, ◌<◌, ◌++◌, List, [], length, ap, sym, subst, ◌∙◌, arith}
-use Rattle.nb_fields.specs.Payloads.{text_length, text_of}
-use Rattle.nb_model.specs.declared.reply.Reply.TheVariants.{Value}
-use Rattle.nb_model.specs.Image.{page_at}
-use Rattle.nb_model.specs.Outcomes.{Seen, says}
-use Rattle.nb_model.specs.Pages.{read_turn}
-use Rattle.nb_state.specs.Open.{Held, IsOpen, but_pages}
-use Rattle.nb_engine.specs.Replies.{valued}
-use Rattle.nb_alloc.proofs.DoesLaws.{seeing, valued_does, refused_does, tested_does}
-use Rattle.nb_alloc.proofs.TestLaws.{at_ok, vec_whole, lt_from, le_from, text_short, read_refused, read_broken, read_says}
+use Rattle.nb_engine.proofs.Common.{text_length, text_of, Value, page_at, Seen, says, read_turn, Held, IsOpen, but_pages, valued, seeing, valued_does, refused_does, tested_does, at_ok, vec_whole, lt_from, le_from, text_short, read_refused, read_broken, read_says}
 use Rattle.nb_engine.proofs.engine.Engine.page_read.Goals as goal
 
 pub returns-in_err-read_raw-clause-turn : goal.returns-in_err-read_raw-clause-turn

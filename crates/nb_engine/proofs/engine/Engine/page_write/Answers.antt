@@ -1,28 +1,7 @@
-use Rattle.std.proofs.Common.{◌≡◌, ◌<◌, List, [], ◌∷◌, ◌++◌, refl, sym, subst, ◌∙◌, arith, ap}
-use Rattle.std.specs.Prelude.{None, Ok, Err, IsTrue}
-use Rattle.nb_host.specs.Faults.{as_fault}
-use Rattle.nb_fields.specs.Places.{entries_in}
-use Rattle.nb_model.specs.declared.reply.Reply.TheVariants.{Done}
-use Rattle.nb_model.specs.Image.{page_at, image_size}
-use Rattle.nb_model.specs.Strokes.{Stroke}
-use Rattle.nb_model.specs.Causes.{first_cause, read_only, not_raw, too_long}
-use Rattle.nb_model.specs.Outcomes.{Seen}
-use Rattle.nb_model.specs.Pages.{write_turn}
-use Rattle.nb_model.specs.Trail.{Trail}
-use Rattle.nb_state.specs.Open.{Held, IsOpen, but_pages}
-use Rattle.nb_state.specs.Does.{Does}
-use Rattle.nb_alloc.specs.Tries.{Tries}
-use Rattle.nb_alloc.specs.Put.{entry_cause, raise_strokes, raw_stroke}
-use Rattle.nb_engine.specs.Replies.{done}
-use Rattle.nb_alloc.proofs.TestLaws.{vec_whole}
-use Rattle.nb_alloc.proofs.MarkLaws.{entries_some}
-use Rattle.nb_alloc.proofs.DoesLaws.{seeing, tested_does, tries_does, if_err, tries_passed, tries_after, tries_front, tries_opened}
+use Rattle.std.proofs.Common.{◌≡◌, ◌<◌, List, [], ◌∷◌, ◌++◌, refl, sym, subst, ◌∙◌, arith, ap, None, Ok, Err, IsTrue}
+use Rattle.nb_engine.proofs.Common.{as_fault, entries_in, Done, page_at, image_size, Stroke, first_cause, read_only, not_raw, too_long, Seen, write_turn, Trail, Held, IsOpen, but_pages, Does, Tries, entry_cause, raise_strokes, raw_stroke, done, vec_whole, entries_some, seeing, tested_does, tries_does, if_err, tries_passed, tries_after, tries_front, tries_opened, counts_passed, memory_wanted, none_wanted, none_refused, after_strokes, stops_first, stops_then, stops_after}
 use Rattle.nb_engine.proofs.WriteLaws.{no_header, write_untaken, write_checked, write_is, write_does}
-use Rattle.nb_change.proofs.FaultLaws.{counts_passed, memory_wanted, none_wanted}
 use Rattle.nb_change.proofs.ResultLaws.{passed_on}
-use Rattle.nb_state.proofs.MakesLaws.{none_refused}
-use Rattle.nb_base.specs.Takes.{after_strokes}
-use Rattle.nb_alloc.proofs.WantLaws.{stops_first, stops_then, stops_after}
 use Rattle.nb_engine.proofs.engine.Engine.page_write.Goals as goal
 use Rattle.nb_engine.proofs.engine.Engine.page_write.Goals.{After-deref_mut-2}
 

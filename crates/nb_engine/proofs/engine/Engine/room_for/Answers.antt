@@ -1,12 +1,6 @@
-use Rattle.std.proofs.Common.{◌≡◌, ◌≤◌, ℕ, length, sym, ap, subst, ◌∙◌, arith}
-use Rattle.std.specs.Prelude.{Some}
-use Rattle.nb_host.specs.declared.refusals.Refusal.TheVariants.{NotDatabase}
-use Rattle.nb_state.specs.Open.{Held, IsOpen}
-use Rattle.nb_alloc.specs.Data.{second_data}
-use Rattle.nb_alloc.specs.Make.{new_of}
-use Rattle.nb_alloc.proofs.DoesLaws.{tested_on}
+use Rattle.std.proofs.Common.{◌≡◌, ◌≤◌, ℕ, length, sym, ap, subst, ◌∙◌, arith, Some}
+use Rattle.nb_engine.proofs.Common.{NotDatabase, Held, IsOpen, second_data, new_of, tested_on, behind_short, behind_long}
 use Rattle.nb_engine.proofs.NewTurn.{searchable_of}
-use Rattle.nb_alloc.proofs.RoomsLaws.{behind_short, behind_long}
 use Rattle.nb_engine.proofs.engine.Engine.room_for.Goals as goal
 
 pub returns-then-count-lt-FIRST_TO_GIVE-clause-one : goal.returns-then-count-lt-FIRST_TO_GIVE-clause-one

@@ -1,5 +1,5 @@
 use Rattle.std.proofs.Common.{subst}
-use Rattle.nb_file.specs.Gathered.{IsFreeFor}
+use Rattle.nb_file.proofs.Common.{IsFreeFor}
 use Rattle.nb_file.proofs.TableLaws.{free_for_named, free_for_name, at_ok}
 use Rattle.nb_file.proofs.table.Table.write_page.Goals as goal
 

@@ -1,14 +1,8 @@
-use Rattle.std.proofs.Common.{sym, ap, subst, ◌∙◌, ◌≢◌}
-use Rattle.std.specs.Prelude.{OnOk}
-use Rattle.std.proofs.lemmas.Bool.{eqb-true}
-use Rattle.nb_model.specs.Levels.{runs_of}
-use Rattle.nb_model.proofs.ReadLaws.{eq_yes}
-use Rattle.nb_gather.specs.Gathering.{LevelWriting, HasTaken, MayHave, Reads, level_front}
-use Rattle.nb_gather.specs.Making.{IsUnfinished}
+use Rattle.std.proofs.Common.{sym, ap, subst, ◌∙◌, ◌≢◌, OnOk}
+use Rattle.nb_gather.proofs.Common.{eqb-true, runs_of, eq_yes, LevelWriting, HasTaken, MayHave, Reads, level_front, IsUnfinished, not_both}
 use Rattle.nb_gather.proofs.QuietLaws.{renamed}
 use Rattle.nb_gather.proofs.CloseLaws.{all_there, still_unfinished, last_left, last_reads, last_read}
 use Rattle.nb_gather.proofs.TouchLaws.{touches_named, touches_none, touches_two}
-use Rattle.nb_host.proofs.PlainLaws.{not_both}
 use Rattle.nb_gather.proofs.level_file.LevelFile.finish.Goals as goal
 
 pub returns-then-is_empty-clause-finished : goal.returns-then-is_empty-clause-finished

@@ -1,9 +1,5 @@
 use Rattle.std.proofs.Common.{[], ◌∷◌, sym, ap, ◌∙◌}
-use Rattle.nb_change.specs.Changes.{Only}
-use Rattle.nb_change.proofs.MovedLaws.{remade_begun}
-use Rattle.nb_model.specs.Image.{Numbered}
-use Rattle.nb_gather.specs.Gathering.{LevelWriting}
-use Rattle.nb_gather.specs.Making.{IsUnfinished}
+use Rattle.nb_gather.proofs.Common.{Only, remade_begun, Numbered, LevelWriting, IsUnfinished}
 use Rattle.nb_gather.proofs.CloseLaws.{still_unfinished}
 use Rattle.nb_gather.proofs.FitLaws.{may_front}
 use Rattle.nb_gather.proofs.RunLaws.{one_run}

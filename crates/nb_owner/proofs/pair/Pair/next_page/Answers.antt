@@ -1,10 +1,7 @@
-use Rattle.std.proofs.Common.{sym, ap, ◌∙◌}
-use Rattle.std.specs.Prelude.{Some}
-use Rattle.nb_cache.specs.Held.{GoesFirst, rank_of}
-use Rattle.nb_owner.specs.Open.{Held}
+use Rattle.std.proofs.Common.{sym, ap, ◌∙◌, Some}
+use Rattle.nb_owner.proofs.Common.{GoesFirst, rank_of, Held, none_some}
 use Rattle.nb_owner.proofs.RankLaws.{none_found}
 use Rattle.nb_owner.proofs.OpenLaws.{first_waits}
-use Rattle.nb_host.proofs.PlainLaws.{none_some}
 use Rattle.nb_owner.proofs.pair.Pair.next_page.Goals as goal
 
 pub returns-in-Some-clause-next : goal.returns-in-Some-clause-next

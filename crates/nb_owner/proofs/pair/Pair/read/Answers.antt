@@ -1,9 +1,5 @@
-use Rattle.std.proofs.Common.{◌≡◌, ◌<◌, refl, ap, sym, subst, ◌∙◌}
-use Rattle.std.specs.Prelude.{None, IsSome}
-use Rattle.std.proofs.lemmas.Result.{on_ok_weaker, on_err_weaker}
-use Rattle.nb_cache.specs.Held.{dropped, NoneWaits}
-use Rattle.nb_owner.specs.Open.{Held, Pages, IsOpen, AreOf, cache_of, bare, used}
-use Rattle.nb_owner.specs.contracts.pair.Pair.{the_view}
+use Rattle.std.proofs.Common.{◌≡◌, ◌<◌, refl, ap, sym, subst, ◌∙◌, None, IsSome}
+use Rattle.nb_owner.proofs.Common.{on_ok_weaker, on_err_weaker, dropped, NoneWaits, Held, Pages, IsOpen, AreOf, cache_of, bare, used, the_view}
 use Rattle.nb_owner.proofs.RankLaws.{rank_promoted}
 use Rattle.nb_owner.proofs.OpenLaws.{of_read, valid_looked, found_put, found_slot, missed_slot, missed_same, found_page, put_page, first_block, bare_put, looked_none, kept_drops}
 use Rattle.nb_owner.proofs.WaitLaws.{open_with}

@@ -1,15 +1,7 @@
-use Rattle.std.proofs.Common.{◌≡◌, [], sym, subst, ◌∙◌}
-use Rattle.std.specs.Prelude.{None, Some, true}
-use Rattle.std.proofs.lemmas.Bool.{true≢false}
-use Rattle.nb_host.specs.World.{World}
-use Rattle.nb_model.specs.Image.{is_forced}
-use Rattle.nb_model.specs.Trail.{Trail}
-use Rattle.nb_change.proofs.ResultLaws.{on_ok}
-use Rattle.nb_cache.specs.Held.{NoneWaits}
-use Rattle.nb_owner.specs.Open.{Held, Pages, IsOpen}
+use Rattle.std.proofs.Common.{◌≡◌, [], sym, subst, ◌∙◌, None, Some, true}
+use Rattle.nb_owner.proofs.Common.{true≢false, World, is_forced, Trail, on_ok, NoneWaits, Held, Pages, IsOpen, none_there}
 use Rattle.nb_owner.proofs.RankLaws.{none_found}
 use Rattle.nb_owner.proofs.WaitLaws.{none_drafted, settled_none, forced_none}
-use Rattle.nb_host.proofs.PlainLaws.{none_there}
 use Rattle.nb_owner.proofs.pair.Pair.write_out.Goals as goal
 
 pub returns-in-Some-clause-idle : goal.returns-in-Some-clause-idle

@@ -1,16 +1,5 @@
-use Rattle.std.proofs.Common.{◌≡◌, ℕ, ◌+◌, List, refl, sym, ap, subst, ◌∙◌, arith}
-use Rattle.std.specs.Prelude.{Result}
-use Rattle.nb_fields.specs.States.{stalled_state}
-use Rattle.nb_host.specs.World.{World}
-use Rattle.nb_host.specs.declared.faults.Fault.{Fault}
-use Rattle.nb_host.specs.declared.faults.Fault.TheVariants.{Device}
-use Rattle.nb_model.specs.Strokes.{Stroke}
-use Rattle.nb_model.specs.Image.{image_state}
-use Rattle.nb_model.proofs.HeaderLaws.{header-room}
-use Rattle.nb_base.specs.Takes.{Strikes, after_strokes}
-use Rattle.nb_state.specs.Open.{Held, IsOpen, name_of}
-use Rattle.nb_state.specs.Turns.{Ends}
-use Rattle.nb_change.proofs.ResultLaws.{passed_on}
+use Rattle.std.proofs.Common.{◌≡◌, ℕ, ◌+◌, List, refl, sym, ap, subst, ◌∙◌, arith, Result}
+use Rattle.nb_state.proofs.Common.{stalled_state, World, Fault, Device, Stroke, image_state, header-room, Strikes, after_strokes, Held, IsOpen, name_of, Ends, passed_on}
 use Rattle.nb_state.proofs.MakesLaws.{none_yet, gave_none}
 use Rattle.nb_state.proofs.TurnLaws.{open_struck, end_stalled, end_other, scn_stalled, scn_other, end_refused, end_failed, end_done}
 use Rattle.nb_page.proofs.QuietLaws.{quiet_begun}
