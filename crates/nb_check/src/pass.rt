@@ -1,5 +1,5 @@
 // A pass over all pages, in rising order. Nothing changes.
-ghost use Rattle.std.specs.Prelude.{◌≡◌, ◌+◌, ◌-◌, ◌*◌, ◌/◌, ◌<◌, ◌≤◌, ℕ, true, false, IsTrue, OnOk, length};
+ghost use Rattle.std.specs.Prelude.{◌≡◌, ◌+◌, ◌-◌, ◌*◌, ◌/◌, ◌<◌, ◌≤◌, true, false, IsTrue, OnOk, length};
 ghost use Rattle.nb_fields.specs.Places.{is_page_size, bits_in, most_pages};
 ghost use Rattle.nb_host.specs.Causes.{CountsFault};
 ghost use Rattle.nb_page.specs.Quiet.{Quiet};

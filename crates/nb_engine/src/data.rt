@@ -27,8 +27,8 @@ use nb_alloc::{
     ScnPage, find_lacking, is_there, lower_page, mark, put_page, read_data, read_system,
 };
 use nb_fields::PageKind;
-use nb_fields::layouts::{data, head};
-use nb_host::{Fault, Host, HostFault, Refusal};
+use nb_fields::layouts::head;
+use nb_host::{Fault, Host, HostFault};
 use nb_pip::{covers, place_of};
 use nb_state::Store;
 use nb_walk::{Chain, read_page};

@@ -25,7 +25,6 @@ use crate::rows::{HistoryRow, put_slot};
 use crate::walk::Room;
 use nb_alloc::{InventoryPage, ScnPage, check_rooms, is_free, put_page};
 use nb_fields::PageKind;
-use nb_fields::layouts::data;
 use nb_host::{Fault, Host, Refusal};
 use nb_state::Store;
 
