@@ -20,23 +20,23 @@ class Progress:
     def __init__(self, count):
         self.count, self.stand, self.failed, self.lock = count, 0, [], threading.Lock()
 
-    def __call__(self, name, status, text):
+    def __call__(self, name, stands, text):
         with self.lock:
-            if status:
+            if not stands:
                 self.failed.append(f"{name}: not proved\n{text}")
                 return
             self.stand += 1
-            print(f"[{self.stand} of {self.count}] {name} {'is proved' if 'logic=proved' in text else 'was proved before'}", flush=True)
+            print(f"[{self.stand} of {self.count}] {name} {'is proved' if text else 'was proved before'}", flush=True)
 
 
 def build(program, to, progress):
     """Proves the program over its libraries, and leaves it."""
     with rooms.Room(program) as room:
         # `rt` builds a program to run it: told nothing, it says how it is used.
-        status, text = room.rt("run")
+        _, text = room.rt("run")
         made = f"{room.folder}/out/{program}"
         stands = os.path.isfile(made)
-        progress(program, 0 if stands else status or 1, text)
+        progress(program, stands, text)
         if stands:
             room.hand_back()
             os.makedirs(os.path.dirname(to) or ".", exist_ok=True)

@@ -2,10 +2,11 @@
 
 `rt` holds the folders of all crates below the one that it works on, so two runs in one tree wait for each other. A room is a folder with a copy of a crate's
 text and of the text below it, and with what `rt` has kept of these crates in their out/. What is proved in a room goes back to crates/NAME/out, where `rt`,
-`make` and `make wrong` find it.
+`make` and `make wrong` find it, with a sum of all that it was proved of, by which it is known again.
 """
 import concurrent.futures
 import functools
+import hashlib
 import os
 import shutil
 import subprocess
@@ -13,8 +14,8 @@ import tempfile
 
 ROOT = os.path.dirname(os.path.dirname(os.path.abspath(__file__)))
 
-# What `rt` keeps of a crate: the built library, and what it has checked.
-BUILT, CHECKED = "rlib", "incremental"
+# What `rt` keeps of a crate: the built library, and what it has checked. Beside them stands the sum.
+BUILT, CHECKED, SUM = "rlib", "incremental", "sum"
 
 
 def libraries():
@@ -37,15 +38,45 @@ def below(name):
     return found
 
 
+def texts(name):
+    """The files that a crate is proved of, each with its path."""
+    for part in ("src", "specs", "proofs"):
+        for folder, folders, files in os.walk(f"{ROOT}/crates/{name}/{part}"):
+            folders.sort()
+            for it in sorted(files):
+                with open(f"{folder}/{it}", "rb") as text:
+                    yield os.path.relpath(f"{folder}/{it}", ROOT), text.read()
+
+
 def lines_of(name):
     """How long a crate's text is, by which its proof takes its time."""
-    count = 0
-    for part in ("src", "specs", "proofs"):
-        for folder, _, files in os.walk(f"{ROOT}/crates/{name}/{part}"):
-            for it in files:
-                with open(f"{folder}/{it}", "rb") as text:
-                    count += text.read().count(b"\n")
-    return count
+    return sum(text.count(b"\n") for _, text in texts(name))
+
+
+@functools.cache
+def kit():
+    """Which toolchain proves here."""
+    return subprocess.run(["rt", "version"], stdout=subprocess.PIPE, check=True).stdout
+
+
+@functools.cache
+def sum_of(name):
+    """A sum of all that a crate is proved of: its text, what it uses, and the toolchain."""
+    found = hashlib.sha256(kit())
+    for path, text in texts(name):
+        found.update(repr((path, text)).encode())
+    for it in KNOWN[name]:
+        found.update(sum_of(it).encode())
+    return found.hexdigest()
+
+
+def is_proved(name):
+    """Whether what is kept of a library was proved of what stands here."""
+    try:
+        with open(f"{ROOT}/crates/{name}/out/{SUM}", encoding="utf-8") as kept:
+            return kept.read() == sum_of(name) and os.path.isfile(f"{ROOT}/crates/{name}/out/{BUILT}/stamp")
+    except OSError:
+        return False
 
 
 def link(one, other):
@@ -76,7 +107,7 @@ class Room:
 
     def __init__(self, name):
         self.name, self.place = name, tempfile.TemporaryDirectory(prefix=f"room-{name}-")
-        self.folder = f"{self.place.name}/crates/{name}"
+        self.top, self.folder = self.place.name, f"{self.place.name}/crates/{name}"
 
     def __enter__(self):
         names, room = {self.name, *below(self.name)}, self.place.name
@@ -92,9 +123,10 @@ class Room:
     def __exit__(self, *_):
         self.place.cleanup()
 
-    def rt(self, *words):
+    def rt(self, *words, at=None):
         """Runs `rt` on the crate. Answers its status and what it said."""
-        ran = subprocess.run(["rt", *words], cwd=self.folder, stdin=subprocess.DEVNULL, stdout=subprocess.PIPE, stderr=subprocess.STDOUT, text=True, errors="replace")
+        how = {"stdin": subprocess.DEVNULL, "stdout": subprocess.PIPE, "stderr": subprocess.STDOUT}
+        ran = subprocess.run(["rt", *words], cwd=at or self.folder, text=True, errors="replace", check=False, **how)
         return ran.returncode, ran.stdout
 
     def hand_back(self):
@@ -105,6 +137,8 @@ class Room:
                 shutil.rmtree(to, ignore_errors=True)
                 os.makedirs(os.path.dirname(to), exist_ok=True)
                 shutil.move(made, to)
+        with open(f"{ROOT}/crates/{self.name}/out/{SUM}", "w", encoding="utf-8") as kept:
+            kept.write(sum_of(self.name))
 
 
 def side_by_side(waits, weight, work):
@@ -139,17 +173,19 @@ def side_by_side(waits, weight, work):
 
 
 def prove(names, said):
-    """Proves and builds these libraries and all below them, and keeps that. Calls `said` for each with its status and what `rt` said, which is nothing
-    where it was proved before. Answers the names that aren't proved."""
+    """Proves and builds these libraries and all below them, and keeps that. Calls `said` for each with its name, whether it stands, and what `rt` said, which is
+    nothing where it was proved before. Answers the names that aren't proved."""
     every = set(names).union(*(below(it) for it in names))
 
     def work(name, jobs):
+        if is_proved(name):
+            said(name, True, "")
+            return True
         with Room(name) as room:
             status, text = room.rt("lib", "--jobs", str(jobs))
             if status == 0:
                 room.hand_back()
-        said(name, status, text)
+        said(name, status == 0, text)
         return status == 0
 
     return side_by_side({it: KNOWN[it] for it in every}, {it: lines_of(it) for it in every}, work)
-
