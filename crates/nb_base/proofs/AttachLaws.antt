@@ -1,6 +1,6 @@
 -- Why a file isn't opened, and what is held of one that is.
 use Rattle.std.proofs.Common.{◌≡◌, ◌≢◌, inl, inr, ℕ, zero, suc, ◌+◌, ◌-◌, ◌*◌, ◌/◌, ◌%◌, ◌<◌, ◌≤◌, List, [], ◌∷◌, ◌++◌, length, get_or, take, drop, refl, sym, ap, subst, ◌∙◌, arith, length-append, mul-le-mul_right, suc-mul, Bool, true, false, not, ◌==◌, ◌||◌, IsTrue, Option, Some, None, option_map, min, max, nat_lt, Result, Ok, Err, IsErr, IsErrAnd, IfOk, IfErr}
-use Rattle.nb_base.proofs.Common.{div-eq_of_lt, cases_Bool, leb_tells, eqb_tells, get_or-append_right, get_or_append_left, take-take, take_more, is_zeros, number_in, is_header, state_of, size_of, is_page_size, most_pages, number_in-take, size_facts, applying_state, File, Fault, Refused, Device, Memory, Refusal, NotDatabase, Unfinished, Image, page_at, first_page, image_size, image_in, Cause, first_cause, when, not_database, header-size, same-number, all_at, IsTrimmed, page-joined, length-joined, trimmed-drop, trimmed-zeros, IsLaid, laid, laid-front, laid-wide, some_page, Known, behind_entries, IsBlank, Tested, length_cause, start_cause, main_cause}
+use Rattle.nb_base.proofs.Common.{div-eq_of_lt, cases_Bool, leb_tells, eqb_tells, get_or-append_right, get_or_append_left, take-take, take_more, is_zeros, number_in, is_header, state_of, size_of, is_page_size, most_pages, number_in-take, size_facts, applying_state, File, Fault, Refused, Device, Memory, Refusal, NotDatabase, Unfinished, Image, page_at, first_page, image_size, image_in, Cause, first_cause, when, not_database, header-size, same-number, all_at, IsTrimmed, page-joined, length-joined, trimmed-drop, trimmed-zeros, IsLaid, laid, laid-front, laid-wide, some_page, Known, behind_entries, IsBlank, Tested, length_cause, start_cause, main_cause, unheaded}
 use Rattle.nb_fields.proofs.HeaderLaws.{is_header-take}
 use Rattle.nb_model.proofs.ReadLaws.{lt_no, lt_yes, eq_no, eq_yes}
 use Rattle.nb_base.proofs.OwnedLaws.{behind-added}
@@ -26,10 +26,6 @@ true_false : true ≡ false → ⊥
 true_false h = cc
 
 -- by whether there is a header
-pub unheaded : (bytes : List ℕ) → is_header bytes ≡ false → not_database bytes ≡ Some (NotDatabase 0)
-unfolding not_database
-unheaded bytes e = rw (e, not_database) refl
-
 pub headed : (bytes : List ℕ) → is_header bytes ≡ true → not_database bytes ≡ length_cause (length bytes) (size_of bytes)
 unfolding not_database
 headed bytes e = rw (e, not_database) refl

@@ -32,6 +32,7 @@ pub use Rattle.nb_delta.specs.Slots.{AddStep, Adds, HasTable, SlotPut, SlotStep,
 pub use Rattle.nb_delta.specs.Waiting.{FrontStep, Fronts, HasAll, Stays, Waits}
 pub use Rattle.nb_fields.proofs.PartLaws.{length-part, length-with_part, number_in-take, part-take}
 pub use Rattle.nb_fields.proofs.SizeLaws.{size_facts}
+pub use Rattle.nb_fields.proofs.ZeroLaws.{zeros-behind}
 unfoldable pub use Rattle.nb_fields.specs.Bytes.{number_in}
 pub use Rattle.nb_fields.specs.Bytes.{is_zeros, part, with_part}
 unfoldable pub use Rattle.nb_fields.specs.Fresh.{fresh, fresh_count, fresh_page}
@@ -41,6 +42,7 @@ unfoldable pub use Rattle.nb_fields.specs.Places.{is_scn_place}
 pub use Rattle.nb_fields.specs.Places.{is_page_size, most_pages, slots_in}
 pub use Rattle.nb_fields.specs.States.{applying_state, merge_state, normal_state, stalled_state}
 unfoldable pub use Rattle.nb_fields.specs.Table.{page_in, slot_place, table_of}
+pub use Rattle.nb_host.proofs.NameLaws.{with_file-named}
 pub use Rattle.nb_host.proofs.PlainLaws.{none_there, not_le}
 pub use Rattle.nb_host.specs.Calls.{IsSilent, IsStill, ReadsBytes, ReadsPage, Remakes, Syncs, WholeOrNot, WritesPage}
 pub use Rattle.nb_host.specs.Crash.{IsDurable, Leaves, LeavesAll, PageLeft, Untouched}
@@ -55,7 +57,7 @@ pub use Rattle.nb_host.specs.declared.refusals.Refusal.TheVariants.{BadDelta, No
 pub use Rattle.nb_model.proofs.BehindLaws.{enter_left, way_left}
 pub use Rattle.nb_model.proofs.ControlLaws.{control_header, control_length, control_other, control_size, control_state}
 pub use Rattle.nb_model.proofs.EntryLaws.{for_here, for_nothing}
-pub use Rattle.nb_model.proofs.FormLaws.{formed}
+pub use Rattle.nb_model.proofs.FormLaws.{formed, unheaded}
 pub use Rattle.nb_model.proofs.FreshImageLaws.{fresh_count-least, fresh_forced, fresh_length, fresh_main, fresh_rebuilt, fresh_size, fresh_state, length-fresh_page}
 pub use Rattle.nb_model.proofs.HeadSound.{all_zeros}
 pub use Rattle.nb_model.proofs.HeaderLaws.{header-long, header-other, header-room, header-scn, header-size, header-state, same-header, same-number}
@@ -86,7 +88,7 @@ pub use Rattle.nb_model.specs.Trail.{HasPage, IsFirm, IsMixture, ShowsIn, Stands
 pub use Rattle.nb_page.proofs.QuietLaws.{quiet_begun, quiet_joined}
 pub use Rattle.nb_page.specs.Quiet.{Quiet}
 pub use Rattle.std.proofs.Math.Nat.{div-eq_of_lt, mul-div_cancel}
-pub use Rattle.std.proofs.lemmas.Bool.{and_from, and_parts, cases_Bool, cases_eq, cond-false, cond-true, ne_eqb, true_from_ne_false, true≢false}
+pub use Rattle.std.proofs.lemmas.Bool.{cases_Bool, cases_eq, cond-false, cond-true, ne_eqb, true_from_ne_false, true≢false}
 pub use Rattle.std.proofs.lemmas.Bool.Decides.{eqb_tells, leb_tells}
 pub use Rattle.std.proofs.lemmas.List.{append-nil, drop_all, drop_at, ext_get_or, get_or-append_right, get_or_append_left, length-drop, length-replicate, length-take, length-take-le, replicate-append-replicate, take-append-drop, take-append-le, take-take, take_all, take_at, take_more}
 pub use Rattle.std.proofs.lemmas.Result.{err_from_is_err_and, on_ok_weaker}

@@ -1,9 +1,9 @@
 -- The file of a new database while it is made: until page 0 is written it has no header, whatever a crash leaves of it.
-use Rattle.std.proofs.Common.{◌≡◌, ◌≢◌, ◌⊎◌, inl, inr, ⊎_elim, ℕ, zero, suc, ◌+◌, ◌-◌, ◌*◌, ◌≤◌, List, [], ◌∷◌, ◌++◌, length, take, drop, replicate, refl, sym, ◌∙◌, ap, subst, arith, length-append, Bool, true, IsTrue, ◌||◌, ◌==◌, Some, None, Result, Ok, Err, OnOk}
-use Rattle.nb_base.proofs.Common.{and_parts, and_from, take-append-le, take-take, length-take-le, length-replicate, on_ok_weaker, is_zeros, fresh, fresh_count, fresh_page, is_page_size, File, Files, bytes_of, padded, put_at, with_file, World, Leaves, LeavesAll, PageLeft, IsDurable, Untouched, WholeOrNot, Remakes, WritesPage, Syncs, IsSilent, Passes, IsTimely, Changes, Only, GaveNothing, untouched_fewer, whole-other, begun, one_more, still_more, durable_is, Image, base_of, owner, delta_name, ShowsIn, CreateLeft, CreateReads, IsSettled}
+use Rattle.std.proofs.Common.{◌≡◌, ◌≢◌, ◌⊎◌, inl, inr, ⊎_elim, ℕ, ◌+◌, ◌-◌, ◌*◌, ◌≤◌, List, [], ◌++◌, length, take, drop, replicate, refl, sym, ◌∙◌, ap, subst, arith, length-append, Bool, true, IsTrue, ◌||◌, Some, None, Result, Ok, Err, OnOk}
+use Rattle.nb_base.proofs.Common.{take-append-le, take-take, length-take-le, length-replicate, on_ok_weaker, is_zeros, fresh, fresh_count, fresh_page, is_page_size, File, Files, bytes_of, padded, put_at, with_file, World, Leaves, LeavesAll, PageLeft, IsDurable, Untouched, WholeOrNot, Remakes, WritesPage, Syncs, IsSilent, Passes, IsTimely, Changes, Only, GaveNothing, untouched_fewer, whole-other, begun, one_more, still_more, durable_is, Image, base_of, owner, delta_name, ShowsIn, CreateLeft, CreateReads, IsSettled, zeros-behind, with_file-named}
 use Rattle.nb_fields.specs.Free.{is_free_file, is_unfinished}
 use Rattle.nb_host.specs.Files.{with_page}
-use Rattle.nb_base.proofs.CreateLaws.{HasRest, named, whole_shows}
+use Rattle.nb_base.proofs.CreateLaws.{HasRest, whole_shows}
 
 -- the bytes where a header would stand are zeros, or there are fewer
 abbrev IsBlank : File → Type 0
@@ -16,17 +16,6 @@ blank-free (Some bytes) h = ap (λ (b : Bool). b || is_unfinished bytes) h
 
 blank-empty : (c : File) → c ≡ Some [] → IsBlank c
 blank-empty c is = ap (λ (x : File). is_zeros (take 64 (bytes_of x))) is
-
--- zeros after leave it blank
-zeros-take : (k n : ℕ) → is_zeros (take k (replicate n 0)) ≡ true
-zeros-take zero n = refl
-zeros-take (suc k) zero = refl
-zeros-take (suc k) (suc n) = zeros-take k n
-
-zeros-behind : (k n : ℕ) (bytes : List ℕ) → is_zeros (take k bytes) ≡ true → is_zeros (take k (bytes ++ replicate n 0)) ≡ true
-zeros-behind zero n bytes h = refl
-zeros-behind (suc k) n [] h = zeros-take (suc k) n
-zeros-behind (suc k) n (b ∷ bs) h = let both = and_parts (b == 0) (is_zeros (take k bs)) h in and_from (b == 0) (is_zeros (take k (bs ++ replicate n 0))) both.0 (zeros-behind k n bs both.1)
 
 -- and so does a page after it
 blank-put : (at : ℕ) (page : List ℕ) (file : File) → 64 ≤ at → IsBlank file → IsBlank (with_page file at page)
@@ -50,9 +39,9 @@ blank-left at page b c far (inr (inr (k, fits, grown))) h = blank-grown (k * len
 
 -- a file that was changed, whole or not, reads as before, or as it was to be
 own_reads : {T E : Type 0} (result : Result T E) (old new : Files) (name : List ℕ) (file : File) → WholeOrNot result old (with_file old name file) new → (new name ≡ old name) ⊎ (new name ≡ file)
-own_reads (Ok value) old new name file is = inr (named old new name file is)
+own_reads (Ok value) old new name file is = inr (with_file-named old new name file is)
 own_reads (Err e) old new name file (inl same) = inl (ap (λ (f : Files). f name) same)
-own_reads (Err e) old new name file (inr done) = inr (named old new name file done)
+own_reads (Err e) old new name file (inr done) = inr (with_file-named old new name file done)
 
 -- The new file has no header yet, and is the only one that was touched.
 pub record Making (old w : World) (name : List ℕ) (image : Image) : Type 0 where
@@ -99,7 +88,7 @@ module _ (name : List ℕ) (image : Image) where
   pub making_begun : {T E : Type 0} (tells : Bool) (value : T) (old new : World) → IsTrue tells → IsTimely old → Remakes {T = T} {E = E} tells (Ok value) old new name (Some []) → IsSilent old new → Passes old new → Making old new name image
   making_begun {T} {E} tells value old new so timely is silent time =
       blank_more old old new (not_begun old timely) time silent is.others (whole-other {T = T} {E = E} (Ok value) old.files new.files name (Some []) (is.files so)) is.back
-      (λ c n. blank-empty c (is.done c n)) (blank-empty (new.files name) (named old.files new.files name (Some []) (is.files so)))
+      (λ c n. blank-empty c (is.done c n)) (blank-empty (new.files name) (with_file-named old.files new.files name (Some []) (is.files so)))
 
   -- a page after page 0 is written, also where that fails
   pub page_more : {T E : Type 0} (tells : Bool) (result : Result T E) (old mid new : World) (at : ℕ) (page : List ℕ) → IsTrue tells → 64 ≤ at → Making old mid name image → WritesPage tells result mid new name at page → IsSilent mid new
@@ -186,7 +175,7 @@ pub settled : {T E : Type 0} (tells : Bool) (result : Result T E) (old mid writt
 settled tells result old mid written new name size raw page so page_is kept put is = on_ok_weaker result by (is.durable so)
   where
     reads : written.files name ≡ with_page kept.file (0 * length page) page
-    reads = named mid.files written.files name _ put ∙ ap (λ (x : File). with_page x (0 * length page) page) kept.reads
+    reads = with_file-named mid.files written.files name _ put ∙ ap (λ (x : File). with_page x (0 * length page) page) kept.reads
 
     shown : (d : File) → owner name (written.files name) d ≡ Ok (base_of (fresh size raw))
     shown d = subst (λ (x : File). owner name x d ≡ Ok (base_of (fresh size raw))) (sym reads) (kept.whole page page_is d)

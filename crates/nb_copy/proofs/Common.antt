@@ -39,6 +39,7 @@ pub use Rattle.nb_engine.specs.Tries.{Tries}
 pub use Rattle.nb_engine.specs.Turns.{Starts, starting_cause}
 pub use Rattle.nb_engine.specs.declared.rows.HistoryRow.{HistoryRow}
 pub use Rattle.nb_fields.proofs.SizeLaws.{size_facts}
+pub use Rattle.nb_fields.proofs.ZeroLaws.{zeros-behind, zeros-take}
 unfoldable pub use Rattle.nb_fields.specs.Bytes.{number_in}
 pub use Rattle.nb_fields.specs.Bytes.{is_zeros}
 unfoldable pub use Rattle.nb_fields.specs.Header.{is_header}
@@ -47,12 +48,13 @@ pub use Rattle.nb_fields.specs.Page.{kind_of, stamp_of}
 unfoldable pub use Rattle.nb_fields.specs.Places.{is_scn_place, is_system_place}
 pub use Rattle.nb_fields.specs.Places.{bits_in, entries_in, is_page_size, most_pages, scn_place}
 pub use Rattle.nb_fields.specs.States.{normal_state, stalled_state}
-pub use Rattle.nb_gather.proofs.BlankLaws.{blank_empty, blank_free, blank_left, zeros-grown, zeros-take}
-pub use Rattle.nb_gather.proofs.QuietLaws.{is_made, made_quiet, named, quiet_alone, quiet_gave, quiet_then, remade_twice, renamed, sync_kept, sync_then}
+pub use Rattle.nb_gather.proofs.BlankLaws.{blank_empty, blank_free, blank_left}
+pub use Rattle.nb_gather.proofs.QuietLaws.{is_made, made_quiet, quiet_alone, quiet_gave, quiet_then, remade_twice, renamed, sync_kept, sync_then, taken_quiet}
 pub use Rattle.nb_gather.proofs.TouchLaws.{touches_named, touches_page, touches_quiet, touches_still, touches_then}
 pub use Rattle.nb_gather.specs.Gathering.{HasTaken, IsHeaded, LevelWriting, MayHave}
 pub use Rattle.nb_gather.specs.Making.{IsBlank, IsEmpty, IsFreeOr, IsKept, IsMade, IsUnfinished, IsUnfinishedOr}
-pub use Rattle.nb_host.proofs.PlainLaws.{lt_holds, true_or_false}
+pub use Rattle.nb_host.proofs.NameLaws.{with_file-named}
+pub use Rattle.nb_host.proofs.PlainLaws.{far_behind, lt_holds, true_or_false}
 pub use Rattle.nb_host.specs.Calls.{IsStill, Remakes, Syncs, WritesPage}
 pub use Rattle.nb_host.specs.Crash.{IsDurable, Leaves, LeavesAll, PageLeft}
 unfoldable pub use Rattle.nb_host.specs.Files.{padded, put_at, with_file}

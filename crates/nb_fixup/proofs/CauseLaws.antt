@@ -1,6 +1,6 @@
 -- Why a copy isn't fixed, test by test.
 use Rattle.std.proofs.Common.{◌≡◌, ◌≢◌, inl, inr, ℕ, ◌*◌, ◌/◌, ◌%◌, ◌<◌, ◌≤◌, List, [], ◌∷◌, length, take, refl, sym, ap, ◌∙◌, arith, div-add-mod', Bool, true, false, not, ◌||◌, ◌==◌, nat_lt, IsTrue, Some, None, is_some, min}
-use Rattle.nb_fixup.proofs.Common.{div-eq_of_lt, take-take, length-take, is_header, state_of, size_of, is_page_size, most_pages, size_facts, File, Refusal, NoFile, NotDatabase, WrongState, DeltaPresent, Cause, first_cause, when, not_database, not_fixable, delta_name, no_cause, same-header, same-number, copy_cause, file_cause}
+use Rattle.nb_fixup.proofs.Common.{div-eq_of_lt, take-take, length-take, is_header, state_of, size_of, is_page_size, most_pages, size_facts, File, Refusal, NoFile, NotDatabase, WrongState, DeltaPresent, Cause, first_cause, when, not_database, not_fixable, delta_name, no_cause, same-header, same-number, copy_cause, file_cause, unheaded}
 use Rattle.std.proofs.lemmas.Bool.Decides.{eqb_tells}
 use Rattle.nb_fields.proofs.HeaderLaws.{is_header-short}
 use Rattle.nb_fields.specs.States.{stalled_state}
@@ -8,11 +8,6 @@ use Rattle.nb_page.specs.Header.{header_in}
 use Rattle.nb_page.specs.declared.header.Header.{Header}
 use Rattle.nb_model.proofs.ReadLaws.{lt_yes, eq_no}
 use Rattle.nb_host.proofs.PlainLaws.{some_none}
-
--- a file without a header
-pub unheaded : (bytes : List ℕ) → is_header bytes ≡ false → not_database bytes ≡ Some (NotDatabase 0)
-unfolding not_database
-unheaded bytes e = rw (e, not_database) refl
 
 -- the tests of the length after a header
 abbrev tests : (a b : Bool) (pages : ℕ) → Cause

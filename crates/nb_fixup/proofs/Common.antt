@@ -13,7 +13,7 @@ pub use Rattle.nb_host.specs.declared.faults.Fault.{Fault}
 pub use Rattle.nb_host.specs.declared.faults.Fault.TheVariants.{Device, Memory, Refused}
 pub use Rattle.nb_host.specs.declared.refusals.Refusal.{Refusal}
 pub use Rattle.nb_host.specs.declared.refusals.Refusal.TheVariants.{DeltaPresent, NoFile, NotDatabase, WrongState}
-pub use Rattle.nb_model.proofs.FormLaws.{Formed, formed, no_cause}
+pub use Rattle.nb_model.proofs.FormLaws.{Formed, formed, no_cause, unheaded}
 pub use Rattle.nb_model.proofs.HeaderLaws.{same-header, same-number}
 pub use Rattle.nb_model.proofs.MainLaws.{IsLaid, laid, laid-front, owner_main, some_page}
 unfoldable pub use Rattle.nb_model.specs.Causes.{first_cause, not_database}

@@ -1,6 +1,6 @@
 -- A page more of the files is folded.
 use Rattle.std.proofs.Common.{◌≡◌, ◌≢◌, ◌⊎◌, inl, inr, ⊎_elim, ℕ, ◌+◌, ◌<◌, ◌≤◌, List, [], ◌∷◌, ◌++◌, refl, sym, ap, subst, ◌∙◌, arith, append_assoc, Bool, IsTrue, Some, None, Option, Result, Ok, Err, true, false}
-use Rattle.nb_fold.proofs.Common.{append-nil, most_pages, File, Files, bytes_of, World, Leaves, LeavesAll, Only, NoNames, Remade, rested, kept_on, Quiet, LevelHead, head_of, Page, Numbered, level_bytes, LevelWriting, HasTaken, MayHave, IsUnfinished, IsUnfinishedOr, named, remade_twice, or_before, folded_pages, AllRise, AreApart, HasFolded, IsFolding, IsReady, Makes, MakesOr, Held, AllWait, AreAtEnd, IsLeast, WaitsBy, count_at, counts_at, rests, waiting_page, waits_at}
+use Rattle.nb_fold.proofs.Common.{append-nil, most_pages, File, Files, bytes_of, World, Leaves, LeavesAll, Only, NoNames, Remade, rested, kept_on, Quiet, LevelHead, head_of, Page, Numbered, level_bytes, LevelWriting, HasTaken, MayHave, IsUnfinished, IsUnfinishedOr, remade_twice, or_before, folded_pages, AllRise, AreApart, HasFolded, IsFolding, IsReady, Makes, MakesOr, Held, AllWait, AreAtEnd, IsLeast, WaitsBy, count_at, counts_at, rests, waiting_page, waits_at, with_file-named, taken_quiet}
 use Rattle.nb_host.specs.Moments.{IsTimely, Passes}
 use Rattle.nb_host.specs.Calls.{Remakes}
 use Rattle.nb_change.proofs.MovedLaws.{remade_begun, remade_weaker}
@@ -27,14 +27,6 @@ makes_quiet old mid new name made makes quiet = record {
 -- one run of calls after another
 pub makes_then : (old mid new : World) (name : List ℕ) (made : File → Type 0) → Leaves mid name (mid.files name) → Makes old mid name made → Makes mid new name made → Makes old new name made
 makes_then old mid new name made was first second = record { left = remade_twice old mid new name made was first.left second.left; reads = second.reads }
-
--- what was taken stays
-pub taken_quiet : (old new : World) (file : LevelWriting) (rs : List Numbered) → Quiet old new → HasTaken old file rs → HasTaken new file rs
-taken_quiet old new file rs quiet has = record {
-  stands = record { reads = ap (λ (f : Files). f file.name) quiet.still.files ∙ has.stands.reads; torn = λ c now. has.stands.torn c (quiet.still.left.now file.name c tt now) };
-  waits = has.waits;
-  counted = has.counted;
-}
 
 -- the other files read as they did
 all_wait : (old new : Files) (name : List ℕ) (ss : List Held) (rss : List (List Numbered)) → ((m : List ℕ) → m ≢ name → new m ≡ old m) → AreApart name ss → AllWait old ss rss → AllWait new ss rss
@@ -117,8 +109,8 @@ made_first tells result old new name told timely makes silent time = record {
 }
   where
     by : {T E : Type 0} (r : Result T E) → Remakes tells r old new name (Some []) → (new.files name ≡ old.files name) ⊎ IsUnfinished (new.files name)
-    by (Ok value) m = inr (subst IsUnfinished (sym (named old.files new.files name (Some []) (m.files told))) unfinished_empty)
-    by (Err e) m = ⊎_elim (λ same. inl (ap (λ (f : Files). f name) same)) (λ made. inr (subst IsUnfinished (sym (named old.files new.files name (Some []) made)) unfinished_empty)) (m.files told)
+    by (Ok value) m = inr (subst IsUnfinished (sym (with_file-named old.files new.files name (Some []) (m.files told))) unfinished_empty)
+    by (Err e) m = ⊎_elim (λ same. inl (ap (λ (f : Files). f name) same)) (λ made. inr (subst IsUnfinished (sym (with_file-named old.files new.files name (Some []) made)) unfinished_empty)) (m.files told)
 
 pub makes_or : (old mid new : World) (name : List ℕ) (made : File → Type 0) → Leaves mid name (mid.files name) → MakesOr old mid name made → Makes mid new name made → MakesOr old new name made
 makes_or old mid new name made was first second = record { left = remade_twice old mid new name made was first.left second.left; reads = inr second.reads }

@@ -1,22 +1,8 @@
 -- While page 0 isn't written, the file begins with zeros, so its name is free.
-use Rattle.std.proofs.Common.{◌≡◌, inl, inr, ℕ, zero, suc, ◌+◌, ◌-◌, ◌*◌, ◌≤◌, List, [], ◌∷◌, ◌++◌, length, take, drop, replicate, refl, sym, ap, subst, ◌∙◌, arith, length-append, true, None, Some, ◌==◌}
-use Rattle.nb_gather.proofs.Common.{or_left, and_from, and_parts, take-append-le, take-take, length-take-le, length-replicate, is_zeros, File, padded, put_at, with_page, PageLeft, IsBlank}
+use Rattle.std.proofs.Common.{◌≡◌, inl, inr, ℕ, ◌+◌, ◌-◌, ◌*◌, ◌≤◌, List, [], ◌++◌, length, take, drop, replicate, refl, sym, ap, subst, ◌∙◌, arith, length-append, true, None, Some}
+use Rattle.nb_gather.proofs.Common.{or_left, take-append-le, take-take, length-take-le, length-replicate, is_zeros, File, padded, put_at, with_page, PageLeft, IsBlank, zeros-behind}
 use Rattle.nb_fields.specs.Free.{is_free_file, is_unfinished}
 use Rattle.nb_host.specs.Files.{bytes_of}
-
--- zeros
-pub zeros-take : (k n : ℕ) → is_zeros (take k (replicate n 0)) ≡ true
-zeros-take zero n = refl
-zeros-take (suc k) zero = refl
-zeros-take (suc k) (suc n) = zeros-take k n
-
--- zeros after
-pub zeros-grown : (k n : ℕ) (bytes : List ℕ) → is_zeros (take k bytes) ≡ true → is_zeros (take k (bytes ++ replicate n 0)) ≡ true
-zeros-grown zero n bytes is = refl
-zeros-grown (suc k) n [] is = zeros-take (suc k) n
-zeros-grown (suc k) n (b ∷ bs) is =
-    let both = and_parts (b == 0) (is_zeros (take k bs)) is in
-    and_from (b == 0) (is_zeros (take k (bs ++ replicate n 0))) both.0 (zeros-grown k n bs both.1)
 
 pub blank_empty : IsBlank (Some [])
 blank_empty = refl
@@ -36,10 +22,10 @@ blank_put at page b far is =
     let part : length (take at wide) ≡ at = length-take-le at wide long in
     let front : take 64 (take at wide ++ (page ++ drop (at + length page) bytes)) ≡ take 64 wide =
     take-append-le 64 (take at wide) (page ++ drop (at + length page) bytes) (omega (arith, far, part)) ∙ take-take 64 at wide far in
-    ap is_zeros front ∙ zeros-grown 64 (at - length bytes) bytes is
+    ap is_zeros front ∙ zeros-behind 64 (at - length bytes) bytes is
 
 -- whatever a crash leaves of the write of a page after page 0
 pub blank_left : (at : ℕ) (page : List ℕ) (b c : File) → 64 ≤ at → IsBlank b → PageLeft at page b c → IsBlank c
 blank_left at page b c far is (inl same) = subst IsBlank (sym same) is
 blank_left at page b c far is (inr (inl put)) = subst IsBlank (sym put) (blank_put at page b far is)
-blank_left at page b c far is (inr (inr (k, fits, grown))) = subst IsBlank (sym grown) (zeros-grown 64 (k * length page) (bytes_of b) is)
+blank_left at page b c far is (inr (inr (k, fits, grown))) = subst IsBlank (sym grown) (zeros-behind 64 (k * length page) (bytes_of b) is)

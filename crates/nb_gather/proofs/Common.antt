@@ -6,6 +6,7 @@ pub use Rattle.nb_change.proofs.MovedLaws.{remade_begun, remade_weaker}
 pub use Rattle.nb_change.proofs.NameLaws.{decide, with_file-other, with_file-same}
 pub use Rattle.nb_change.specs.Changes.{ChangedLeft, Changes, Moved, Only, Remade}
 pub use Rattle.nb_fields.proofs.SizeLaws.{size_facts}
+pub use Rattle.nb_fields.proofs.ZeroLaws.{zeros-behind}
 unfoldable pub use Rattle.nb_fields.specs.Bytes.{bytes_of, number_in, number_of}
 pub use Rattle.nb_fields.specs.Bytes.{is_zeros}
 pub use Rattle.nb_fields.specs.Page.{stamp_of}
@@ -13,6 +14,7 @@ pub use Rattle.nb_fields.specs.Places.{is_page_size, most_pages}
 unfoldable pub use Rattle.nb_gather.specs.Gathering.{complete, incomplete}
 pub use Rattle.nb_gather.specs.Gathering.{HasTaken, Holds, HoldsAll, IsHeaded, IsTornFile, LevelWriting, MayHave, Reads, Waiting, level_front}
 pub use Rattle.nb_gather.specs.Making.{IsBlank, IsEmpty, IsKept, IsMade, IsNoBackup, IsUnfinished, IsUnfinishedOr}
+pub use Rattle.nb_host.proofs.NameLaws.{with_file-named}
 pub use Rattle.nb_host.proofs.PlainLaws.{lt_holds, not_both, true_or_false}
 pub use Rattle.nb_host.specs.Calls.{AppendsBytes, IsStill, Remakes, Syncs, WritesPage}
 pub use Rattle.nb_host.specs.Crash.{AppendLeft, IsDurable, IsTornFrom, Leaves, PageLeft}
@@ -31,6 +33,6 @@ unfoldable pub use Rattle.nb_model.specs.Levels.{body_bytes, end_bytes, first_fa
 pub use Rattle.nb_model.specs.Levels.{AreOfSize, AreRising, Contents, Head, Stretch, Test, barred_after, behind, end_mark, joined}
 pub use Rattle.nb_page.specs.Quiet.{Quiet}
 pub use Rattle.std.proofs.Math.Nat.{mul-div_cancel, suc-mul}
-pub use Rattle.std.proofs.lemmas.Bool.{and_from, and_parts, eqb-true, or_cases, or_left}
+pub use Rattle.std.proofs.lemmas.Bool.{and_parts, eqb-true, or_cases, or_left}
 pub use Rattle.std.proofs.lemmas.Bool.Decides.{eqb_tells, leb_tells}
 pub use Rattle.std.proofs.lemmas.List.{append-nil, drop-drop, drop_all, drop_at, length-drop, length-replicate, length-take-le, take-append-drop, take-append-le, take-take, take_all}

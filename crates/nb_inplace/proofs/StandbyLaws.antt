@@ -1,6 +1,6 @@
 -- What the first bytes of a standby tell, and its length.
 use Rattle.std.proofs.Common.{◌≡◌, ◌≢◌, inl, inr, ℕ, ◌+◌, ◌<◌, ◌≤◌, List, [], ◌∷◌, ◌++◌, length, take, refl, sym, ap, ◌∙◌, arith, Bool, true, false, not, ◌||◌, ◌==◌, nat_eq, Option, option_map, Some, None}
-use Rattle.nb_inplace.proofs.Common.{true≢false, take-take, take_at, length-take, number_in, is_header, state_of, size_of, guid_of, number_in-take, size_facts, normal_state, applying_state, File, same_name, Refusal, NoFile, NotDatabase, Unfinished, ChainGuid, header_in, Cause, first_cause, when, not_database, Page, Image, first_page, image_size, image_in, is_read_only, is_another, not_finishing, not_mergeable, not_next, not_standby, Contents, joined, header-size, same-header, IsLaid, laid, laid-wide, some_page, IsFileIn, OnApply, header_same, unheaded, no_page, same_other}
+use Rattle.nb_inplace.proofs.Common.{true≢false, take-take, take_at, length-take, number_in, is_header, state_of, size_of, guid_of, number_in-take, size_facts, normal_state, applying_state, File, same_name, Refusal, NoFile, NotDatabase, Unfinished, ChainGuid, header_in, Cause, first_cause, when, not_database, Page, Image, first_page, image_size, image_in, is_read_only, is_another, not_finishing, not_mergeable, not_next, not_standby, Contents, joined, header-size, same-header, IsLaid, laid, laid-wide, some_page, IsFileIn, OnApply, header_same, no_page, same_other, unheaded}
 use Rattle.nb_cases.specs.declared.events.Case.{Case}
 use Rattle.nb_cases.specs.declared.events.Case.TheVariants.{NoCall, Go, WrongState as refused, Unfinished as unfinished, Main, Delta, BothOrMain, GoWithDelta, GoWithoutDelta, GoOrUnfinished}
 use Rattle.nb_inplace.proofs.VerdictLaws.{by_state, mergeable_by, standby_state}

@@ -83,3 +83,8 @@ no_cause bytes size count header same some whole least most =
     ∙ ap (λ (t : Bool). elim t as (λ z. Cause) [ false ↦ Some (NotDatabase 0) | true ↦ length_cause bytes ]) header
     ∙ two_tests-from _ _ (NotDatabase (min (length bytes / size_of bytes) most_pages)) (NotDatabase most_pages)
     (or_from _ _ (ap (λ x. not (x == 0)) left) (ap (λ x. nat_lt x 5) pages ∙ lt_no count 5 least)) (ap (λ x. nat_lt most_pages x) pages ∙ lt_no most_pages count most)
+
+-- a file without a header
+pub unheaded : (bytes : List ℕ) → is_header bytes ≡ false → not_database bytes ≡ Some (NotDatabase 0)
+unfolding not_database
+unheaded bytes e = rw (e, not_database) refl

@@ -13,6 +13,7 @@ pub use Rattle.nb_change.specs.Gave.{GaveNothing}
 pub use Rattle.nb_fields.proofs.HeaderLaws.{is_free_file-take, is_header-long, is_header-take}
 pub use Rattle.nb_fields.proofs.PartLaws.{length-part, length-with_part, number_in-take, number_in-with_part, number_in-with_part_other, part-with_part_other}
 pub use Rattle.nb_fields.proofs.SizeLaws.{size_facts}
+pub use Rattle.nb_fields.proofs.ZeroLaws.{zeros-take}
 unfoldable pub use Rattle.nb_fields.specs.Bytes.{number_in, number_of}
 pub use Rattle.nb_fields.specs.Bytes.{is_zeros, with_part}
 unfoldable pub use Rattle.nb_fields.specs.Free.{is_free_file}
@@ -22,10 +23,11 @@ pub use Rattle.nb_fields.specs.Header.{guid_of, header_length, is_sound, pending
 pub use Rattle.nb_fields.specs.Page.{kind_of, number_of_page, stamp_of}
 pub use Rattle.nb_fields.specs.Places.{is_page_size, most_pages}
 pub use Rattle.nb_fields.specs.States.{applying_state, normal_state, stalled_state}
-pub use Rattle.nb_host.proofs.PlainLaws.{not_false, not_lt, some_same}
+pub use Rattle.nb_host.proofs.NameLaws.{with_file-named}
+pub use Rattle.nb_host.proofs.PlainLaws.{far_behind, not_false, not_lt, some_same}
 pub use Rattle.nb_host.specs.Calls.{AppendsBytes, IsStill, ReadsBytes, ReadsPage, Remakes, Syncs, WritesPage}
 pub use Rattle.nb_host.specs.Crash.{AppendLeft, IsDurable, Leaves, LeavesAll, PageLeft}
-unfoldable pub use Rattle.nb_host.specs.Files.{padded, put_at, with_file}
+unfoldable pub use Rattle.nb_host.specs.Files.{padded, put_at}
 pub use Rattle.nb_host.specs.Files.{File, Files, bytes_of, with_bytes, with_page}
 pub use Rattle.nb_host.specs.Moments.{IsTimely, Passes}
 pub use Rattle.nb_host.specs.Names.{is_delta, same_name}
