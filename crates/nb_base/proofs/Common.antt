@@ -32,7 +32,6 @@ pub use Rattle.nb_delta.specs.Slots.{AddStep, Adds, HasTable, SlotPut, SlotStep,
 pub use Rattle.nb_delta.specs.Waiting.{FrontStep, Fronts, HasAll, Stays, Waits}
 pub use Rattle.nb_fields.proofs.PartLaws.{length-part, length-with_part, number_in-take, part-take}
 pub use Rattle.nb_fields.proofs.SizeLaws.{size_facts}
-pub use Rattle.nb_fields.proofs.ZeroLaws.{zeros-behind}
 unfoldable pub use Rattle.nb_fields.specs.Bytes.{number_in}
 pub use Rattle.nb_fields.specs.Bytes.{is_zeros, part, with_part}
 unfoldable pub use Rattle.nb_fields.specs.Fresh.{fresh, fresh_count, fresh_page}
@@ -85,6 +84,7 @@ unfoldable pub use Rattle.nb_model.specs.Strokes.{controlled, merged_page, noted
 pub use Rattle.nb_model.specs.Strokes.{Stroke, begin, ends, finish, page}
 unfoldable pub use Rattle.nb_model.specs.Trail.{after_stroke, settles_at}
 pub use Rattle.nb_model.specs.Trail.{HasPage, IsFirm, IsMixture, ShowsIn, StandsIn, StandsOn, Trail, bases_of, is_synced, settled}
+pub use Rattle.nb_page.proofs.BlankLaws.{blank_free, blank_left, blank_put}
 pub use Rattle.nb_page.proofs.QuietLaws.{quiet_begun, quiet_joined}
 pub use Rattle.nb_page.specs.Quiet.{Quiet}
 pub use Rattle.std.proofs.Math.Nat.{div-eq_of_lt, mul-div_cancel}

@@ -63,6 +63,7 @@ pub use Rattle.nb_model.specs.declared.fact.Fact.{Fact}
 pub use Rattle.nb_model.specs.declared.fact.Fact.TheVariants.{BlankPage, HeaderStamp, LateStamp, SystemPlace, TakenPast, WrongEntry}
 pub use Rattle.nb_model.specs.declared.reply.Reply.TheVariants.{Freed, Leaked, Refused}
 pub use Rattle.nb_page.proofs.QuietLaws.{quiet_begun, quiet_joined}
+pub use Rattle.nb_page.proofs.StampLaws.{stamp_in}
 unfoldable pub use Rattle.nb_page.specs.Head.{head_in}
 pub use Rattle.nb_page.specs.Quiet.{Quiet}
 pub use Rattle.nb_page.specs.declared.page.PageHead.{PageHead}

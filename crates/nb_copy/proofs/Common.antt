@@ -48,8 +48,7 @@ pub use Rattle.nb_fields.specs.Page.{kind_of, stamp_of}
 unfoldable pub use Rattle.nb_fields.specs.Places.{is_scn_place, is_system_place}
 pub use Rattle.nb_fields.specs.Places.{bits_in, entries_in, is_page_size, most_pages, scn_place}
 pub use Rattle.nb_fields.specs.States.{normal_state, stalled_state}
-pub use Rattle.nb_gather.proofs.BlankLaws.{blank_empty, blank_free, blank_left}
-pub use Rattle.nb_gather.proofs.QuietLaws.{is_made, made_quiet, quiet_alone, quiet_gave, quiet_then, remade_twice, renamed, sync_kept, sync_then, taken_quiet}
+pub use Rattle.nb_gather.proofs.QuietLaws.{blank_empty, is_made, made_quiet, quiet_alone, quiet_gave, quiet_then, remade_twice, renamed, sync_kept, sync_then, taken_quiet}
 pub use Rattle.nb_gather.proofs.TouchLaws.{touches_named, touches_page, touches_quiet, touches_still, touches_then}
 pub use Rattle.nb_gather.specs.Gathering.{HasTaken, IsHeaded, LevelWriting, MayHave}
 pub use Rattle.nb_gather.specs.Making.{IsBlank, IsEmpty, IsFreeOr, IsKept, IsMade, IsUnfinished, IsUnfinishedOr}
@@ -98,6 +97,7 @@ pub use Rattle.nb_model.specs.Strokes.{Stroke, begin}
 unfoldable pub use Rattle.nb_model.specs.Trail.{after_stroke}
 pub use Rattle.nb_model.specs.Trail.{ShowsIn, StandsIn, StandsOn, Trail}
 pub use Rattle.nb_model.specs.declared.reply.Reply.TheVariants.{Refused}
+pub use Rattle.nb_page.proofs.BlankLaws.{blank_free, blank_left}
 pub use Rattle.nb_page.specs.Quiet.{Quiet}
 unfoldable pub use Rattle.nb_scn.specs.Entries.{entries}
 pub use Rattle.nb_state.proofs.MakesLaws.{after_base, goes_nowhere, goes_on, open_quiet, open_running, open_still, still_open}

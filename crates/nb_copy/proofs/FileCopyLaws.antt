@@ -1,6 +1,6 @@
 -- A copy of the frozen file begins, and its turns.
 use Rattle.std.proofs.Common.{◌≡◌, ⊎_elim, inl, inr, ℕ, ◌≤◌, List, [], ◌∷◌, ◌++◌, length, replicate, refl, sym, ap, subst, ◌∙◌, arith, length-append, Result, Ok, Err, Some, None}
-use Rattle.nb_copy.proofs.Common.{size_of, state_of, most_pages, stalled_state, File, World, Leaves, Fault, Device, Memory, HostFault, Refusal, Changes, Only, Remade, GaveNothing, remade_weaker, Quiet, Base, copy_turn, Cause, Page, Image, image_size, image_state, joined, Copies, ClosesCopy, Outcome, Seen, unless, delta_name, IsOfSize, Trail, IsLaid, some_page, OfFiles, Tested, Held, IsOpen, name_of, Progress, Copying, CopiesFile, StartsCopy, copy_cause, IsBlank, IsFreeOr, IsUnfinishedOr, CopyTurn, blank_free, remade_twice}
+use Rattle.nb_copy.proofs.Common.{size_of, state_of, most_pages, stalled_state, File, World, Leaves, Fault, Device, Memory, HostFault, Refusal, Changes, Only, Remade, GaveNothing, remade_weaker, Quiet, Base, copy_turn, Cause, Page, Image, image_size, image_state, joined, Copies, ClosesCopy, Outcome, Seen, unless, delta_name, IsOfSize, Trail, IsLaid, some_page, OfFiles, Tested, Held, IsOpen, name_of, Progress, Copying, CopiesFile, StartsCopy, copy_cause, IsBlank, IsFreeOr, IsUnfinishedOr, CopyTurn, remade_twice, blank_free}
 use Rattle.nb_host.specs.declared.faults.Fault.TheVariants.{Refused}
 use Rattle.nb_model.specs.declared.reply.Reply.TheVariants.{Refused as RefusedBy}
 use Rattle.nb_base.proofs.OwnedLaws.{Holds, holds, base-state, base-size}

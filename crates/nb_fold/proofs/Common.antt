@@ -18,7 +18,7 @@ pub use Rattle.nb_fold.specs.Same.{GiveTheSame, Gives, IsFoldOf, IsMergedInto, l
 pub use Rattle.nb_fold.specs.Sources.{AllWait, AreAtEnd, AreOfPages, AreOpened, Held, IsGiven, IsLeast, IsOpened, IsTaken, Waits, WaitsBy, count_at, counts_at, due, due_by, rest_after, rests, waiting_page, waits_at}
 unfoldable pub use Rattle.nb_fold.specs.Verdict.{file_after, files_after}
 pub use Rattle.nb_fold.specs.Verdict.{chained, fold_verdict, not_after, with_files}
-pub use Rattle.nb_gather.proofs.QuietLaws.{is_made, remade_twice, taken_quiet}
+pub use Rattle.nb_gather.proofs.QuietLaws.{is_made, remade_twice, taken_quiet, unfinished_empty}
 pub use Rattle.nb_gather.specs.Gathering.{HasTaken, LevelWriting, MayHave}
 pub use Rattle.nb_gather.specs.Making.{IsKept, IsMade, IsUnfinished, IsUnfinishedOr}
 pub use Rattle.nb_host.proofs.NameLaws.{with_file-named}

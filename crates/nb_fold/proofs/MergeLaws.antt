@@ -1,13 +1,12 @@
 -- A page more of the files is folded.
 use Rattle.std.proofs.Common.{◌≡◌, ◌≢◌, ◌⊎◌, inl, inr, ⊎_elim, ℕ, ◌+◌, ◌<◌, ◌≤◌, List, [], ◌∷◌, ◌++◌, refl, sym, ap, subst, ◌∙◌, arith, append_assoc, Bool, IsTrue, Some, None, Option, Result, Ok, Err, true, false}
-use Rattle.nb_fold.proofs.Common.{append-nil, most_pages, File, Files, bytes_of, World, Leaves, LeavesAll, Only, NoNames, Remade, rested, kept_on, Quiet, LevelHead, head_of, Page, Numbered, level_bytes, LevelWriting, HasTaken, MayHave, IsUnfinished, IsUnfinishedOr, remade_twice, or_before, folded_pages, AllRise, AreApart, HasFolded, IsFolding, IsReady, Makes, MakesOr, Held, AllWait, AreAtEnd, IsLeast, WaitsBy, count_at, counts_at, rests, waiting_page, waits_at, with_file-named, taken_quiet}
+use Rattle.nb_fold.proofs.Common.{append-nil, most_pages, File, Files, bytes_of, World, Leaves, LeavesAll, Only, NoNames, Remade, rested, kept_on, Quiet, LevelHead, head_of, Page, Numbered, level_bytes, LevelWriting, HasTaken, MayHave, IsUnfinished, IsUnfinishedOr, remade_twice, or_before, folded_pages, AllRise, AreApart, HasFolded, IsFolding, IsReady, Makes, MakesOr, Held, AllWait, AreAtEnd, IsLeast, WaitsBy, count_at, counts_at, rests, waiting_page, waits_at, with_file-named, taken_quiet, unfinished_empty}
 use Rattle.nb_host.specs.Moments.{IsTimely, Passes}
 use Rattle.nb_host.specs.Calls.{Remakes}
 use Rattle.nb_change.proofs.MovedLaws.{remade_begun, remade_weaker}
 use Rattle.nb_change.proofs.CallLaws.{remade_alone}
 use Rattle.nb_gather.proofs.CloseLaws.{still_unfinished}
 use Rattle.nb_gather.proofs.FitLaws.{may_front}
-use Rattle.nb_gather.proofs.BlankLaws.{blank_empty, blank_free}
 use Rattle.nb_fold.proofs.FoldedLaws.{all_end, all_from, folded_ends, folded_least, left_after, page_is, rests_next}
 
 -- Nothing was made yet, and what reads is unfinished.
@@ -99,9 +98,6 @@ module _ (w : World) (file : LevelWriting) (sources : List Held) (whole : List N
       }
 
 -- The file is made, also where that fails.
-unfinished_empty : IsUnfinished (Some [])
-unfinished_empty = inl (blank_free (Some []) blank_empty)
-
 pub made_first : {T E : Type 0} (tells : Bool) (result : Result T E) (old new : World) (name : List ℕ) → IsTrue tells → IsTimely old → Remakes tells result old new name (Some []) → new.said ≡ old.said → Passes old new → MakesOr old new name IsUnfinished
 made_first tells result old new name told timely makes silent time = record {
   left = remade_alone tells result old new name (Some []) IsUnfinished told timely makes silent time unfinished_empty;

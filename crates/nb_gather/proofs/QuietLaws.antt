@@ -1,6 +1,6 @@
 -- Calls on the one file that is made, after calls that change nothing.
 use Rattle.std.proofs.Common.{◌≡◌, refl, inl, inr, ⊎_elim, ℕ, List, [], ap, subst, ◌∙◌, Bool, IsTrue, Result, Ok, Some, OnOk}
-use Rattle.nb_gather.proofs.Common.{File, Files, World, IsDurable, Leaves, Remakes, Syncs, Passes, Changes, Only, Remade, rested, composed, remade_on, still_more, left_before, Quiet, IsKept, IsMade, with_file-named, Numbered, LevelWriting, HasTaken}
+use Rattle.nb_gather.proofs.Common.{File, Files, World, IsDurable, Leaves, Remakes, Syncs, Passes, Changes, Only, Remade, rested, composed, remade_on, still_more, left_before, Quiet, IsKept, IsMade, with_file-named, Numbered, LevelWriting, HasTaken, IsBlank, blank_free, IsUnfinished}
 use Rattle.nb_change.specs.Gave.{GaveNothing}
 use Rattle.nb_change.proofs.ResultLaws.{on_ok_then}
 use Rattle.nb_change.proofs.SettledLaws.{synced}
@@ -54,3 +54,10 @@ taken_quiet old new file rs quiet has = record {
   waits = has.waits;
   counted = has.counted;
 }
+
+-- an empty file has a free name
+pub blank_empty : IsBlank (Some [])
+blank_empty = refl
+
+pub unfinished_empty : IsUnfinished (Some [])
+unfinished_empty = inl (blank_free (Some []) blank_empty)

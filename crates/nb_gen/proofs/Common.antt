@@ -1,4 +1,5 @@
 -- The definitions that the proofs of this crate speak in, and the laws of other crates that they cite, passed on from one place. Declares nothing.
+pub use Rattle.nb_gather.proofs.QuietLaws.{unfinished_empty}
 pub use Rattle.nb_gather.specs.Making.{IsNoBackup, IsUnfinished, IsUnfinishedOr}
 pub use Rattle.nb_gen.specs.Texts.{IsScriptText, generated_first}
 unfoldable pub use Rattle.nb_model.specs.Generated.{backup_line, generated, line_of, lines_from}

@@ -2,7 +2,7 @@
 pub use Rattle.nb_fields.proofs.FreshLaws.{bit_of-inventory, entry_of-scn, fresh_shows, length-taken_bits, taken_bits-free}
 pub use Rattle.nb_fields.proofs.HeaderLaws.{is_header-long, is_header-short, is_header-take}
 pub use Rattle.nb_fields.proofs.LengthLaws.{fresh_count-most}
-pub use Rattle.nb_fields.proofs.NumberLaws.{length-bytes_of, number_of-bytes_of}
+pub use Rattle.nb_fields.proofs.NumberLaws.{bit_at-most, length-bytes_of, number_of-bytes_of}
 pub use Rattle.nb_fields.proofs.PageLaws.{drop-page_of, kind_of-page_of, length-head_of, length-padded, length-page_of, padded_whole, part-append, stamp_of-page_of}
 pub use Rattle.nb_fields.proofs.PartLaws.{drop-with_part, length-part, length-with_part, number_in-take, number_in-with_part, number_in-with_part_other, part-take, part-with_part, part-with_part_other}
 pub use Rattle.nb_fields.proofs.PlaceLaws.{bits-least, entries-least, fresh_kind-scn, inventory_index, scn_place-some}

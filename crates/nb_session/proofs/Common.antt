@@ -16,6 +16,7 @@ pub use Rattle.nb_engine.specs.Replies.{done, page_made, scn_is, valued}
 pub use Rattle.nb_engine.specs.Turns.{DoesBegin, DoesEnd, SaysNone}
 unfoldable pub use Rattle.nb_fields.specs.Free.{is_free_file}
 pub use Rattle.nb_fields.specs.States.{normal_state, stalled_state}
+pub use Rattle.nb_gather.proofs.QuietLaws.{blank_empty}
 pub use Rattle.nb_gather.specs.Making.{IsEmpty, IsKept, IsUnfinishedOr}
 pub use Rattle.nb_host.proofs.PlainLaws.{both_true, or_assoc, or_false, take_self}
 pub use Rattle.nb_host.specs.Calls.{IsStill}
@@ -74,6 +75,7 @@ pub use Rattle.nb_model.specs.declared.reply.Reply.{Reply}
 pub use Rattle.nb_model.specs.declared.reply.Reply.TheVariants.{CacheShown, Done, Freed, HeaderShown, ImageShown, Leaked, Level, PageMade, Pages, PagesShown, Rows, Scn, Value}
 pub use Rattle.nb_model.specs.declared.statement.Statement.{Statement}
 pub use Rattle.nb_model.specs.declared.statement.Statement.TheVariants.{BackupSince, BeginBackup, CopyTo, EndBackup, ShowCache, Sync}
+pub use Rattle.nb_page.proofs.BlankLaws.{blank_free}
 pub use Rattle.nb_page.proofs.QuietLaws.{quiet_begun}
 unfoldable pub use Rattle.nb_page.specs.Free.{has_delta, is_free_name}
 pub use Rattle.nb_page.specs.Quiet.{Quiet}

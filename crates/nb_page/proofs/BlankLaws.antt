@@ -1,11 +1,14 @@
--- While page 0 isn't written, the file begins with zeros, so its name is free.
-use Rattle.std.proofs.Common.{◌≡◌, inl, inr, ℕ, ◌+◌, ◌-◌, ◌*◌, ◌≤◌, List, [], ◌++◌, length, take, drop, replicate, refl, sym, ap, subst, ◌∙◌, arith, length-append, true, None, Some}
-use Rattle.nb_gather.proofs.Common.{or_left, take-append-le, take-take, length-take-le, length-replicate, is_zeros, File, padded, put_at, with_page, PageLeft, IsBlank, zeros-behind}
-use Rattle.nb_fields.specs.Free.{is_free_file, is_unfinished}
-use Rattle.nb_host.specs.Files.{bytes_of}
+-- While page 0 isn't written, a file begins with zeros, so its name is free.
+use Rattle.std.proofs.Common.{◌≡◌, inl, inr, ℕ, ◌+◌, ◌-◌, ◌*◌, ◌≤◌, List, ◌++◌, length, take, drop, replicate, refl, sym, ap, subst, ◌∙◌, arith, length-append, true, None, Some}
+use Rattle.nb_page.proofs.Common.{or_left, take-append-le, length-take-le, length-replicate, is_zeros, File, is_free_file, is_unfinished}
+use Rattle.std.proofs.lemmas.List.{take-take}
+use Rattle.nb_host.specs.Files.{bytes_of, padded, put_at, with_page}
+use Rattle.nb_host.specs.Crash.{PageLeft}
+use Rattle.nb_fields.proofs.ZeroLaws.{zeros-behind}
 
-pub blank_empty : IsBlank (Some [])
-blank_empty = refl
+-- the bytes where a header would stand are zeros, or there are fewer
+abbrev pub IsBlank : File → Type 0
+IsBlank file = is_zeros (take 64 (bytes_of file)) ≡ true
 
 pub blank_free : (c : File) → IsBlank c → is_free_file c ≡ true
 unfolding is_free_file
@@ -13,7 +16,7 @@ blank_free None is = refl
 blank_free (Some bytes) is = or_left (is_zeros (take 64 bytes)) (is_unfinished bytes) is
 
 -- a page after page 0
-blank_put : (at : ℕ) (page : List ℕ) (b : File) → 64 ≤ at → IsBlank b → IsBlank (with_page b at page)
+pub blank_put : (at : ℕ) (page : List ℕ) (b : File) → 64 ≤ at → IsBlank b → IsBlank (with_page b at page)
 unfolding put_at padded
 blank_put at page b far is =
     let bytes : List ℕ = bytes_of b in
