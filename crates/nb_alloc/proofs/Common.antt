@@ -38,7 +38,7 @@ pub use Rattle.nb_host.specs.declared.faults.Fault.TheVariants.{Device, Memory, 
 pub use Rattle.nb_host.specs.declared.refusals.Refusal.{Refusal}
 pub use Rattle.nb_host.specs.declared.refusals.Refusal.TheVariants.{Access, Full, NotAllocated, NotDatabase, PageRange, SystemPage, TextLong}
 pub use Rattle.nb_model.proofs.DraftJoin.{join_new, join_set_bit, joined, joined_new}
-pub use Rattle.nb_model.proofs.DraftLaws.{IsOf, drafted_is, drafts_are, either, put_keeps, set_bit_keeps, system_keeps}
+pub use Rattle.nb_model.proofs.DraftLaws.{IsOf, drafted_is, drafts_are, either, page_image, put_keeps, set_bit_keeps, system_keeps}
 pub use Rattle.nb_model.proofs.FirstFree.{IsLowestFree, free_from_is, lowest_is}
 pub use Rattle.nb_model.proofs.NeedLaws.{behind_none, behind_some, first_append, first_behind, first_none, maps_found, maps_split}
 pub use Rattle.nb_model.proofs.NewSound.{inventory_before, places_apart, plain_place}

@@ -14,8 +14,8 @@ pub use Rattle.nb_catalog.specs.Reads.{all_reads}
 unfoldable pub use Rattle.nb_catalog.specs.Turns.{planned}
 pub use Rattle.nb_catalog.specs.Turns.{names_in}
 pub use Rattle.nb_catalog.specs.declared.entry.Entry.{Entry}
-pub use Rattle.nb_chain.proofs.AnswerLaws.{passed}
 pub use Rattle.nb_chain.specs.Level.{IsWhole, WholeSays}
+pub use Rattle.nb_host.proofs.FileLaws.{passed}
 pub use Rattle.nb_host.proofs.PlainLaws.{not_true, or_false, or_true}
 pub use Rattle.nb_host.specs.Files.{File, Files, bytes_of}
 pub use Rattle.nb_host.specs.Names.{same_name}

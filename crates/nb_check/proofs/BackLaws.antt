@@ -1,11 +1,10 @@
 -- Leaked pages are given back one after the other: what each front of the strokes leaves.
 use Rattle.std.proofs.Common.{◌≡◌, ◌≢◌, inl, inr, ℕ, zero, suc, ◌+◌, ◌<◌, ◌≤◌, List, [], ◌∷◌, ◌++◌, length, take, drop, refl, sym, ap, subst, append_assoc, ◌∙◌, arith, Bool, true, false, cond, ◌&&◌, ◌||◌, ◌==◌, not, nat_eq, None}
-use Rattle.nb_check.proofs.Common.{filter, range_with_len, cases_Bool, true≢false, and_left, or_cases, eqb_tells, append-nil, list_any-append, kind_of, is_system_place, data_kind, Base, History, Draft, drafted, give_page, is_free_page, Page, Image, page_at, image_size, HasHeader, IsSoundImage, Stroke, base_after, all_given, Along, along_append, along_front, drafted_is, drafts_are, set_bit_keeps, IsWhole, leaked_two, given_first, header_whole, eq_no, eq_yes, is_among, is_leaked, leaked, reached, unsound_by, check_cause, reclaimed}
+use Rattle.nb_check.proofs.Common.{filter, range_with_len, cases_Bool, true≢false, and_left, or_cases, eqb_tells, append-nil, list_any-append, kind_of, is_system_place, data_kind, Base, History, Draft, drafted, give_page, is_free_page, Page, Image, page_at, image_size, HasHeader, IsSoundImage, Stroke, base_after, all_given, Along, along_append, along_front, drafted_is, drafts_are, set_bit_keeps, IsWhole, leaked_two, given_first, header_whole, eq_no, eq_yes, is_among, is_leaked, leaked, reached, unsound_by, check_cause, reclaimed, given_none}
 use Rattle.nb_model.proofs.DraftLaws.{IsOf}
 use Rattle.nb_model.proofs.StrokeLaws.{base_after-append}
 use Rattle.nb_check.specs.Laws.{KeepsPages, Reclaims}
 use Rattle.nb_check.proofs.GiveLaws.{given, between, given_size, given_length, given_plain, given_fits, free_then, other_then, between_whole, between_size, between_length, between_plain, between_bit, give_along}
-use Rattle.nb_check.proofs.LeakLaws.{given_none}
 use Rattle.nb_check.proofs.SameLaws.{AreAlike, reached_same, chains_cause_same, rows_same, spots_same}
 use Rattle.nb_check.proofs.CauseLaws.{check_free}
 use Rattle.nb_check.proofs.SoundLaws.{facts_sound, check_parts}

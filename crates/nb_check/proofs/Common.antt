@@ -18,7 +18,7 @@ pub use Rattle.nb_fields.specs.Page.{kind_of, stamp_of}
 pub use Rattle.nb_fields.specs.Payloads.{bit_of, entry_of}
 unfoldable pub use Rattle.nb_fields.specs.Places.{is_inventory_place, is_scn_place, is_system_place}
 pub use Rattle.nb_fields.specs.Places.{bits_in, entries_in, inventory_place, is_page_size, most_pages, scn_place}
-pub use Rattle.nb_host.proofs.PlainLaws.{le_yes, never, none_some, not_false, some_none}
+pub use Rattle.nb_host.proofs.PlainLaws.{first_twice, le_yes, never, none_some, not_false, some_none}
 pub use Rattle.nb_host.specs.World.{World}
 pub use Rattle.nb_host.specs.declared.faults.Fault.{Fault}
 pub use Rattle.nb_host.specs.declared.faults.Fault.TheVariants.{Memory}
@@ -27,6 +27,7 @@ pub use Rattle.nb_host.specs.declared.refusals.Refusal.TheVariants.{Access, Unso
 pub use Rattle.nb_model.proofs.Along.{Along, along_append, along_front, put_along}
 pub use Rattle.nb_model.proofs.BitSound.{bit_put}
 pub use Rattle.nb_model.proofs.DraftLaws.{drafted_is, drafts_are, set_bit_keeps}
+pub use Rattle.nb_model.proofs.DropTurns.{given_none}
 pub use Rattle.nb_model.proofs.FitLaws.{Fits, IsWhole, fits_first}
 pub use Rattle.nb_model.proofs.LeakTurns.{given_first, leaked_plain, leaked_two}
 pub use Rattle.nb_model.proofs.PutSound.{IsPlace, Raises, header_whole, is_raised, no_first}

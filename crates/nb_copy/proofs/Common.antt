@@ -67,11 +67,12 @@ pub use Rattle.nb_host.specs.declared.refusals.Refusal.{Refusal}
 pub use Rattle.nb_host.specs.declared.refusals.Refusal.TheVariants.{Access, BackupRunning, FileExists, NoGuid, NoHistory, ScnExhausted, WrongState}
 pub use Rattle.nb_level.specs.Heads.{head_of}
 pub use Rattle.nb_level.specs.declared.head.LevelHead.{LevelHead}
-pub use Rattle.nb_model.proofs.DraftLaws.{drafted_is, drafts_are, either, grown_keeps, needs_keeps}
+pub use Rattle.nb_model.proofs.DraftLaws.{drafted_is, drafts_are, either, either_need, either_page, grown_keeps, needs_keeps}
 pub use Rattle.nb_model.proofs.HeaderLaws.{header-long, header-size}
 pub use Rattle.nb_model.proofs.ImageLaws.{all-take}
 pub use Rattle.nb_model.proofs.MainLaws.{IsLaid, some_page}
 pub use Rattle.nb_model.proofs.PutSound.{needs_image, no_first}
+pub use Rattle.nb_model.proofs.RoomThere.{taken_keeps}
 pub use Rattle.nb_model.proofs.SoundLaws.{inventory_place_some, kind_of_header, scn_place_of}
 pub use Rattle.nb_model.proofs.TurnCases.{no_cause}
 pub use Rattle.nb_model.specs.Account.{Ask, Base}

@@ -1,11 +1,6 @@
 -- What is answered, passed on.
-use Rattle.std.proofs.Common.{◌≡◌, ℕ, ◌≤◌, List, length, take, refl, sym, ap, subst, ◌∙◌, arith, Option, Some, None, option_map, is_some, Result, Ok, Err, IfOk, IsErr, IsErrAnd}
+use Rattle.std.proofs.Common.{◌≡◌, ℕ, ◌≤◌, List, length, take, refl, sym, ap, subst, ◌∙◌, arith, Option, Some, None, option_map, is_some, Result, Ok, Err, IfOk}
 use Rattle.nb_fixup.proofs.Common.{take-take, length-take, size_of, File, Fault, Refused, Device, Memory, Refusal, Cause, IsPageOf, Tested}
-
--- a fault that is passed on
-pub passed : (T : Type 0) (P : Result T Fault → Type 0) (result : Result T Fault) (fault : Fault) → IsErr result × IsErrAnd result (λ f. f ≡ fault) → P (Err fault) → P result
-passed T P (Ok value) fault is here = absurd is.1
-passed T P (Err e) fault is here = subst (λ (f : Fault). P (Err f)) (sym is.1) here
 
 -- what is refused by a test
 pub refused : (T : Type 0) (cause : Cause) (fault : Fault) (r : Refusal) → fault ≡ Refused r → cause ≡ Some r → Tested {T = T} cause (Err fault)

@@ -1,5 +1,4 @@
 -- The definitions that the proofs of this crate speak in, and the laws of other crates that they cite, passed on from one place. Declares nothing.
-pub use Rattle.nb_chain.proofs.AnswerLaws.{passed}
 pub use Rattle.nb_chain.specs.First.{Tested}
 pub use Rattle.nb_change.proofs.ChangesLaws.{kept_on, kept_then, rested}
 pub use Rattle.nb_change.proofs.GaveLaws.{gave_begun, nothing_joined}
@@ -21,6 +20,7 @@ pub use Rattle.nb_fold.specs.Verdict.{chained, fold_verdict, not_after, with_fil
 pub use Rattle.nb_gather.proofs.QuietLaws.{is_made, remade_twice, taken_quiet, unfinished_empty}
 pub use Rattle.nb_gather.specs.Gathering.{HasTaken, LevelWriting, MayHave}
 pub use Rattle.nb_gather.specs.Making.{IsKept, IsMade, IsUnfinished, IsUnfinishedOr}
+pub use Rattle.nb_host.proofs.FileLaws.{passed}
 pub use Rattle.nb_host.proofs.NameLaws.{with_file-named}
 pub use Rattle.nb_host.proofs.PlainLaws.{some_none, some_same}
 pub use Rattle.nb_host.specs.Crash.{Leaves, LeavesAll}

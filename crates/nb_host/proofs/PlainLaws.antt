@@ -1,6 +1,7 @@
 -- What holds of truth values, options, results, numbers and lists, for all crates.
-use Rattle.std.proofs.Common.{◌≡◌, ◌≢◌, ◌⊎◌, inl, inr, ℕ, ◌+◌, ◌*◌, ◌<◌, ◌≤◌, List, [], ◌∷◌, ◌++◌, length, take, refl, sym, ap, ◌∙◌, arith, mul-le-mul_right, suc, zero, true≢false, Bool, true, false, not, ◌&&◌, ◌||◌, Option, Some, None, Ok, Err, IsTrue, is_some, nat_eq, nat_lt, nat_le}
+use Rattle.std.proofs.Common.{◌≡◌, ◌≢◌, ◌⊎◌, inl, inr, ℕ, ◌+◌, ◌*◌, ◌<◌, ◌≤◌, List, [], ◌∷◌, ◌++◌, length, take, refl, sym, ap, ◌∙◌, arith, mul-le-mul_right, suc, zero, true≢false, Bool, true, false, not, ◌&&◌, ◌||◌, Option, Some, None, Ok, Err, IsTrue, is_some, nat_eq, nat_lt, nat_le, Contains, min}
 use Rattle.std.proofs.lemmas.Bool.Decides.{eqb_tells, leb_tells}
+use Rattle.std.specs.List.{AllByRecursion}
 
 -- what is there and what isn't
 pub some_same : {X : Type 0} (x y : X) → Some x ≡ Some y → x ≡ y
@@ -95,3 +96,16 @@ take_self (suc n) (x ∷ l) = ap (λ (k : List ℕ). x ∷ k) (take_self n l)
 -- what lies behind the first 64 bytes
 pub far_behind : (n size : ℕ) → 1 ≤ n → 1024 ≤ size → 64 ≤ n * size
 far_behind n size some wide = let low : 1 * size ≤ n * size = mul-le-mul_right size some in omega (arith, low, wide)
+
+pub none_in : {X : Type 0} (x : X) → Contains [] x → ⊥
+none_in x h = absurd (omega (arith, h.1))
+
+-- of two lists, and of both as one
+pub all_append : {A : Type 0} (P : A → Type 0) (xs ys : List A) → AllByRecursion P xs → AllByRecursion P ys → AllByRecursion P (xs ++ ys)
+all_append P [] ys first second = second
+all_append P (x ∷ xs) ys first second = (first.0, all_append P xs ys first.1 second)
+
+-- each page took one read at most, page 0 two
+pub first_twice : (old loop new number : ℕ) → (0 < number → new ≤ loop + 1) → new ≤ loop + 2 → loop ≤ old + number + min number 1 → new ≤ old + (number + 1) + min (number + 1) 1
+first_twice old loop new zero once twice so_far = omega (arith, twice, so_far)
+first_twice old loop new (suc n) once twice so_far = (let one : new ≤ loop + 1 = once (omega arith) in omega (arith, one, so_far))

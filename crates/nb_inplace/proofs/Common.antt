@@ -17,9 +17,10 @@ pub use Rattle.nb_fields.specs.Header.{guid_of, is_sound, pending_of, scn_of, si
 pub use Rattle.nb_fields.specs.Page.{stamp_of}
 pub use Rattle.nb_fields.specs.Places.{is_page_size, most_pages}
 pub use Rattle.nb_fields.specs.States.{applying_state, merge_state, normal_state, stalled_state}
-pub use Rattle.nb_fixup.proofs.AnswerLaws.{IsLong, long_file, passed, refused, tested_by}
+pub use Rattle.nb_fixup.proofs.AnswerLaws.{IsLong, long_file, refused, tested_by}
 pub use Rattle.nb_fixup.proofs.CauseLaws.{fits, no_page, parted, too_few, too_many}
 pub use Rattle.nb_fixup.specs.Tests.{Tested}
+pub use Rattle.nb_host.proofs.FileLaws.{passed}
 pub use Rattle.nb_host.proofs.NameLaws.{same_other, same_self, with_file-named}
 pub use Rattle.nb_host.proofs.PlainLaws.{not_false, some_none, some_same}
 pub use Rattle.nb_host.specs.Calls.{IsStill, ReadsPage, WritesPage}

@@ -1,6 +1,6 @@
 -- The start and the close of a backup keep what was seen well: the row that the close writes names the record that the begin has kept.
 use Rattle.std.proofs.Common.{◌≡◌, inl, inr, ℕ, ◌+◌, ◌*◌, ◌<◌, ◌≤◌, List, [], ◌∷◌, ◌++◌, length, take, drop, refl, sym, ap, subst, ◌∙◌, arith, append_assoc, Bool, true, false, ◌&&◌, Option, Some, None, Contains}
-use Rattle.nb_model.proofs.Common.{AllByRecursion, and_parts, cases_lt, take_at, Contains-append_right, bytes_of, number_in, padded, with_part, stamped, number_of-bytes_of, normal_state, stalled_state, data_kind, Ask, Kept, Base, Entry, room_in, ask_of, broken_at, History, Slot, Spot, is_used, level_in, scn_in, guid_in, slots_in, spots_on, spots_of, spots, pages_of, found_pages, last_such, backup_spot, backup_slot, put_slot, is_in_chain, drafted, Page, Image, page_at, image_size, image_state, image_scn, kept_of, Backing, Given, Seen, next_guid, HasHeader, is_history_page, GoesOn, GoesOnFrom, IsRemembered, HasRows, NamesPast, Step, makes, after_step, after_steps, made, Stroke, begin, on_base, base_after, records_of, Trail, settled, settles_at, after_stroke, AllGoOn, IsWellTrail}
+use Rattle.nb_model.proofs.Common.{AllByRecursion, and_parts, cases_lt, take_at, Contains-append_right, bytes_of, number_in, padded, with_part, stamped, number_of-bytes_of, normal_state, stalled_state, data_kind, Ask, Kept, Base, Entry, room_in, ask_of, broken_at, History, Slot, Spot, is_used, level_in, scn_in, guid_in, slots_in, spots_on, spots_of, spots, pages_of, found_pages, last_such, backup_spot, backup_slot, put_slot, is_in_chain, drafted, Page, Image, page_at, image_size, image_state, image_scn, kept_of, Backing, Given, Seen, next_guid, HasHeader, is_history_page, GoesOn, GoesOnFrom, IsRemembered, HasRows, NamesPast, Step, makes, after_step, after_steps, made, Stroke, begin, on_base, records_of, Trail, settled, settles_at, after_stroke, AllGoOn, IsWellTrail}
 use Rattle.nb_model.proofs.ControlMay.{may_begin}
 use Rattle.nb_model.proofs.ControlSound.{control_rest, control_long, control_goes_on, new_size, new_free}
 use Rattle.nb_model.proofs.ControlWell.{goes_on_now}
@@ -17,8 +17,8 @@ use Rattle.nb_model.proofs.SlotLaws.{linked_slots, linked_history, new_slots, ro
 use Rattle.nb_model.proofs.SoundLaws.{all_at}
 use Rattle.nb_model.proofs.SoundTurns.{HasPlace}
 use Rattle.nb_model.proofs.SteadyLaws.{WellAlong, KeepsAlong, record_of, kept_along, rows_along, begin_along, along_append, along_last, kept_append}
-use Rattle.nb_model.proofs.StepsLaws.{after_made, after_steps_append}
-use Rattle.nb_model.proofs.TrailLaws.{last_there, trail_bases}
+use Rattle.nb_model.proofs.StepsLaws.{after_steps_append, made_seen}
+use Rattle.nb_model.proofs.TrailLaws.{last_there}
 use Rattle.nb_model.proofs.TurnCases.{MayStart, started, IsFrom, whole, since}
 
 -- Rows of the history that pass a test are kept where room is made for one more.
@@ -86,9 +86,6 @@ pub record IsRecorded (kept : List Kept) (t : Trail) (b : Backing) : Type 0 wher
   pub there : Contains kept (kept_of b t.base.frozen)
   pub go_on : AllGoOn t (kept_of b t.base.frozen)
   pub page : HoldsRows (IsRemembered kept (AllGoOn t)) b.page t.base.image
-
-pub made_base : (t : Trail) (ss : List Stroke) → (after_steps t (made ss)).base ≡ base_after t.base ss
-made_base t ss = ap (λ (u : Trail). u.base) (after_made t ss) ∙ trail_bases ss t
 
 made_both : (xs ys : List Stroke) → made (xs ++ ys) ≡ made xs ++ made ys
 unfolding made
@@ -267,7 +264,7 @@ module _ (kept : List Kept) (t : Trail) (w : IsWellTrail kept t) (cache : ℕ) (
     later = subst (λ (rs : List Kept). IsWellTrail rs u) room.none (along_last kept t (made ss) room.along)
 
     stays : Stays t.base u.base
-    stays = subst (Stays t.base) (sym (made_base t ss)) (fitting_stays rows ss t.base fits.each (header_whole t.base.image header w.base.well.sound))
+    stays = subst (Stays t.base) (sym (made_seen t ss)) (fitting_stays rows ss t.base fits.each (header_whole t.base.image header w.base.well.sound))
 
     normal : image_state u.base.image ≡ normal_state
     normal = stays.state ∙ may.may.normal
@@ -276,7 +273,7 @@ module _ (kept : List Kept) (t : Trail) (w : IsWellTrail kept t) (cache : ℕ) (
     small = omega (arith, stays.scn, may.may.scn)
 
     page : HoldsRows (IsRemembered kept (AllGoOn u)) backing.page u.base.image
-    page = subst (λ (x : Image). HoldsRows (IsRemembered kept (AllGoOn u)) backing.page x) (sym fits.is.is ∙ ap (λ (b : Base). b.image) (sym (made_base t ss)))
+    page = subst (λ (x : Image). HoldsRows (IsRemembered kept (AllGoOn u)) backing.page x) (sym fits.is.is ∙ ap (λ (b : Base). b.image) (sym (made_seen t ss)))
         (holds_on (IsRemembered kept (AllGoOn t)) (IsRemembered kept (AllGoOn u)) backing.page (room_in t.base.image).draft.image (room_in t.base.image).draft.image (remembered_with kept (AllGoOn t) (AllGoOn u) room.go_on)
         (λ bytes kind held. held)
         (room_held (IsRemembered kept (AllGoOn t)) t.base header w.base.well.sound may.unbroken (chain_rows kept (AllGoOn t) t.base.image (its_past kept t w)) may.formed may.left))

@@ -36,7 +36,7 @@ given_first : (p : ℕ) (ps : List ℕ) (z : Image) → all_given (p ∷ ps) (dr
 unfolding all_given
 given_first p ps z = join_given ps (give_page p (drafted z))
 
-given_none : (z : Image) → (all_given [] (drafted z)).strokes ≡ []
+pub given_none : (z : Image) → (all_given [] (drafted z)).strokes ≡ []
 unfolding all_given
 given_none z = refl
 

@@ -13,6 +13,7 @@ use Rattle.nb_model.proofs.RoomLaws.{in_chain, free_is_spot, put_full}
 use Rattle.nb_model.proofs.StepLaws.{kind_parts, scn_page_moves}
 use Rattle.nb_model.proofs.SoundLaws.{scn_page_behind, with_page_length}
 use Rattle.nb_model.proofs.RoundLaws.{kind_found}
+use Rattle.nb_model.proofs.HeldRoom.{needs_image_same}
 
 -- A place for a row, whatever else stands in the image.
 pub record IsThere (image : Image) (page : ℕ) : Type 0 where
@@ -70,11 +71,6 @@ other_met image kind p = by (is_kind image kind p) refl
     by : (t : Bool) → is_kind image kind p ≡ t → (elim t as (λ z. List ℕ) [ true ↦ [] | false ↦ p ∷ [] ]) ≡ [] → is_kind image kind p ≡ true
     by true is e = is
     by false is e = absurd (some_none p [] e)
-
--- where a slot is free the draft's image is the image itself
-taken_image : (p : ℕ) (d : Draft) → (needs_taken p d).image ≡ d.image
-unfolding needs_taken
-taken_image p d = either (λ (x : Draft). x.image ≡ d.image) (is_free_page d.image p) _ _ refl refl
 
 -- The image has a header, that page size, and at least so many pages.
 record IsLong (least size : ℕ) (x : Image) : Type 0 where
@@ -251,7 +247,7 @@ module _ (image : Image) (header : HasHeader image) (unbroken : broken_at (pages
       same_image : (s : Spot) → (needs_taken s.page (needs 10 (scn_page_of image s.page) (needs 2 (inventory_of image s.page) (drafted image)))).image ≡ image
       same_image s =
           let read : Draft = needs 2 (inventory_of image s.page) (drafted image) in
-          taken_image s.page (needs 10 (scn_page_of image s.page) read) ∙ needs_image 10 (scn_page_of image s.page) read ∙ needs_image 2 (inventory_of image s.page) (drafted image)
+          needs_image_same s.page (needs 10 (scn_page_of image s.page) read) ∙ needs_image 10 (scn_page_of image s.page) read ∙ needs_image 2 (inventory_of image s.page) (drafted image)
 
       five : too_short image ≡ None → 5 ≤ length image
       five none = elim (leb_tells 5 (length image)) [
@@ -264,7 +260,7 @@ module _ (image : Image) (header : HasHeader image) (unbroken : broken_at (pages
       by None found short met left = grown_there (five short) left met
 
 -- and its image is that after its strokes
-taken_keeps : (P : Draft → Type 0) → IsKept P → (p : ℕ) (d : Draft) → P d → P (needs_taken p d)
+pub taken_keeps : (P : Draft → Type 0) → IsKept P → (p : ℕ) (d : Draft) → P d → P (needs_taken p d)
 unfolding needs_taken
 taken_keeps P kept p d h = either P (is_free_page d.image p) _ _ (kept.reads _ d h) h
 

@@ -65,7 +65,7 @@ steps_front es fs count low = ap (take count) (steps_append es fs) ∙ take-appe
 pub steps_behind : (es fs : List Event) (count : ℕ) → take (length (steps_of es) + count) (steps_of (es ++ fs)) ≡ steps_of es ++ take count (steps_of fs)
 steps_behind es fs count = ap (take (length (steps_of es) + count)) (steps_append es fs) ∙ take-append-add (steps_of es) (steps_of fs) count
 
-made_seen : (t : Trail) (ss : List Stroke) → (after_steps t (made ss)).base ≡ base_after t.base ss
+pub made_seen : (t : Trail) (ss : List Stroke) → (after_steps t (made ss)).base ≡ base_after t.base ss
 unfolding after_steps after_step made base_after
 made_seen t [] = refl
 made_seen t (s ∷ ss) = made_seen (after_stroke s t) ss ∙ ap (λ (b : Base). base_after b ss) (stroke_seen t s)

@@ -1,5 +1,4 @@
 -- The definitions that the proofs of this crate speak in, and the laws of other crates that they cite, passed on from one place. Declares nothing.
-pub use Rattle.nb_chain.proofs.AnswerLaws.{passed}
 pub use Rattle.nb_chain.proofs.ImageLaws.{length-written, over, written-inside, written-past}
 pub use Rattle.nb_chain.proofs.LinkLaws.{next_broken, split}
 pub use Rattle.nb_change.proofs.CallLaws.{bytes_alone, page_alone, page_others, remade_alone, remade_step}
@@ -23,6 +22,7 @@ pub use Rattle.nb_fields.specs.Header.{guid_of, header_length, is_sound, pending
 pub use Rattle.nb_fields.specs.Page.{kind_of, number_of_page, stamp_of}
 pub use Rattle.nb_fields.specs.Places.{is_page_size, most_pages}
 pub use Rattle.nb_fields.specs.States.{applying_state, normal_state, stalled_state}
+pub use Rattle.nb_host.proofs.FileLaws.{passed}
 pub use Rattle.nb_host.proofs.NameLaws.{with_file-named}
 pub use Rattle.nb_host.proofs.PlainLaws.{far_behind, not_false, not_lt, some_same}
 pub use Rattle.nb_host.specs.Calls.{AppendsBytes, IsStill, ReadsBytes, ReadsPage, Remakes, Syncs, WritesPage}

@@ -1,12 +1,12 @@
 -- The turns of a backup.
 use Rattle.std.proofs.Common.{◌≡◌, ◌⊎◌, inl, inr, ⊎_elim, ℕ, zero, suc, ◌-◌, ◌<◌, List, [], ◌∷◌, ◌++◌, length, replicate, refl, sym, ap, subst, ◌∙◌, arith, Bool, Result, Ok, Err, IsErr, IfErr, Some, None, true, false, Contains}
-use Rattle.nb_session.proofs.Common.{slice_index_or, append-nil, is_free_file, stalled_state, Files, is_delta, World, Leaves, Fault, Refused, Device, Memory, RunError, Refusal, Changes, Remade, weakened, reached_first, Reply, Level, Statement, BackupSince, Base, Room, room_in, close_backup, is_free_entry, Foretells, WasGiven, HasItsEntry, IsAt, IsGoing, IsMaking, Image, image_scn, file_of, count_in, MadeFile, kept_of, making, delta_name, Turn, Begins, Copies, ClosesBackup, Ends, Backing, Given, Seen, Outcome, DoesNothing, next_guid, next_time, without_guid, without_time, passes, Now, Event, base_now, outcome, is_sync, event_of, Stroke, base_after, Trail, StandsIn, after_stroke, first_turn, turn, no_main, started, OfFiles, after_strokes, IsNoRefusal, Held, IsOpen, name_of, Goes, WhereEnded, GaveAtMost, Progress, More, Finished, after_base, where_ended, gave_none, file_count, file_next, file_written, whole_file, IsEmpty, IsUnfinishedOr, Backed, IsBackingUp, IsStarted, OfStart, StartLeft, StartMakes, StartsBackup, KnowsFree, Left, Same, Other, Taken, Backup, End, Told, Says, Grows, shown_by, Touched, TurnLeft, Acts, MayAct, FitsAsked, IsBackup, file_asked, copy_first, copy_rest, left_refused, left_task, task_first, task_rest, IsReady, IsApart, TaskGoes, EndsEarly, begun_in, left_making, touching, IsBehind, Turns, has_only_told, only_told, one_held, blank_free, blank_empty}
+use Rattle.nb_session.proofs.Common.{slice_index_or, append-nil, is_free_file, stalled_state, Files, is_delta, World, Leaves, Fault, Refused, Device, Memory, RunError, Refusal, Changes, Remade, weakened, reached_first, Reply, Level, Statement, BackupSince, Base, Room, room_in, close_backup, is_free_entry, Foretells, WasGiven, HasItsEntry, IsAt, IsGoing, IsMaking, Image, image_scn, file_of, count_in, MadeFile, kept_of, making, delta_name, Turn, Begins, Copies, ClosesBackup, Ends, Backing, Given, Seen, Outcome, DoesNothing, next_guid, next_time, without_guid, without_time, Now, Event, base_now, outcome, is_sync, event_of, Stroke, base_after, Trail, StandsIn, after_stroke, first_turn, turn, no_main, started, OfFiles, after_strokes, IsNoRefusal, Held, IsOpen, name_of, Goes, WhereEnded, GaveAtMost, Progress, More, Finished, after_base, where_ended, gave_none, file_count, file_next, file_written, whole_file, IsEmpty, IsUnfinishedOr, Backed, IsBackingUp, IsStarted, OfStart, StartLeft, StartMakes, StartsBackup, KnowsFree, Left, Same, Other, Taken, Backup, End, Told, Says, Grows, shown_by, Touched, TurnLeft, Acts, MayAct, FitsAsked, IsBackup, file_asked, copy_first, copy_rest, left_refused, left_task, task_first, task_rest, IsReady, IsApart, TaskGoes, EndsEarly, begun_in, left_making, touching, IsBehind, Turns, has_only_told, only_told, one_held, blank_free, blank_empty}
 use Rattle.nb_model.specs.declared.reply.Reply.TheVariants.{Refused as RefusedBy}
 use Rattle.nb_model.specs.declared.statement.Statement.TheVariants.{Backup as BackupTo}
 use Rattle.nb_copy.specs.Closing.{OfBackup, GaveTimeAtMost, CloseLeft, CopiesOn, CloseDone, BackupTurn, BackupCounts}
 use Rattle.nb_session.proofs.ActLaws.{trail_plain, ended_map, kept_none, says_none, idle_unchanged, first_given, most_given, grows_at_most}
 use Rattle.nb_session.proofs.EventLaws.{Marks, marks_made, unsaid}
-use Rattle.nb_session.proofs.CopyLaws.{apart_one, file_left, each_one, kept_one, made_by, no_stroke, stalled_now, finished_not, more_not}
+use Rattle.nb_session.proofs.CopyLaws.{apart_one, file_left, each_one, kept_one, made_by, no_stroke, stalled_now, finished_not, more_not, page_is}
 use Rattle.nb_session.proofs.GiftLaws.{given_nothing, grows_none}
 use Rattle.nb_session.proofs.MakesLaws.{none_runs}
 use Rattle.nb_session.proofs.NameLaws.{given_plain}
@@ -232,10 +232,6 @@ module _ (old new : World) (a b : Held) (t : Trail) (now : Now) (session : ℕ) 
       record { next = append-nil this.next ∙ sym (ap (λ (o : Outcome). o.next) same) ∙ (has_not (seen_now now) session x asks refusal does.says).next; goes = tt }
 
 -- A further turn of a backup.
-page_is : (session : ℕ) (now : Now) → outcome session Copies now ≡ passes (seen_now now)
-unfolding outcome turn
-page_is session now = refl
-
 close_is : (session : ℕ) (b : Backing) (now : Now) → outcome session (ClosesBackup b) now ≡ close_backup (seen_now now) b
 unfolding outcome turn
 close_is session b now = refl

@@ -146,7 +146,7 @@ module _ (old new : World) (a b : Held) (t : Trail) (now : Now) (session : ℕ) 
       record { next = append-nil this.next ∙ sym (ap (λ (o : Outcome). o.next) (begin_is session name now)) ∙ begin_none (seen_now now) session name refusal starts.says; goes = tt }
 
 -- A further turn of a copy.
-page_is : (session : ℕ) (now : Now) → outcome session Copies now ≡ passes (seen_now now)
+pub page_is : (session : ℕ) (now : Now) → outcome session Copies now ≡ passes (seen_now now)
 unfolding outcome turn
 page_is session now = refl
 

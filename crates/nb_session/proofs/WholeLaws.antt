@@ -1,9 +1,8 @@
 -- A script that is played: its schedule, and then rounds until all sessions have finished.
 use Rattle.std.proofs.Common.{◌≡◌, ℕ, zero, suc, ◌+◌, ◌-◌, ◌≤◌, List, [], ◌∷◌, ◌++◌, length, map, get_or, append_assoc, inl, inr, refl, sym, ap, subst, ◌∙◌, arith, Bool, IsTrue, true, false, Result, Ok, Err, Some, None, Contains, slice_get}
-use Rattle.nb_session.proofs.Common.{AllByRecursion, range_with_len, slice_index_or, cases_lt, append-nil, get_or_past, length-map, get_or-map, is_delta, World, IsTimely, CountsRun, RunError, is_free_entry, Foretells, IsMaking, MadeFile, under_way, AreAmong, Turn, Begins, Event, Now, Played, one_turn, play, rounds, all_sessions, files_made, AreFinished, begun, steps_of, after_steps, Trail, own_in_use, free_play, made_once, play-append, no_main, Scene, scene, agent_of, AllDone, TakesTurns, EndsWith, FailsBehind, IsAskable, IsSession, Plan, Held, name_of, Told, Grows, Asker, HasTodo, left_of, IsFit, any_refused, fresh_asker, first_askers, IsReady, Plays, shown_next, touching_by, PlaysInTurn, told_events, told_turns}
+use Rattle.nb_session.proofs.Common.{AllByRecursion, range_with_len, slice_index_or, cases_lt, append-nil, get_or_past, length-map, get_or-map, is_delta, World, IsTimely, CountsRun, RunError, is_free_entry, Foretells, IsMaking, MadeFile, under_way, AreAmong, Turn, Begins, Event, Now, Played, one_turn, play, rounds, all_sessions, files_made, AreFinished, begun, steps_of, after_steps, Trail, own_in_use, free_play, made_once, play-append, no_main, Scene, scene, agent_of, AllDone, TakesTurns, EndsWith, FailsBehind, IsAskable, IsSession, Plan, Held, name_of, Told, Grows, Asker, HasTodo, left_of, IsFit, any_refused, fresh_asker, first_askers, IsReady, Plays, shown_next, touching_by, PlaysInTurn, told_events, told_turns, all_append}
 use Rattle.nb_sched.specs.Turns.{IsReady as AreReady}
 use Rattle.nb_sched.proofs.TurnLaws.{turns_hold}
-use Rattle.nb_session.proofs.AllLaws.{all_append}
 use Rattle.nb_session.proofs.EndLaws.{turns_end}
 use Rattle.nb_session.proofs.GiftLaws.{foretold_first, grows_joined}
 use Rattle.nb_session.proofs.GuidsTaken.{given_taken}

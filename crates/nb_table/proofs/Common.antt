@@ -30,7 +30,8 @@ pub use Rattle.nb_host.specs.declared.refusals.Refusal.{Refusal}
 pub use Rattle.nb_host.specs.declared.refusals.Refusal.TheVariants.{Full, KeyExists, NoKey, NoTable, NotDatabase, TableExists, TooManyTables}
 pub use Rattle.nb_model.proofs.ChainWalks.{IsWalk, StaysLinked, linked_same, ok_found, pages_stay, walk_cases, walk_zero}
 pub use Rattle.nb_model.proofs.DraftLaws.{IsOf, drafted_is, drafts_are, new_keeps, put_keeps, set_bit_keeps}
-pub use Rattle.nb_model.proofs.DropTurns.{join_given}
+pub use Rattle.nb_model.proofs.DropTurns.{given_none, join_given}
+pub use Rattle.nb_model.proofs.LeakTurns.{given_first}
 pub use Rattle.nb_model.proofs.NeatLaws.{all_both, all_go}
 pub use Rattle.nb_model.proofs.PutSound.{no_first}
 pub use Rattle.nb_model.proofs.ReadLaws.{eq_no, eq_yes, le_no, lt_no, lt_yes}

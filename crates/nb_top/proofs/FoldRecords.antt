@@ -1,12 +1,12 @@
 -- Level files of kept backups, folded: what they tell is the file of the last backup that goes on from what the first goes on from.
 use Rattle.std.proofs.Common.{◌≡◌, ◌≢◌, inl, inr, ℕ, suc, ◌+◌, ◌<◌, ◌≤◌, List, [], ◌∷◌, ◌++◌, length, refl, sym, ap, ap₂, subst, ◌∙◌, arith, Bool, true, false, nat_lt, nat_le, Option, Some, None, Ok, Contains}
-use Rattle.nb_top.proofs.Common.{AllByRecursion, and_from, and_parts, leb-true, le-leb, eqb_tells, leb_tells, stamp_of, Files, is_delta, Kept, Account, Page, Image, image_size, AreRising, Contents, Head, file_for, head_for, level_bytes, taken, taken_from, changed, IsSoundImage, IsAncestor, IsKeptAs, IsLineTo, IsSpan, Stands, nil, to_record, span_bytes, level_told, bytes_for, first_head, folded, folded_head, folded_pages, last_head, last_page, or_before, page_of, pages_of_each, chained, files_after, GoesAfter, files_rise, folded_page, goes_after, next_files, AreOfKept}
+use Rattle.nb_top.proofs.Common.{AllByRecursion, and_from, and_parts, leb-true, le-leb, eqb_tells, leb_tells, stamp_of, Files, is_delta, Kept, Account, Page, Image, image_size, AreRising, Contents, Head, file_for, head_for, level_bytes, taken, taken_from, changed, IsSoundImage, IsAncestor, IsKeptAs, IsLineTo, IsSpan, Stands, nil, to_record, span_bytes, level_told, bytes_for, first_head, folded, folded_head, folded_pages, last_head, last_page, or_before, page_of, pages_of_each, chained, files_after, GoesAfter, files_rise, folded_page, goes_after, next_files, AreOfKept, leads_on}
 use Rattle.nb_fields.specs.Places.{most_pages}
 use Rattle.nb_model.specs.Account.{Ask}
 use Rattle.nb_model.specs.Image.{Numbered}
 use Rattle.nb_model.proofs.ChainLaws.{taken_rise}
 use Rattle.nb_model.proofs.ChangedLaws.{sound_changed}
-use Rattle.nb_model.proofs.FollowsLaws.{Meets, follows_on, meets}
+use Rattle.nb_model.proofs.FollowsLaws.{Meets, meets}
 use Rattle.nb_model.proofs.ReadLaws.{eq_no, eq_yes, lt_no, lt_yes}
 use Rattle.nb_restore.proofs.ParentLaws.{LeadsTo}
 use Rattle.nb_inplace.proofs.KeptLaws.{IsOfRecord, of_record}
@@ -131,9 +131,6 @@ ancestor_joined kept a b c first second = record { between = second.between ++ b
     by : (between : List Kept) (r : Kept) → IsLineTo kept b r between → IsLineTo kept a r (between ++ b ∷ first.between)
     by [] r line = (line, first.line)
     by (p ∷ ps) r line = (line.0, by ps p line.1)
-
-leads_on : (a b c : Kept) → LeadsTo a b → LeadsTo b c → LeadsTo a c
-leads_on a b c f g = record { earlier = omega (arith, f.earlier, g.earlier); follows = follows_on f.follows g.follows (omega (arith, f.earlier)) }
 
 -- What the files tell together: the pages of the last record since the one that the first goes on from.
 pub record IsOfLine (kept : List Kept) (cs : List Contents) : Type 0 where

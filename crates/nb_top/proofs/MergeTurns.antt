@@ -1,6 +1,6 @@
 -- The one turn of a merge in place: what it must be, and what stands after it.
 use Rattle.std.proofs.Common.{◌≡◌, ◌≢◌, ℕ, List, [], ◌∷◌, length, true, false, refl, sym, ap, subst, ◌∙◌, Bool, ◌==◌, nat_lt, None, Some, Result, Ok, Err}
-use Rattle.nb_top.proofs.Common.{state_of, stamp_of, applying_state, File, Files, Refusal, Usage, NoFile, BadLevel, ChainScn, Pages, Account, Cause, Page, image_in, bytes_in, in_place, in_place_of, not_finishing, not_mergeable, not_next, not_standby, other_pages, written_since, only_turn, only_refusal, apply_turn, account_behind, Contents, read_level, Event, account_after, with_made, merge, merged, IsOther, other_first, other_when, other_database, IsMergeable}
+use Rattle.nb_top.proofs.Common.{state_of, stamp_of, applying_state, File, Files, Refusal, Usage, NoFile, BadLevel, ChainScn, Pages, Account, Cause, Page, image_in, bytes_in, in_place, in_place_of, not_finishing, not_mergeable, not_next, not_standby, other_pages, written_since, only_turn, only_refusal, apply_turn, account_behind, Contents, read_level, Event, account_after, with_made, merge, merged, IsOther, other_first, other_when, other_database, IsMergeable, none_other}
 use Rattle.nb_top.proofs.ChainRefusals.{bad_level, no_file, some_other}
 
 -- the turn that merges what a level file holds into a standby
@@ -20,9 +20,6 @@ standby_other : (name : List ℕ) (file : File) → IsOther (not_standby name fi
 unfolding not_standby
 standby_other name None = some_other (NoFile name) (no_file name)
 standby_other name (Some bytes) = other_first _ (other_database bytes, (other_when _ _ (λ e. cc), tt))
-
-none_other : IsOther None
-none_other e = cc
 
 written_other : (name : List ℕ) (scn : ℕ) (pages : List Page) → IsOther (written_since name scn pages)
 unfolding written_since
