@@ -40,11 +40,8 @@ script_read : (bytes : Bytes) → IsForScript (script_of bytes)
 unfolding script_of
 script_read bytes = by (nat_lt 1048576 (length bytes))
   where
-    long : (n : ℕ) → ScriptLong n ≢ Usage
-    long n h = cc
-
     by : (b : Bool) → IsForScript (if b then Err (ScriptLong (length bytes)) else of_lines (length (lines_of bytes)) (left 0 bytes))
-    by true = long (length bytes)
+    by true = λ e. cc
     by false = broken_for (of_lines (length (lines_of bytes)) (left 0 bytes)) (all_broken (length (lines_of bytes)) (left 0 bytes))
 
 pub file_read : (name : List ℕ) (file : File) → IsForScript (script_in name file)
