@@ -5,6 +5,7 @@ use Rattle.nb_fields.specs.Free.{is_free_file}
 use Rattle.nb_host.specs.Files.{with_page}
 use Rattle.nb_base.proofs.CreateLaws.{HasRest, whole_shows}
 use Rattle.nb_page.proofs.BlankLaws.{IsBlank}
+use Rattle.nb_fields.proofs.ZeroLaws.{zeros-behind}
 
 blank-empty : (c : File) → c ≡ Some [] → IsBlank c
 blank-empty c is = ap (λ (x : File). is_zeros (take 64 (bytes_of x))) is
@@ -126,7 +127,7 @@ first_page tells result old mid new name size raw page so page_is kept is silent
     by : (b c d : File) → mid.now name b → PageLeft (0 * length page) page b c → (is_free_file c ≡ true) ⊎ (owner name c d ≡ Ok (base_of (fresh size raw)))
     by b c d n (inl same) = inl (blank_free c (blank-same b c same (kept.making.blank b n)))
     by b c d n (inr (inl put)) = inr (subst (λ (x : File). owner name x d ≡ Ok (base_of (fresh size raw))) (sym (put ∙ ap (λ (x : File). with_page x (0 * length page) page) (kept.durable.only b n))) (kept.whole page page_is d))
-    by b c d n (inr (inr (k, fits, grown))) = inl (blank_free c (blank-grown (k * length page) b c grown (kept.making.blank b n)))
+    by b c d n (inr (inr (k, fits, grown))) = inl (blank_free c (subst IsBlank (sym grown) (zeros-behind 64 (k * length page) (bytes_of b) (kept.making.blank b n))))
 
 -- and so it reads
 pub first_page_reads : {T E : Type 0} (tells : Bool) (result : Result T E) (old mid new : World) (name : List ℕ) (size raw : ℕ) (page : List ℕ) → IsTrue tells → page ≡ fresh_page size raw 0 → KeepsRest old mid name size raw
