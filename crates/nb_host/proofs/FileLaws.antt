@@ -3,6 +3,7 @@ use Rattle.std.proofs.Common.{◌≡◌, ℕ, ◌+◌, ◌-◌, ◌≤◌, List,
 use Rattle.std.proofs.lemmas.List.{append-nil, length-replicate}
 use Rattle.nb_host.specs.Files.{padded}
 use Rattle.nb_host.specs.declared.faults.Fault.{Fault}
+use Rattle.nb_host.specs.declared.faults.Fault.TheVariants.{Device, Memory}
 
 pub padded-short : (bytes : List ℕ) (len : ℕ) → len ≤ length bytes → padded bytes len ≡ bytes
 unfolding padded
@@ -16,3 +17,7 @@ length-front bytes at = omega (arith, length-take at (bytes ++ replicate (at - l
 pub passed : (T : Type 0) (P : Result T Fault → Type 0) (result : Result T Fault) (fault : Fault) → IsErr result × IsErrAnd result (λ f. f ≡ fault) → P (Err fault) → P result
 passed T P (Ok value) fault is here = absurd is.1
 passed T P (Err e) fault is here = subst (λ (f : Fault). P (Err f)) (sym is.1) here
+
+-- the device isn't memory
+pub device_memory : Device ≡ Memory → ⊥
+device_memory h = cc

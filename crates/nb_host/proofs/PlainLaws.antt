@@ -1,5 +1,5 @@
 -- What holds of truth values, options, results, numbers and lists, for all crates.
-use Rattle.std.proofs.Common.{◌≡◌, ◌≢◌, ◌⊎◌, inl, inr, ℕ, ◌+◌, ◌*◌, ◌<◌, ◌≤◌, List, [], ◌∷◌, ◌++◌, length, take, refl, sym, ap, ◌∙◌, arith, mul-le-mul_right, suc, zero, true≢false, Bool, true, false, not, ◌&&◌, ◌||◌, Option, Some, None, Ok, Err, IsTrue, is_some, nat_eq, nat_lt, nat_le, Contains, min}
+use Rattle.std.proofs.Common.{◌≡◌, ◌≢◌, ◌⊎◌, inl, inr, ℕ, ◌+◌, ◌*◌, ◌<◌, ◌≤◌, List, [], ◌∷◌, ◌++◌, length, take, refl, sym, ap, ◌∙◌, arith, mul-le-mul_right, suc, zero, true≢false, Bool, true, false, not, ◌&&◌, ◌||◌, Option, Some, None, Ok, Err, IsTrue, is_some, nat_eq, nat_lt, nat_le, Contains, min, Result, IsErr}
 use Rattle.std.proofs.lemmas.Bool.Decides.{eqb_tells, leb_tells}
 use Rattle.std.specs.List.{AllByRecursion}
 
@@ -20,8 +20,23 @@ pub not_some : {X : Type 0} (o : Option X) → not (is_some o) ≡ true → o �
 not_some None h = refl
 not_some (Some x) h = cc
 
+pub none_and_some : {X : Type 0} (o : Option X) (x : X) → o ≡ None → o ≡ Some x → ⊥
+none_and_some o x e f = cc
+
 pub err_ok : {E T : Type 0} (e : E) (x : T) → Err e ≡ Ok x → ⊥
 err_ok e x is = cc
+
+pub ok_equal : {T E : Type 0} (x y : T) → ◌≡◌ {A = Result T E} (Ok x) (Ok y) → x ≡ y
+ok_equal x y e = cc
+
+pub ok_same : {X E : Type 0} (x y : X) (answer : Result X E) → answer ≡ Ok x → answer ≡ Ok y → x ≡ y
+ok_same x y answer e f = cc
+
+pub err_not_ok : {X E : Type 0} (error : E) (x : X) (answer : Result X E) → answer ≡ Err error → answer ≡ Ok x → ⊥
+err_not_ok error x answer e f = cc
+
+pub no_err : (T E : Type 0) (x : T) → IsErr {T = T} {E = E} (Ok x) → ⊥
+no_err T E x h = cc
 
 -- truth values
 pub false_true : false ≡ true → ⊥
@@ -81,12 +96,21 @@ pub not_lt : (m n : ℕ) → nat_lt n m ≡ false → m ≤ n
 not_lt m n h = elim (leb_tells (suc n) m) [ inl w ↦ absurd (true≢false (sym w.0 ∙ h)) | inr w ↦ omega (arith, w.1) ]
 
 -- lists
+pub nil_cons : {X : Type 0} (x : X) (xs : List X) → [] ≡ x ∷ xs → ⊥
+nil_cons x xs e = cc
+
+pub cons_nil : {X : Type 0} (x : X) (xs : List X) → x ∷ xs ≡ [] → ⊥
+cons_nil x xs e = cc
+
+pub head_same : {X : Type 0} (x y : X) (xs ys : List X) → x ∷ xs ≡ y ∷ ys → x ≡ y
+head_same x y xs ys e = cc
+
+pub tail_same : {X : Type 0} (x y : X) (xs ys : List X) → x ∷ xs ≡ y ∷ ys → xs ≡ ys
+tail_same x y xs ys e = cc
+
 pub append_none : (xs ys : List ℕ) → xs ++ ys ≡ [] → (xs ≡ []) × (ys ≡ [])
 append_none [] ys e = (refl, e)
-append_none (x ∷ xs) ys e = absurd (cons_none e)
-  where
-    cons_none : x ∷ (xs ++ ys) ≡ [] → ⊥
-    cons_none h = cc
+append_none (x ∷ xs) ys e = absurd (cons_nil x (xs ++ ys) e)
 
 pub take_self : (n : ℕ) (l : List ℕ) → take n l ≡ take (length (take n l)) l
 take_self zero l = refl
