@@ -41,8 +41,9 @@ unfoldable pub use Rattle.nb_fields.specs.Places.{is_scn_place}
 pub use Rattle.nb_fields.specs.Places.{is_page_size, most_pages, slots_in}
 pub use Rattle.nb_fields.specs.States.{applying_state, merge_state, normal_state, stalled_state}
 unfoldable pub use Rattle.nb_fields.specs.Table.{page_in, slot_place, table_of}
+pub use Rattle.nb_host.proofs.FileLaws.{device_memory}
 pub use Rattle.nb_host.proofs.NameLaws.{with_file-named}
-pub use Rattle.nb_host.proofs.PlainLaws.{none_there, not_le}
+pub use Rattle.nb_host.proofs.PlainLaws.{err_ok, false_true, nil_cons, no_err, none_some, none_there, not_le, ok_equal, ok_same, some_none, some_same}
 pub use Rattle.nb_host.specs.Calls.{IsSilent, IsStill, ReadsBytes, ReadsPage, Remakes, Syncs, WholeOrNot, WritesPage}
 pub use Rattle.nb_host.specs.Crash.{IsDurable, Leaves, LeavesAll, PageLeft, Untouched}
 unfoldable pub use Rattle.nb_host.specs.Files.{padded, put_at, with_file}
@@ -61,7 +62,7 @@ pub use Rattle.nb_model.proofs.FreshImageLaws.{fresh_count-least, fresh_forced, 
 pub use Rattle.nb_model.proofs.HeadSound.{all_zeros}
 pub use Rattle.nb_model.proofs.HeaderLaws.{header-long, header-other, header-room, header-scn, header-size, header-state, same-header, same-number}
 pub use Rattle.nb_model.proofs.ImageLaws.{AreZeros, IsTrimmed, all-append, all-drop, all-left, all-replicate, all-right, all-take, joined-flat_map, length-joined, page-joined, trimmed-append_zeros, trimmed-before, trimmed-drop, trimmed-nothing, trimmed-over, trimmed-zeros, trimming}
-pub use Rattle.nb_model.proofs.MainLaws.{IsLaid, IsLaidOut, image_in-is, laid, laid-front, laid-wide, main_facts, ok_same, owned-first, owned-front, owner-formed, owner-none, owner-refused, owner_in-normal, owner_main, some_page, trimmed_laid, whole_laid}
+pub use Rattle.nb_model.proofs.MainLaws.{IsLaid, IsLaidOut, image_in-is, laid, laid-front, laid-wide, main_facts, owned-first, owned-front, owner-formed, owner-none, owner-refused, owner_in-normal, owner_main, some_page, trimmed_laid, whole_laid}
 pub use Rattle.nb_model.proofs.OverLaws.{owned_at, owned_length}
 pub use Rattle.nb_model.proofs.OwnerLaws.{main_here, main_past, named, other_page, written_length}
 pub use Rattle.nb_model.proofs.PutLaws.{laid_grown, laid_put, put-first, put-joined, put-next, with_page-split}

@@ -1,6 +1,6 @@
 -- What a crash may leave goes on by a page write: by itself, and where the write is lost.
 use Rattle.std.proofs.Common.{◌≡◌, ◌≢◌, ◌⊎◌, inl, inr, ⊎_elim, ℕ, zero, suc, ◌+◌, List, [], ◌∷◌, ◌++◌, length, take, drop, refl, sym, ap, subst, ◌∙◌, arith, append_assoc, length-append, Bool, true, false, ◌||◌, ◌==◌, nat_eq, nat_le, Option, Some, None, max}
-use Rattle.nb_base.proofs.Common.{list_any, true≢false, eqb_tells, take-append-drop, append-nil, is_scn_place, state_of, size_of, stalled_state, merge_state, Page, Image, page_at, first_page, image_size, image_state, is_forced, with_page, Base, Stroke, page, on_base, merged_page, noted, entry_for, Trail, bases_of, is_synced, settles_at, after_stroke, IsMixture, IsFirm, must_sync, same-number, with_page_length, with_page_same, with_page_other, itself_firm, trail_base, waits_after, Fits, not_le}
+use Rattle.nb_base.proofs.Common.{list_any, true≢false, eqb_tells, take-append-drop, append-nil, is_scn_place, state_of, size_of, stalled_state, merge_state, Page, Image, page_at, first_page, image_size, image_state, is_forced, with_page, Base, Stroke, page, on_base, merged_page, noted, entry_for, Trail, bases_of, is_synced, settles_at, after_stroke, IsMixture, IsFirm, must_sync, same-number, with_page_length, with_page_same, with_page_other, itself_firm, trail_base, waits_after, Fits, not_le, some_none}
 use Rattle.nb_model.proofs.MixtureWrites.{mixture_put, mixture_lost}
 use Rattle.nb_base.proofs.OwnedLaws.{entry-front}
 
@@ -35,32 +35,29 @@ module _ (b : Base) (p : ℕ) (bytes : Page) where
   ]
 
 -- Entries that are noted.
-some_none : {k : ℕ} → Some k ≡ None → ⊥
-some_none h = cc
-
 entry-any : (p : ℕ) (table : List ℕ) (k : ℕ) → entry_for p table ≡ Some k → list_any (nat_eq p) table ≡ true
 unfolding entry_for
-entry-any p [] k e = absurd (some_none (sym e))
+entry-any p [] k e = absurd (some_none {X = ℕ} _ (sym e))
 entry-any p (q ∷ qs) k e = elim (eqb_tells p q) [
   | inl w ↦ ap (λ (t : Bool). t || list_any (nat_eq p) qs) w.0
   | inr w ↦ ap (λ (t : Bool). t || list_any (nat_eq p) qs) w.0 ∙ by (entry-any p qs) (entry_for p qs) refl (sym (ap (λ (t : Bool). elim t as (λ z. Option ℕ) [ true ↦ Some 0 | false ↦ elim (entry_for p qs) [ None ↦ None | Some i ↦ Some (suc i) ] ]) w.0) ∙ e)
 ]
   where
     by : ((i : ℕ) → entry_for p qs ≡ Some i → list_any (nat_eq p) qs ≡ true) → (x : Option ℕ) → entry_for p qs ≡ x → elim (entry_for p qs) as (λ z. Option ℕ) [ None ↦ None | Some i ↦ Some (suc i) ] ≡ Some k → list_any (nat_eq p) qs ≡ true
-    by so_far None is h = absurd (some_none (sym h ∙ ap (λ (y : Option ℕ). elim y as (λ z. Option ℕ) [ None ↦ None | Some i ↦ Some (suc i) ]) is))
+    by so_far None is h = absurd (some_none {X = ℕ} _ (sym h ∙ ap (λ (y : Option ℕ). elim y as (λ z. Option ℕ) [ None ↦ None | Some i ↦ Some (suc i) ]) is))
     by so_far (Some i) is h = so_far i is
 
 none-any : (p : ℕ) (table : List ℕ) → entry_for p table ≡ None → list_any (nat_eq p) table ≡ false
 unfolding entry_for
 none-any p [] e = refl
 none-any p (q ∷ qs) e = elim (eqb_tells p q) [
-  | inl w ↦ absurd (some_none (sym (ap (λ (t : Bool). elim t as (λ z. Option ℕ) [ true ↦ Some 0 | false ↦ elim (entry_for p qs) [ None ↦ None | Some i ↦ Some (suc i) ] ]) w.0) ∙ e))
+  | inl w ↦ absurd (some_none {X = ℕ} _ (sym (ap (λ (t : Bool). elim t as (λ z. Option ℕ) [ true ↦ Some 0 | false ↦ elim (entry_for p qs) [ None ↦ None | Some i ↦ Some (suc i) ] ]) w.0) ∙ e))
   | inr w ↦ ap (λ (t : Bool). t || list_any (nat_eq p) qs) w.0 ∙ none-any p qs (by (entry_for p qs) refl (sym (ap (λ (t : Bool). elim t as (λ z. Option ℕ) [ true ↦ Some 0 | false ↦ elim (entry_for p qs) [ None ↦ None | Some i ↦ Some (suc i) ] ]) w.0) ∙ e))
 ]
   where
     by : (x : Option ℕ) → entry_for p qs ≡ x → elim (entry_for p qs) as (λ z. Option ℕ) [ None ↦ None | Some i ↦ Some (suc i) ] ≡ None → entry_for p qs ≡ None
     by None is h = is
-    by (Some i) is h = absurd (some_none (sym (ap (λ (y : Option ℕ). elim y as (λ z. Option ℕ) [ None ↦ None | Some i ↦ Some (suc i) ]) is) ∙ h))
+    by (Some i) is h = absurd (some_none {X = ℕ} _ (sym (ap (λ (y : Option ℕ). elim y as (λ z. Option ℕ) [ None ↦ None | Some i ↦ Some (suc i) ]) is) ∙ h))
 
 pub noted-there : (p : ℕ) (table : List ℕ) (k : ℕ) → entry_for p table ≡ Some k → noted p table ≡ table
 unfolding noted

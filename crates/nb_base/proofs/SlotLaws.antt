@@ -1,8 +1,8 @@
 -- Pages go into their slots in the stalled state, before their entries are in the table: what a crash leaves, and what reads after each.
 use Rattle.std.proofs.Common.{◌≡◌, ◌≢◌, ◌⊎◌, inl, inr, ⊎_elim, ℕ, ◌+◌, ◌<◌, ◌≤◌, List, [], ◌++◌, length, refl, sym, ap, subst, ◌∙◌, arith, append_assoc, Bool, true, false, Option, Some, None, Ok}
-use Rattle.nb_base.proofs.Common.{true≢false, cases_eq, eqb_tells, is_scn_place, state_of, size_of, stalled_state, File, bytes_of, World, IsTimely, Changes, Only, Moved, begun, moved_on, weaker_has, Known, HasTable, SlotStep, SlotPut, slot_page, Page, page_at, first_page, image_size, image_state, Base, delta_name, entry_for, owner, page, on_base, Trail, bases_of, settled, HasPage, IsFirm, StandsIn, IsBehind, IsRewritten, IsOnTheWay, way_left, named, itself_firm, put_same, put_other, put_first, put_long, put_frozen, Held, Agrees, IsSeen, IsWrite, StandsAs, HasPageIn, MaySlot, IsSlotted, GoesIn, none_there}
+use Rattle.nb_base.proofs.Common.{true≢false, cases_eq, eqb_tells, is_scn_place, state_of, size_of, stalled_state, File, bytes_of, World, IsTimely, Changes, Only, Moved, begun, moved_on, weaker_has, Known, HasTable, SlotStep, SlotPut, slot_page, Page, page_at, first_page, image_size, image_state, Base, delta_name, entry_for, owner, page, on_base, Trail, bases_of, settled, HasPage, IsFirm, StandsIn, IsBehind, IsRewritten, IsOnTheWay, way_left, named, itself_firm, put_same, put_other, put_first, put_long, put_frozen, Held, Agrees, IsSeen, IsWrite, StandsAs, HasPageIn, MaySlot, IsSlotted, GoesIn, none_there, some_same}
 use Rattle.nb_base.proofs.LeftLaws.{stroke-stalled, noted-there}
-use Rattle.nb_base.proofs.OwnedLaws.{Holds, holds, shows, base-length, base-state, base-size, entry-front, entry-behind, entry_apart, some_same}
+use Rattle.nb_base.proofs.OwnedLaws.{Holds, holds, shows, base-length, base-state, base-size, entry-front, entry-behind, entry_apart}
 use Rattle.nb_base.proofs.StepLaws.{holds_slots, holds_slot}
 use Rattle.nb_base.proofs.WriteLaws.{main_apart}
 
@@ -128,7 +128,7 @@ module _ (w new : World) (held : Held) (f t : Trail) (waits : ℕ → Bool) (goe
   -- where its entry stands, if the table has it
   module _ (b : Base) (rest : List ℕ) (all : t.base.diverted ≡ b.diverted ++ rest) where
     entry_is : (j : ℕ) → entry_for p b.diverted ≡ Some j → j ≡ k
-    entry_is j e = some_same (sym (entry-front p b.diverted rest j e) ∙ ap (entry_for p) (sym all) ∙ at)
+    entry_is j e = some_same {X = ℕ} _ _ (sym (entry-front p b.diverted rest j e) ∙ ap (entry_for p) (sym all) ∙ at)
 
     entry_past : entry_for p b.diverted ≡ None → length b.diverted ≤ k
     entry_past e = entry-behind p b.diverted rest k e (ap (entry_for p) (sym all) ∙ at)
@@ -274,7 +274,7 @@ module _ (w new : World) (held : Held) (f t : Trail) (waits : ℕ → Bool) (goe
       slots_next : (q j : ℕ) → entry_for q t.base.diverted ≡ Some j → length f.base.diverted ≤ j → later q ≡ false → HasPageIn held.page_size j (page_at t.base.image q) (new.files (delta_name held.name))
       slots_next q j e late gone = elim (eqb_tells q p) [
         | inl v ↦
-            let same : j ≡ k = some_same (sym e ∙ ap (λ n. entry_for n t.base.diverted) v.1 ∙ at) in
+            let same : j ≡ k = some_same {X = ℕ} _ _ (sym e ∙ ap (λ n. entry_for n t.base.diverted) v.1 ∙ at) in
             subst (λ n. HasPageIn held.page_size n (page_at t.base.image q) c) (sym same) (record { whole = put.whole; same = put.slot ∙ may.same ∙ sym (ap (page_at t.base.image) v.1) })
         | inr v ↦
             let old : HasPageIn held.page_size j (page_at t.base.image q) d = goes.slots q j e late (sym (as_before q v.1) ∙ gone) in

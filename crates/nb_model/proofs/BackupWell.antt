@@ -1,6 +1,6 @@
 -- The start and the close of a backup keep what was seen well: the row that the close writes names the record that the begin has kept.
 use Rattle.std.proofs.Common.{◌≡◌, inl, inr, ℕ, ◌+◌, ◌*◌, ◌<◌, ◌≤◌, List, [], ◌∷◌, ◌++◌, length, take, drop, refl, sym, ap, subst, ◌∙◌, arith, append_assoc, Bool, true, false, ◌&&◌, Option, Some, None, Contains}
-use Rattle.nb_model.proofs.Common.{AllByRecursion, and_parts, cases_lt, take_at, Contains-append_right, bytes_of, number_in, padded, with_part, stamped, number_of-bytes_of, normal_state, stalled_state, data_kind, Ask, Kept, Base, Entry, room_in, ask_of, broken_at, History, Slot, Spot, is_used, level_in, scn_in, guid_in, slots_in, spots_on, spots_of, spots, pages_of, found_pages, last_such, backup_spot, backup_slot, put_slot, is_in_chain, drafted, Page, Image, page_at, image_size, image_state, image_scn, kept_of, Backing, Given, Seen, next_guid, HasHeader, is_history_page, GoesOn, GoesOnFrom, IsRemembered, HasRows, NamesPast, Step, makes, after_step, after_steps, made, Stroke, begin, on_base, records_of, Trail, settled, settles_at, after_stroke, AllGoOn, IsWellTrail}
+use Rattle.nb_model.proofs.Common.{AllByRecursion, and_parts, cases_lt, take_at, Contains-append_right, bytes_of, number_in, padded, with_part, stamped, number_of-bytes_of, normal_state, stalled_state, data_kind, Ask, Kept, Base, Entry, room_in, ask_of, broken_at, History, Slot, Spot, is_used, level_in, scn_in, guid_in, slots_in, spots_on, spots_of, spots, pages_of, found_pages, last_such, backup_spot, backup_slot, put_slot, is_in_chain, drafted, Page, Image, page_at, image_size, image_state, image_scn, kept_of, Backing, Given, Seen, next_guid, HasHeader, is_history_page, GoesOn, GoesOnFrom, IsRemembered, HasRows, NamesPast, Step, makes, after_step, after_steps, made, Stroke, begin, on_base, records_of, Trail, settled, settles_at, after_stroke, AllGoOn, IsWellTrail, some_same}
 use Rattle.nb_model.proofs.ControlMay.{may_begin}
 use Rattle.nb_model.proofs.ControlSound.{control_rest, control_long, control_goes_on, new_size, new_free}
 use Rattle.nb_model.proofs.ControlWell.{goes_on_now}
@@ -155,14 +155,11 @@ module _ (kept : List Kept) (t : Trail) (w : IsWellTrail kept t) where
 
     its_parent : (asked : Ask) → broken_at (pages_of History t.base.image) ≡ None → IsFrom t.base.image asked → HasParent kept (record_of u guid (Some asked))
     unfolding ask_of
-    its_parent asked unbroken (whole none) ask is some = absurd (some (ap (λ (a : Ask). a.previous) (sym (same_ask ask is) ∙ none)))
-      where
-        same_ask : (a : Ask) → Some asked ≡ Some a → asked ≡ a
-        same_ask a e = cc
+    its_parent asked unbroken (whole none) ask is some = absurd (some (ap (λ (a : Ask). a.previous) (sym (some_same asked ask is) ∙ none)))
     its_parent asked unbroken (since level test row found goes_by) ask is some =
         let remembered : IsRemembered kept (AllGoOn t) row.bytes = its_row test row unbroken found in
         let all : AllGoOn u remembered.backup = on remembered.backup remembered.passes in
-        subst (GoesOnFrom kept (record_of u guid (Some asked))) (same_ask ask is)
+        subst (GoesOnFrom kept (record_of u guid (Some asked))) (some_same asked ask is)
         (subst (λ (a : Ask). GoesOnFrom kept (record_of u guid (Some a)) a) (sym goes_by) (record {
           parent = remembered.backup;
           kept_as = remembered.kept_as;
@@ -170,9 +167,6 @@ module _ (kept : List Kept) (t : Trail) (w : IsWellTrail kept t) where
           earlier = (all u.base (last_there u.earlier u.base)).earlier;
           follows = (goes_on_then (Some (ask_of level (Some row))) remembered.backup all).follows;
         }))
-      where
-        same_ask : (a : Ask) → Some asked ≡ Some a → asked ≡ a
-        same_ask a e = cc
 
 -- What is well along the strokes of an outcome, and recorded after them.
 pub record StartsWell (kept : List Kept) (t : Trail) (ss : List Stroke) (b : Backing) : Type 0 where

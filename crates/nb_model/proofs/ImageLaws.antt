@@ -1,6 +1,6 @@
 -- Lists of pages: their bytes joined and cut again, and the pages of zeros at their end.
 use Rattle.std.proofs.Common.{◌≡◌, inl, inr, ℕ, zero, suc, ◌+◌, ◌*◌, ◌<◌, ◌≤◌, List, [], ◌∷◌, ◌++◌, length, take, drop, replicate, refl, sym, ap, ◌∙◌, arith, length-append, append_assoc, suc-mul, Bool, true, false}
-use Rattle.nb_model.proofs.Common.{AllByRecursion, flat_map, cases_Bool, leb_tells, take_at, drop_at, length-drop, length-take-le, take-append-drop, replicate-append-replicate, is_zeros, Page, Image, page_at, cut, trimmed, joined, HasNoZeros, IsOfSize}
+use Rattle.nb_model.proofs.Common.{AllByRecursion, flat_map, cases_Bool, leb_tells, take_at, drop_at, length-drop, length-take-le, take-append-drop, replicate-append-replicate, is_zeros, Page, Image, page_at, cut, trimmed, joined, HasNoZeros, IsOfSize, nil_cons}
 
 -- each page is all zeros
 abbrev pub AreZeros : List Page → Type 0
@@ -186,13 +186,10 @@ trimmed-tail p ps h = by (trimmed ps) (sym (trimmed-cons p ps) ∙ h)
   where
     by : (qs : Image) → kept p qs ≡ p ∷ ps → qs ≡ ps
     by [] e = elim (cases_Bool (is_zeros p)) [
-      | inl w ↦ absurd (none_some (sym (kept-zero p w) ∙ e))
+      | inl w ↦ absurd (nil_cons p ps (sym (kept-zero p w) ∙ e))
       | inr w ↦ ap tail (sym (kept-other p [] w) ∙ e)
     ]
       where
-        none_some : [] ≡ p ∷ ps → ⊥
-        none_some h = cc
-
         tail : Image → Image
         tail [] = []
         tail (x ∷ xs) = xs

@@ -1,12 +1,12 @@
 -- An image stays neat where the slot of a table in the catalogue is emptied: the table is gone then, and the others stay.
 use Rattle.std.proofs.Common.{◌≡◌, ◌≢◌, ◌⊎◌, inl, inr, ⊎_elim, ℕ, List, [], ◌∷◌, ◌++◌, map, refl, sym, ap, subst, ◌∙◌, append_assoc, Bool, true, false, ◌&&◌, Option, Some, None, Ok}
-use Rattle.nb_model.proofs.Common.{AllByRecursion, told_text, true≢false, and_parts, and_left, same_name, Chain, Catalogue, History, Spot, is_used, table_of, first_such, pages_of, found_pages, spots, table_spot, is_free_page, Image, GivesRows, rows_in, rows, used, table_chains, chains, pages_of_all, AreDistinct, names_of, IsNeat}
+use Rattle.nb_model.proofs.Common.{AllByRecursion, told_text, true≢false, and_parts, and_left, same_name, Chain, Catalogue, History, Spot, is_used, table_of, first_such, pages_of, found_pages, spots, table_spot, is_free_page, Image, GivesRows, rows_in, rows, used, table_chains, chains, pages_of_all, AreDistinct, names_of, IsNeat, some_same}
 use Rattle.nb_model.proofs.HeldChains.{split_all, join_all}
 use Rattle.nb_model.proofs.NeatGrows.{apart_front, distinct_both}
 use Rattle.nb_model.proofs.NeatLaws.{all_go, all_both, pages_first, distinct_left, distinct_right, chains_are, each_table, tables_each, table_found, IsFoundTable, used_each, used_yes, used_not, rows_of_none, rows_of_some, ChangesChain, same_pages, same_all}
 use Rattle.nb_model.proofs.RoomLaws.{first_passes}
 use Rattle.nb_model.proofs.SpotKeys.{keys_in, Absent}
-use Rattle.nb_model.proofs.SpotMaps.{ChangesOne, all_spots, both_spots, none_found, others_found, first_true, first_false, same_some}
+use Rattle.nb_model.proofs.SpotMaps.{ChangesOne, all_spots, both_spots, none_found, others_found, first_true, first_false}
 use Rattle.nb_model.proofs.TableCases.{chain_at}
 use Rattle.nb_model.proofs.Inserted.{names_first, tables_pages, used_nothing}
 
@@ -49,7 +49,7 @@ once_name table (x ∷ xs) s distinct found = by (λ d h. once_name table xs s d
     by rest false is = ((λ e. absurd (true≢false (sym e ∙ is))), rest behind (sym (first_false (has_name table) x xs is) ∙ found))
     by rest true is =
         let its = name_of table x is in
-        ((λ e. same_some x s (sym (first_true (has_name table) x xs is) ∙ found)), never (table_of x.bytes) its.1 xs (subst AreDistinct (names_used x xs its.0) distinct).0)
+        ((λ e. some_same x s (sym (first_true (has_name table) x xs is) ∙ found)), never (table_of x.bytes) its.1 xs (subst AreDistinct (names_used x xs its.0) distinct).0)
 
 module _ (f : Spot → Spot) (s : Spot) (empty : is_used (f s).bytes ≡ false) where
   -- What holds of the used slots holds of those that are left, and none of them is the one that was emptied.

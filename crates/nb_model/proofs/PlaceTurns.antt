@@ -1,6 +1,6 @@
 -- The slot of a new table is placed in the catalogue, in an image in which the table's page stands.
 use Rattle.std.proofs.Common.{◌≡◌, ◌≢◌, ◌⊎◌, inl, inr, ⊎_elim, ℕ, zero, suc, ◌+◌, ◌*◌, ◌≤◌, ◌<◌, List, [], ◌∷◌, ◌++◌, length, drop, refl, sym, ap, subst, ◌∙◌, arith, Bool, true, false, Option, Some, None, is_some, Ok, Contains}
-use Rattle.nb_model.proofs.Common.{AllByRecursion, told_text, true≢false, and_from, and_left, and_right, eq-eqb, append-nil, bytes_of, with_part, data_payload, data_kind, same_name, Base, broken_at, Chain, Catalogue, History, RowsFrom, Slot, Spot, owner_of, next_in, is_slot, is_used, table_of, first_in, slots_in, first_such, free_spot, walk, pages_of, found_pages, spots_of, spots, table_spot, table_slot, put_slot, last_of, grown, place_at, place_slot, Draft, drafted, wants, put, raised, new_page, Page, Image, page_at, GivesRows, used, table_chains, chains, pages_of_all, IsNeat, HasHeader, IsSoundImage, is_table_name}
+use Rattle.nb_model.proofs.Common.{AllByRecursion, told_text, true≢false, and_from, and_left, and_right, eq-eqb, append-nil, bytes_of, with_part, data_payload, data_kind, same_name, Base, broken_at, Chain, Catalogue, History, RowsFrom, Slot, Spot, owner_of, next_in, is_slot, is_used, table_of, first_in, slots_in, first_such, free_spot, walk, pages_of, found_pages, spots_of, spots, table_spot, table_slot, put_slot, last_of, grown, place_at, place_slot, Draft, drafted, wants, put, raised, new_page, Page, Image, page_at, GivesRows, used, table_chains, chains, pages_of_all, IsNeat, HasHeader, IsSoundImage, is_table_name, some_same}
 use Rattle.nb_model.proofs.Along.{Along, put_along}
 use Rattle.nb_model.proofs.ChainWalks.{HasForm, there_by, walk_on_is, onward, found_is, spots_are}
 use Rattle.nb_model.proofs.DraftJoin.{Joins, joined, joined_grouped, join_put, join_wants, join_new}
@@ -17,7 +17,7 @@ use Rattle.nb_model.proofs.FoundSpots.{each_held, found_there}
 use Rattle.nb_model.proofs.SlotPuts.{slot_between, keeps as slot_keeps, IsSlotPut, slot_put}
 use Rattle.nb_model.proofs.SpotKeys.{ChangesOnce, Absent}
 use Rattle.nb_model.proofs.SpotLaws.{IsSpotOn}
-use Rattle.nb_model.proofs.SpotMaps.{ChangesOne, all_spots, both_spots, is_free_slot, free_unused as not_used, none_such, no_such, such_passes, first_true, first_false, others_found, now_found, same_some}
+use Rattle.nb_model.proofs.SpotMaps.{ChangesOne, all_spots, both_spots, is_free_slot, free_unused as not_used, none_such, no_such, such_passes, first_true, first_false, others_found, now_found}
 use Rattle.nb_model.proofs.SpotMore.{first_in_front, first_behind}
 use Rattle.nb_model.proofs.SpotWrites.{put_at, put_it, all_change, changes_once}
 use Rattle.nb_model.proofs.TableCases.{chain_at}
@@ -52,7 +52,7 @@ such_among s free f filled test [] found = cc
 such_among s free f filled test (x ∷ xs) found = by (test x) refl (λ h. such_among s free f filled test xs h)
   where
     by : (t : Bool) → test x ≡ t → (first_such test xs ≡ Some s → Among f s free filled xs) → (x ≡ s) ⊎ Among f s free filled xs
-    by true is rest = inl (same_some x s (sym (first_true test x xs is) ∙ found))
+    by true is rest = inl (some_same x s (sym (first_true test x xs is) ∙ found))
     by false is rest = inr (rest (sym (first_false test x xs is) ∙ found))
 
 used_from : (P : Spot → Type 0) (xs : List Spot) → AllByRecursion P xs → AllByRecursion (λ u. P u × (is_used u.bytes ≡ true)) (used xs)

@@ -1,6 +1,6 @@
 -- One slot among the slots of a chain is written: which rows there are then, and that no key stands twice.
 use Rattle.std.proofs.Common.{◌≡◌, ◌≢◌, ◌⊎◌, inl, inr, ℕ, List, [], ◌∷◌, map, refl, sym, ap, subst, ◌∙◌, arith, Bool, true, false, ◌&&◌, ◌==◌, nat_eq, slice_index, Option, Some, None, option_map}
-use Rattle.nb_model.proofs.Common.{AllByRecursion, true≢false, and_parts, and_left, and_right, eqb-true, ne_eqb, eqb_tells, Spot, is_used, key_of, text_in, first_such, free_spot, row_spot, with_row, without_row, row_at, rows_in}
+use Rattle.nb_model.proofs.Common.{AllByRecursion, true≢false, and_parts, and_left, and_right, eqb-true, ne_eqb, eqb_tells, Spot, is_used, key_of, text_in, first_such, free_spot, row_spot, with_row, without_row, row_at, rows_in, some_same, some_none}
 use Rattle.nb_model.proofs.RowMaps.{with_rising, without_rising, rows_rise, with_here, with_there, without_here, without_there, same_maps, rows_at}
 
 -- what holds of each
@@ -26,12 +26,6 @@ first_true test x xs e = first_is test x xs ∙ ap (λ (t : Bool). picked t x (f
 pub first_false : (test : Spot → Bool) (x : Spot) (xs : List Spot) → test x ≡ false → first_such test (x ∷ xs) ≡ first_such test xs
 first_false test x xs e = first_is test x xs ∙ ap (λ (t : Bool). picked t x (first_such test xs)) e
 
-some_none : (s : Spot) → Some s ≡ None → ⊥
-some_none s e = cc
-
-pub same_some : (x y : Spot) → Some x ≡ Some y → x ≡ y
-same_some x y e = cc
-
 -- none passes
 pub none_such : (test : Spot → Bool) (xs : List Spot) → first_such test xs ≡ None → AllByRecursion (λ u. test u ≡ false) xs
 none_such test [] e = tt
@@ -53,7 +47,7 @@ such_passes test [] s e = cc
 such_passes test (x ∷ xs) s e = by (λ h. such_passes test xs s h) (test x) refl
   where
     by : (first_such test xs ≡ Some s → test s ≡ true) → (t : Bool) → test x ≡ t → test s ≡ true
-    by rest true is = subst (λ (z : Spot). test z ≡ true) (same_some x s (sym (first_true test x xs is) ∙ e)) is
+    by rest true is = subst (λ (z : Spot). test z ≡ true) (some_same x s (sym (first_true test x xs is) ∙ e)) is
     by rest false is = rest (sym (first_false test x xs is) ∙ e)
 
 -- A slot s is changed by f, and the others stay.
@@ -77,7 +71,7 @@ module _ (f : Spot → Spot) (s : Spot) where
   now_found test other (x ∷ xs) e all new = by (λ h. now_found test other xs h all.1 new) (other x) refl
     where
       by : (first_such other xs ≡ Some s → first_such test (map f xs) ≡ Some (f s)) → (t : Bool) → other x ≡ t → first_such test (f x ∷ map f xs) ≡ Some (f s)
-      by rest true is = let same : x ≡ s = same_some x s (sym (first_true other x xs is) ∙ e) in first_true test (f x) (map f xs) (ap (λ (u : Spot). test (f u)) same ∙ new) ∙ ap (λ (u : Spot). Some (f u)) same
+      by rest true is = let same : x ≡ s = some_same x s (sym (first_true other x xs is) ∙ e) in first_true test (f x) (map f xs) (ap (λ (u : Spot). test (f u)) same ∙ new) ∙ ap (λ (u : Spot). Some (f u)) same
       by rest false is = first_false test (f x) (map f xs) (all.0 is) ∙ rest (sym (first_false other x xs is) ∙ e)
 
   pub none_found : (test : Spot → Bool) (xs : List Spot) → AllByRecursion (λ u. test (f u) ≡ false) xs → first_such test (map f xs) ≡ None

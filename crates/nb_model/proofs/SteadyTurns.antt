@@ -1,6 +1,6 @@
 -- While a backup is under way its record is kept, and all that was seen goes on from it: so each turn keeps what was seen well.
-use Rattle.std.proofs.Common.{◌≡◌, ◌≢◌, inl, inr, ℕ, zero, suc, ◌-◌, List, [], ◌∷◌, ◌++◌, length, replicate, get_or, refl, sym, ap, subst, ◌∙◌, arith, append_assoc, Bool, Option, Some, None, true, false, ◌==◌}
-use Rattle.nb_model.proofs.Common.{AllByRecursion, eqb-true, eqb_tells, normal_state, stalled_state, merge_state, Refusal, Reply, Statement, Ask, Kept, Base, room_in, close_backup, close_copy, runs_other, AreBeginnings, AreMerging, IsNamed, AreNamed, HasRoom, Runs, IsAt, waits, backs_up, copies, merges, IsGoing, image_state, image_scn, Turn, Begins, Copies, ClosesBackup, ClosesCopy, Ends, Merges, Finishes, Backing, Seen, Outcome, next_guid, next_time, end_strokes, ends_by, Event, Now, Played, base_now, event_of, outcome, stands_then, one_turn, play, Step, settles, after_step, after_steps, made, steps_of, HasHeader, Stroke, begin, ends, finish, base_after, Trail, settled, first_turn, turn, is_on_pages, IsWellTrail}
+use Rattle.std.proofs.Common.{◌≡◌, ◌≢◌, inl, inr, ℕ, zero, suc, ◌-◌, List, [], ◌∷◌, ◌++◌, length, replicate, get_or, refl, sym, ap, subst, ◌∙◌, arith, append_assoc, Bool, Option, None, true, false, ◌==◌}
+use Rattle.nb_model.proofs.Common.{AllByRecursion, eqb-true, eqb_tells, normal_state, stalled_state, merge_state, Refusal, Reply, Statement, Ask, Kept, Base, room_in, close_backup, close_copy, runs_other, AreBeginnings, AreMerging, IsNamed, AreNamed, HasRoom, Runs, IsAt, waits, backs_up, copies, merges, IsGoing, image_state, image_scn, Turn, Begins, Copies, ClosesBackup, ClosesCopy, Ends, Merges, Finishes, Backing, Seen, Outcome, next_guid, next_time, end_strokes, ends_by, Event, Now, Played, base_now, event_of, outcome, stands_then, one_turn, play, Step, settles, after_step, after_steps, made, steps_of, HasHeader, Stroke, begin, ends, finish, base_after, Trail, settled, first_turn, turn, is_on_pages, IsWellTrail, none_some}
 use Rattle.nb_model.specs.Going.{ends as ending}
 use Rattle.nb_model.proofs.BackupWell.{IsLedTo, IsRecorded, StartsWell, recorded_on, recorded_settled, start_well, close_well}
 use Rattle.nb_model.proofs.GoingLaws.{next_sixteen, one_runs, name_short, then_base, own_todo, other_todo, one_cases, going_turn, named_turn, merge_turns}
@@ -118,9 +118,6 @@ module _ (kept : List Kept) (t : Trail) (now : Now) (session : ℕ) (base : t.ba
     begun_turn : MayBegin t.base.image → Does (cases.begun s)
     begun_turn may = alone_turn (begin (next_guid now.given) None ∷ []) rest (begin_along kept t (next_guid now.given) None w may.normal sixteen may.scn (λ ask is some. absurd (none_some ask is)))
         (waits_then (after_steps t (made (begin (next_guid now.given) None ∷ []))) (kept_along kept t (made (begin (next_guid now.given) None ∷ [])))) (normal_alone may.normal)
-      where
-        none_some : (ask : Ask) → None ≡ Some ask → ⊥
-        none_some ask e = cc
 
     ended_turn : (reply : Reply) → image_state t.base.image ≢ normal_state → ((place : ℕ) → place ≢ session - 1 → Runs now place 1 → ⊥) → Does (ends_by s session reply)
     unfolding ends_by end_strokes

@@ -23,7 +23,7 @@ pub use Rattle.nb_fields.specs.Bytes.{part, with_part}
 pub use Rattle.nb_fields.specs.Kinds.{data_kind, header_kind, inventory_kind, scn_kind}
 unfoldable pub use Rattle.nb_fields.specs.Places.{is_scn_place}
 pub use Rattle.nb_fields.specs.Places.{is_page_size, most_pages}
-pub use Rattle.nb_host.proofs.PlainLaws.{append_none, err_ok, le_yes, none_some}
+pub use Rattle.nb_host.proofs.PlainLaws.{append_none, err_ok, false_true, le_yes, none_some, some_none, some_same}
 pub use Rattle.nb_host.specs.World.{World}
 pub use Rattle.nb_host.specs.declared.faults.Fault.{Fault}
 pub use Rattle.nb_host.specs.declared.refusals.Refusal.{Refusal}
@@ -38,7 +38,7 @@ pub use Rattle.nb_model.proofs.ReadLaws.{eq_no, eq_yes, le_no, lt_no, lt_yes}
 pub use Rattle.nb_model.proofs.RoomLaws.{chain_owner, first_found, in_chain, pages_found}
 pub use Rattle.nb_model.proofs.SearchLaws.{draft_cause}
 pub use Rattle.nb_model.proofs.SoundLaws.{all_at, kind_of_header, scn_place_before, scn_place_of}
-pub use Rattle.nb_model.proofs.SpotMaps.{has_key, other_key, same_some, unused_key}
+pub use Rattle.nb_model.proofs.SpotMaps.{has_key, other_key, unused_key}
 pub use Rattle.nb_model.proofs.StepLaws.{IsShaped, Puts, kind_parts, put_on}
 pub use Rattle.nb_model.proofs.TableTurns.{name_short, table_length}
 pub use Rattle.nb_model.proofs.TurnCases.{is_so, no_cause}
