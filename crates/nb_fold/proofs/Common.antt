@@ -22,7 +22,7 @@ pub use Rattle.nb_gather.specs.Gathering.{HasTaken, LevelWriting, MayHave}
 pub use Rattle.nb_gather.specs.Making.{IsKept, IsMade, IsUnfinished, IsUnfinishedOr}
 pub use Rattle.nb_host.proofs.FileLaws.{passed}
 pub use Rattle.nb_host.proofs.NameLaws.{with_file-named}
-pub use Rattle.nb_host.proofs.PlainLaws.{some_none, some_same}
+pub use Rattle.nb_host.proofs.PlainLaws.{err_not_ok, head_same, none_and_some, none_some, ok_same, some_none, some_same}
 pub use Rattle.nb_host.specs.Crash.{Leaves, LeavesAll}
 pub use Rattle.nb_host.specs.Files.{File, Files, bytes_of}
 pub use Rattle.nb_host.specs.World.{World}
@@ -47,7 +47,6 @@ unfoldable pub use Rattle.nb_model.specs.Restoring.{all_over, applied, first_lin
 pub use Rattle.nb_model.specs.Restoring.{Link, level_link, linked}
 pub use Rattle.nb_page.proofs.QuietLaws.{quiet_begun, quiet_joined}
 pub use Rattle.nb_page.specs.Quiet.{Quiet}
-pub use Rattle.nb_restore.proofs.AnswerLaws.{err_ok, ok_same}
 pub use Rattle.nb_restore.proofs.ChainLaws.{GoesBehind, goes_behind}
 pub use Rattle.nb_restore.proofs.CopiedLaws.{all_over-append, written-sizes}
 pub use Rattle.std.proofs.lemmas.Bool.{and_parts, eqb-true, true≢false}

@@ -1,6 +1,6 @@
 -- A page more of the files is folded.
 use Rattle.std.proofs.Common.{◌≡◌, ◌≢◌, ◌⊎◌, inl, inr, ⊎_elim, ℕ, ◌+◌, ◌<◌, ◌≤◌, List, [], ◌∷◌, ◌++◌, refl, sym, ap, subst, ◌∙◌, arith, append_assoc, Bool, IsTrue, Some, None, Option, Result, Ok, Err, true, false}
-use Rattle.nb_fold.proofs.Common.{append-nil, most_pages, File, Files, bytes_of, World, Leaves, LeavesAll, Only, NoNames, Remade, rested, kept_on, Quiet, LevelHead, head_of, Page, Numbered, level_bytes, LevelWriting, HasTaken, MayHave, IsUnfinished, IsUnfinishedOr, remade_twice, or_before, folded_pages, AllRise, AreApart, HasFolded, IsFolding, IsReady, Makes, MakesOr, Held, AllWait, AreAtEnd, IsLeast, WaitsBy, count_at, counts_at, rests, waiting_page, waits_at, with_file-named, taken_quiet, unfinished_empty}
+use Rattle.nb_fold.proofs.Common.{append-nil, most_pages, File, Files, bytes_of, World, Leaves, LeavesAll, Only, NoNames, Remade, rested, kept_on, Quiet, LevelHead, head_of, Page, Numbered, level_bytes, LevelWriting, HasTaken, MayHave, IsUnfinished, IsUnfinishedOr, remade_twice, or_before, folded_pages, AllRise, AreApart, HasFolded, IsFolding, IsReady, Makes, MakesOr, Held, AllWait, AreAtEnd, IsLeast, WaitsBy, count_at, counts_at, rests, waiting_page, waits_at, with_file-named, taken_quiet, unfinished_empty, none_some}
 use Rattle.nb_host.specs.Moments.{IsTimely, Passes}
 use Rattle.nb_host.specs.Calls.{Remakes}
 use Rattle.nb_change.proofs.MovedLaws.{remade_begun, remade_weaker}
@@ -37,19 +37,13 @@ all_wait old new name (s ∷ ss) (rs ∷ rss) others apart waits =
 
 -- a page waits
 counted : (n : ℕ) (page : Page) (ss : List Held) → waiting_page n ss ≡ Some page → 1 ≤ counts_at n ss
-counted n page [] is = absurd (no is)
-  where
-    no : None ≡ Some page → ⊥
-    no e = cc
+counted n page [] is = absurd (none_some page is)
 counted n page (s ∷ ss) is = by (λ p there. counted n p ss there) (waiting_page n ss) refl (waits_at n s.waiting) refl
   where
-    no : None ≡ Some page → ⊥
-    no e = cc
-
     by : ((p : Page) → waiting_page n ss ≡ Some p → 1 ≤ counts_at n ss) → (rest : Option Page) → waiting_page n ss ≡ rest → (here : Bool) → waits_at n s.waiting ≡ here → 1 ≤ counts_at n (s ∷ ss)
     by later (Some p) rest here at = let more = later p rest in omega (arith, more)
     by later None rest true at = rw (at, count_at) (omega arith)
-    by later None rest false at = absurd (no (sym (ap (λ o. or_before o (elim (waits_at n s.waiting) as (λ b. Option Page) [ true ↦ Some s.page | false ↦ None ])) rest ∙ ap (λ b. elim b as (λ x. Option Page) [ true ↦ Some s.page | false ↦ None ]) at) ∙ is))
+    by later None rest false at = absurd (none_some page (sym (ap (λ o. or_before o (elim (waits_at n s.waiting) as (λ b. Option Page) [ true ↦ Some s.page | false ↦ None ])) rest ∙ ap (λ b. elim b as (λ x. Option Page) [ true ↦ Some s.page | false ↦ None ]) at) ∙ is))
 
 pub falls_by : (n : ℕ) (page : Page) (ss : List Held) (new old : ℕ) → waiting_page n ss ≡ Some page → new + counts_at n ss ≤ old → new + 1 ≤ old
 falls_by n page ss new old is few = let some = counted n page ss is in omega (arith, some, few)

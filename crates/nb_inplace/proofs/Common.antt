@@ -22,7 +22,7 @@ pub use Rattle.nb_fixup.proofs.CauseLaws.{fits, no_page, parted, too_few, too_ma
 pub use Rattle.nb_fixup.specs.Tests.{Tested}
 pub use Rattle.nb_host.proofs.FileLaws.{passed}
 pub use Rattle.nb_host.proofs.NameLaws.{same_other, same_self, with_file-named}
-pub use Rattle.nb_host.proofs.PlainLaws.{not_false, some_none, some_same}
+pub use Rattle.nb_host.proofs.PlainLaws.{err_not_ok, head_same, none_some, not_false, ok_same, some_none, some_same}
 pub use Rattle.nb_host.specs.Calls.{IsStill, ReadsPage, WritesPage}
 pub use Rattle.nb_host.specs.Crash.{IsDurable, Leaves, LeavesAll, PageLeft}
 unfoldable pub use Rattle.nb_host.specs.Files.{put_at}
@@ -84,7 +84,6 @@ pub use Rattle.nb_page.proofs.QuietLaws.{quiet_begun, quiet_joined}
 unfoldable pub use Rattle.nb_page.specs.Header.{header_in}
 pub use Rattle.nb_page.specs.Quiet.{Quiet}
 pub use Rattle.nb_page.specs.declared.header.Header.{Header}
-pub use Rattle.nb_restore.proofs.AnswerLaws.{err_ok, ok_same}
 pub use Rattle.nb_restore.proofs.CopiedLaws.{all_over-one, first-written, overwrites_first, overwrites_joined, overwrites_none, overwrites_page, put-written, written-sizes}
 pub use Rattle.nb_restore.proofs.FrontLaws.{put_on_ok}
 pub use Rattle.nb_restore.proofs.HeadLaws.{HasHead, head_all, level-headed}

@@ -24,7 +24,7 @@ pub use Rattle.nb_fields.specs.Places.{is_page_size, most_pages}
 pub use Rattle.nb_fields.specs.States.{applying_state, normal_state, stalled_state}
 pub use Rattle.nb_host.proofs.FileLaws.{passed}
 pub use Rattle.nb_host.proofs.NameLaws.{with_file-named}
-pub use Rattle.nb_host.proofs.PlainLaws.{far_behind, not_false, not_lt, some_same}
+pub use Rattle.nb_host.proofs.PlainLaws.{err_not_ok, far_behind, not_false, not_lt, ok_same, some_none, some_same}
 pub use Rattle.nb_host.specs.Calls.{AppendsBytes, IsStill, ReadsBytes, ReadsPage, Remakes, Syncs, WritesPage}
 pub use Rattle.nb_host.specs.Crash.{AppendLeft, IsDurable, Leaves, LeavesAll, PageLeft}
 unfoldable pub use Rattle.nb_host.specs.Files.{padded, put_at}
