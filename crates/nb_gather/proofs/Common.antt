@@ -13,7 +13,7 @@ unfoldable pub use Rattle.nb_gather.specs.Gathering.{complete, incomplete}
 pub use Rattle.nb_gather.specs.Gathering.{HasTaken, Holds, HoldsAll, IsHeaded, IsTornFile, LevelWriting, MayHave, Reads, Waiting, level_front}
 pub use Rattle.nb_gather.specs.Making.{IsBlank, IsEmpty, IsKept, IsMade, IsNoBackup, IsUnfinished, IsUnfinishedOr}
 pub use Rattle.nb_host.proofs.NameLaws.{with_file-named}
-pub use Rattle.nb_host.proofs.PlainLaws.{lt_holds, not_both, true_or_false}
+pub use Rattle.nb_host.proofs.PlainLaws.{err_ok, lt_holds, not_both, true_or_false}
 pub use Rattle.nb_host.specs.Calls.{AppendsBytes, IsStill, Remakes, Syncs, WritesPage}
 pub use Rattle.nb_host.specs.Crash.{AppendLeft, IsDurable, IsTornFrom, Leaves}
 unfoldable pub use Rattle.nb_host.specs.Files.{with_file}

@@ -2,6 +2,7 @@
 pub use Rattle.nb_gather.proofs.QuietLaws.{unfinished_empty}
 pub use Rattle.nb_gather.specs.Making.{IsNoBackup, IsUnfinished, IsUnfinishedOr}
 pub use Rattle.nb_gen.specs.Texts.{IsScriptText, generated_first}
+pub use Rattle.nb_host.proofs.PlainLaws.{err_ok, ok_equal}
 unfoldable pub use Rattle.nb_model.specs.Generated.{backup_line, generated, line_of, lines_from}
 pub use Rattle.nb_model.specs.Generated.{ended}
 pub use Rattle.std.specs.Fmt.{decimal}

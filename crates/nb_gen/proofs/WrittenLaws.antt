@@ -1,6 +1,6 @@
 -- A text is written to a new file.
 use Rattle.std.proofs.Common.{◌≡◌, ◌⊎◌, inl, inr, ⊎_elim, ℕ, suc, List, [], ◌∷◌, ◌++◌, length, refl, sym, ap, subst, ◌∙◌, Bool, false, ◌&&◌, ◌==◌, nat_le, IsTrue, Some, Result, Ok}
-use Rattle.nb_gen.proofs.Common.{IsNoBackup, IsUnfinished, IsUnfinishedOr, IsScriptText, unfinished_empty}
+use Rattle.nb_gen.proofs.Common.{IsNoBackup, IsUnfinished, IsUnfinishedOr, IsScriptText, unfinished_empty, err_ok}
 use Rattle.nb_fields.specs.Bytes.{is_zeros, number_in, number_of}
 use Rattle.nb_fields.specs.Free.{is_free_file}
 use Rattle.nb_fields.specs.Header.{is_header, is_marked, pending_of, state_of}
@@ -15,7 +15,6 @@ use Rattle.nb_change.proofs.NameLaws.{with_file-same}
 use Rattle.nb_model.specs.Levels.{begins_level}
 use Rattle.nb_model.proofs.ReadLaws.{and_no_right}
 use Rattle.nb_model.proofs.StandsLaws.{not_level}
-use Rattle.nb_gather.proofs.ReadAgain.{no_value}
 use Rattle.nb_gather.proofs.TornLaws.{Torn, torn_of}
 
 -- A file that begins with a `1` or with a zero is no backup.
@@ -35,7 +34,7 @@ text_in_use bytes text = subst (λ (bs : List ℕ). is_free_file (Some bs) ≡ f
 
 no_backup : (b : ℕ) (bs : List ℕ) → (b ≡ 49) ⊎ (b ≡ 0) → IsNoBackup (Some (b ∷ bs))
 no_backup b bs is = record {
-  no_level = λ c reads. no_value 0 c (sym (not_level (b ∷ bs) (begins_no_level b bs is)) ∙ reads);
+  no_level = λ c reads. err_ok {E = ℕ} 0 c (sym (not_level (b ∷ bs) (begins_no_level b bs is)) ∙ reads);
   no_header = begins_no_header b bs is;
 }
 
