@@ -16,7 +16,7 @@ pub use Rattle.nb_catalog.specs.Turns.{names_in}
 pub use Rattle.nb_catalog.specs.declared.entry.Entry.{Entry}
 pub use Rattle.nb_chain.specs.Level.{IsWhole, WholeSays}
 pub use Rattle.nb_host.proofs.FileLaws.{passed}
-pub use Rattle.nb_host.proofs.PlainLaws.{not_true, or_false, or_true}
+pub use Rattle.nb_host.proofs.PlainLaws.{err_not_ok, err_ok, not_true, ok_equal, or_false, or_true, some_same}
 pub use Rattle.nb_host.specs.Files.{File, Files, bytes_of}
 pub use Rattle.nb_host.specs.Names.{same_name}
 pub use Rattle.nb_host.specs.declared.faults.Fault.{Fault}
