@@ -1,6 +1,6 @@
 -- Leaked pages are given back one after the other: what each front of the strokes leaves.
 use Rattle.std.proofs.Common.{◌≡◌, ◌≢◌, inl, inr, ℕ, zero, suc, ◌+◌, ◌<◌, ◌≤◌, List, [], ◌∷◌, ◌++◌, length, take, drop, refl, sym, ap, subst, append_assoc, ◌∙◌, arith, Bool, true, false, cond, ◌&&◌, ◌||◌, ◌==◌, not, nat_eq, None}
-use Rattle.nb_check.proofs.Common.{filter, range_with_len, cases_Bool, true≢false, and_left, or_cases, eqb_tells, append-nil, list_any-append, kind_of, is_system_place, data_kind, Base, History, Draft, drafted, give_page, is_free_page, Page, Image, page_at, image_size, HasHeader, IsSoundImage, Stroke, base_after, all_given, Along, along_append, along_front, drafted_is, drafts_are, set_bit_keeps, IsWhole, leaked_two, given_first, header_whole, eq_no, eq_yes, is_among, is_leaked, leaked, reached, unsound_by, check_cause, reclaimed, given_none}
+use Rattle.nb_check.proofs.Common.{filter, range_with_len, cases_Bool, true≢false, and_left, or_cases, eqb_tells, append-nil, list_any-append, kind_of, is_system_place, data_kind, Base, History, Draft, drafted, give_page, is_free_page, Page, Image, page_at, image_size, HasHeader, IsSoundImage, Stroke, base_after, all_given, Along, along_append, along_front, drafted_is, drafts_are, set_bit_keeps, IsWhole, leaked_two, given_first, header_whole, eq_no, eq_yes, is_among, is_leaked, leaked, reached, unsound_by, check_cause, reclaimed, given_none, head_same, tail_same, nil_cons}
 use Rattle.nb_model.proofs.DraftLaws.{IsOf}
 use Rattle.nb_model.proofs.StrokeLaws.{base_after-append}
 use Rattle.nb_check.specs.Laws.{KeepsPages, Reclaims}
@@ -30,15 +30,6 @@ and_none : (t : Bool) → (t && not true) ≡ false
 and_none true = refl
 and_none false = refl
 
-head_same : (a p : ℕ) (xs ys : List ℕ) → a ∷ xs ≡ p ∷ ys → a ≡ p
-head_same a p xs ys e = cc
-
-tail_same : (a p : ℕ) (xs ys : List ℕ) → a ∷ xs ≡ p ∷ ys → xs ≡ ys
-tail_same a p xs ys e = cc
-
-none_more : (p : ℕ) (ps : List ℕ) → [] ≡ p ∷ ps → ⊥
-none_more p ps e = cc
-
 abbrev without : (ℕ → Bool) → List ℕ → ℕ → Bool
 without test ps q = test q && not (is_among q ps)
 
@@ -49,7 +40,7 @@ first_by test n a t = cond t (a ∷ filter test (range_with_len (a + 1) n)) (fil
 -- what is left after a front
 filter_rest : (test : ℕ → Bool) (n a : ℕ) (ps qs : List ℕ) → filter test (range_with_len a n) ≡ ps ++ qs → filter (without test ps) (range_with_len a n) ≡ qs
 filter_rest test n a [] qs e = filter_same (without test []) test n a (λ q low high. and_true (test q)) ∙ e
-filter_rest test zero a (p ∷ ps) qs e = absurd (none_more p (ps ++ qs) e)
+filter_rest test zero a (p ∷ ps) qs e = absurd (nil_cons p (ps ++ qs) e)
 filter_rest test (suc n) a (p ∷ ps) qs e = by (test a) refl (filter_rest test n (a + 1) ps qs) (filter_rest test n (a + 1) (p ∷ ps) qs)
   where
     is : (f : ℕ → Bool) (t : Bool) → f a ≡ t → filter f (range_with_len a (suc n)) ≡ first_by f n a t
@@ -206,8 +197,8 @@ module _ (test : ℕ → Bool) (p : ℕ) (qs : List ℕ) where
   IsLeft a n = (p < a + n) × (test p ≡ true)
 
   left_passes : (n a : ℕ) (fs : List ℕ) → filter test (range_with_len a n) ≡ fs ++ (p ∷ qs) → IsLeft a n
-  left_passes zero a [] is = absurd (none_more p qs is)
-  left_passes zero a (f ∷ fs) is = absurd (none_more f (fs ++ (p ∷ qs)) is)
+  left_passes zero a [] is = absurd (nil_cons p qs is)
+  left_passes zero a (f ∷ fs) is = absurd (nil_cons f (fs ++ (p ∷ qs)) is)
   left_passes (suc n) a fs is = by (test a) refl fs is (λ gs same. let rest = left_passes n (a + 1) gs same in (omega (arith, rest.0), rest.1))
     where
       by : (t : Bool) → test a ≡ t → (gs : List ℕ) → filter test (range_with_len a (suc n)) ≡ gs ++ (p ∷ qs) → ((hs : List ℕ) → filter test (range_with_len (a + 1) n) ≡ hs ++ (p ∷ qs) → IsLeft a (suc n)) → IsLeft a (suc n)

@@ -1,6 +1,6 @@
 -- Two sound images that differ in system pages alone have the same chains, and the same rows.
 use Rattle.std.proofs.Common.{◌≡◌, inl, inr, ℕ, zero, suc, ◌<◌, List, [], ◌∷◌, ◌++◌, length, refl, sym, ap, ◌∙◌, arith, Bool, true, false, ◌&&◌, ◌==◌, nat_lt, map, Option, Some, None, Result, Ok, Err}
-use Rattle.nb_check.proofs.Common.{AllByRecursion, list_all, and_left, or_cases, cases_Bool, cases_lt, kind_of, is_system_place, data_kind, Page, Image, page_at, image_size, SoundInventory, Cause, first_cause, broken_at, Chain, Catalogue, History, RowsFrom, Spot, owner_of, owner_in, first_of, first_in, is_slot, is_used, table_of, slots_in, is_in_chain, next_in, linked, walk, pages_of, found_pages, spots_on, spots_of, spots, table_spot, first_such, RowMap, rows, rows_in, used, table_chains, chains, pages_of_all, eq_no, lt_no, pages_found, reached, chains_cause}
+use Rattle.nb_check.proofs.Common.{AllByRecursion, list_all, and_left, or_cases, cases_Bool, cases_lt, kind_of, is_system_place, data_kind, Page, Image, page_at, image_size, SoundInventory, Cause, first_cause, broken_at, Chain, Catalogue, History, RowsFrom, Spot, owner_of, owner_in, first_of, first_in, is_slot, is_used, table_of, slots_in, is_in_chain, next_in, linked, walk, pages_of, found_pages, spots_on, spots_of, spots, table_spot, first_such, RowMap, rows, rows_in, used, table_chains, chains, pages_of_all, eq_no, lt_no, pages_found, reached, chains_cause, not_both}
 use Rattle.nb_host.specs.Names.{same_name}
 
 -- every page but the system pages is the same
@@ -47,12 +47,9 @@ module _ (x y : Image) (alike : AreAlike x y) (sx : SoundInventory x) (sy : Soun
   -- a page of a chain is the same
   pub page_same : (chain : Chain) (p : ℕ) → is_in_chain chain x p ≡ true → page_at y p ≡ page_at x p
   page_same chain p is = elim (cases_Bool (is_system_place (image_size x) p)) [
-    | inl place ↦ (let fails = system_out chain x sx p place in absurd (no_both (is_in_chain chain x p) is fails))
+    | inl place ↦ (let fails = system_out chain x sx p place in absurd (not_both (is_in_chain chain x p) is fails))
     | inr plain ↦ alike.pages p plain
   ]
-    where
-      no_both : (t : Bool) → t ≡ true → t ≡ false → ⊥
-      no_both t holds fails = cc
 
   -- what a walk does at a page
   abbrev go_by : (p next : ℕ) → Result (List ℕ) ℕ → Bool → Result (List ℕ) ℕ
