@@ -3,6 +3,7 @@ pub use Rattle.nb_alloc.specs.Data.{is_data, not_data}
 unfoldable pub use Rattle.nb_fields.specs.Bytes.{number_in, number_of}
 pub use Rattle.nb_fields.specs.Bytes.{part}
 pub use Rattle.nb_fields.specs.Kinds.{data_kind}
+pub use Rattle.nb_host.proofs.PlainLaws.{none_some, some_none}
 pub use Rattle.nb_host.specs.declared.refusals.Refusal.{Refusal}
 pub use Rattle.nb_host.specs.declared.refusals.Refusal.TheVariants.{NotDatabase}
 pub use Rattle.nb_model.proofs.ReadLaws.{and_no_right, eq_no, eq_yes}
