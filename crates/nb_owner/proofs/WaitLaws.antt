@@ -1,6 +1,6 @@
 -- What is open while pages wait, and that one more waits.
 use Rattle.std.proofs.Common.{◌≡◌, ◌≢◌, inl, inr, ⊎_elim, ℕ, suc, ◌+◌, ◌<◌, ◌≤◌, List, [], ◌∷◌, ◌++◌, length, refl, sym, ap, subst, ◌∙◌, arith, append_assoc, length-append, Bool, true, false, ◌==◌, ◌&&◌, not, nat_eq, nat_lt, Option, Some, None, is_some}
-use Rattle.nb_owner.proofs.Common.{AllByRecursion, true≢false, eqb_tells, leb_tells, append-nil, lru_cache, put_entries, is_scn_place, most_pages, is_header, state_of, size_of, normal_state, stalled_state, World, option_and_then, Page, Image, page_at, first_page, image_size, image_state, is_forced, Base, entry_for, page, on_base, Trail, after_stroke, ShowsIn, behind_left, behind_firm, trail_base, same_pages, put_same, put_other, put_first, put_long, put_frozen, put_diverted, put_longer, wait_behind, wait_unsettled, behind_itself, Agrees, StandsFirm, Drafts, stroke-stalled, noted-there, noted-new, entry-later, entry-added, entry-front, entry_at, later, Slot, slot_of, rank_of, with_rank, dropped, NoneWaits, Held, Pages, AreOf, waits, IsWaiting, AreDrafted, Waits, IsOpen, IsValid, may_wait, cache_of, rank_in, both_true, eq_self, not_true}
+use Rattle.nb_owner.proofs.Common.{AllByRecursion, true≢false, eqb_tells, leb_tells, append-nil, lru_cache, put_entries, is_scn_place, most_pages, is_header, state_of, size_of, normal_state, stalled_state, World, option_and_then, Page, Image, page_at, first_page, image_size, image_state, is_forced, Base, entry_for, page, on_base, Trail, after_stroke, ShowsIn, behind_left, behind_firm, trail_base, same_pages, put_same, put_other, put_first, put_long, put_frozen, put_diverted, put_longer, wait_behind, wait_unsettled, behind_itself, Agrees, StandsFirm, Drafts, stroke-stalled, noted-there, noted-new, entry-later, entry-added, entry-front, entry_at, later, Slot, slot_of, rank_of, with_rank, dropped, NoneWaits, Held, Pages, AreOf, waits, IsWaiting, AreDrafted, Waits, IsOpen, IsValid, may_wait, cache_of, rank_in, both_true, eq_self, not_true, some_same}
 use Rattle.nb_fields.specs.Bytes.{is_zeros, number_in}
 use Rattle.nb_host.specs.Calls.{IsStill}
 use Rattle.nb_model.specs.Waiting.{rank_of as rank_for}
@@ -346,13 +346,10 @@ module _ (w : World) (held : Held) (t : Trail) (is : IsOpen w held t) (valid : I
         | inr e ↦ is.waits.clean q (ap is_some (sym (rank_other q e.1)) ∙ clean) ∙ sym (page_other q e.1)
       ];
       each = λ q r at. elim (eqb_tells q p) [
-        | inl e ↦ subst (λ (n : ℕ). IsWaiting later_t n r) (sym e.1) (subst (IsWaiting later_t p) (same_rank (sym rank_own ∙ sym (ap (rank_of marked) e.1) ∙ at)) waiting_own)
+        | inl e ↦ subst (λ (n : ℕ). IsWaiting later_t n r) (sym e.1) (subst (IsWaiting later_t p) (some_same {X = ℕ} _ _ (sym rank_own ∙ sym (ap (rank_of marked) e.1) ∙ at)) waiting_own)
         | inr e ↦ waiting_other q r e.1 (is.waits.each q r (sym (rank_other q e.1) ∙ at))
       ];
     }
-      where
-        same_rank : {a b : ℕ} → Some a ≡ Some b → a ≡ b
-        same_rank e = cc
 
     agrees_more : Agrees (record held.files { entries = entries; drafted = drafted }) (after_stroke (page p bytes) t).base
     agrees_more = record {
