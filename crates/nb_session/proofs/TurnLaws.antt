@@ -1,6 +1,6 @@
 -- One turn, by what it made of the database and by its line.
 use Rattle.std.proofs.Common.{◌≡◌, ◌<◌, ℕ, ◌-◌, List, [], ◌∷◌, ◌++◌, Bool, false, refl, sym, ap, subst, ◌∙◌, true, Result, Ok, Err, IsErr, IfOk, Option, Some, None, if◌then◌else◌}
-use Rattle.nb_session.proofs.Common.{slice_index_or, append-nil, World, Fault, Refused, Device, Memory, Refusal, RunError, Reply, Statement, Foretells, IsMaking, line_text, MadeFile, Turn, Begins, Seen, status_after, Now, Played, base_now, outcome, take_turn, Trail, first_turn, turn, status_plain, IsSingle, IsNoRefusal, Held, Left, Other, Task, Taken, Told, Says, Grows, shown_by, Acts, MayAct, TaskFits, left_refused, left_task, task_left, IsReady, HasEnded, is_refusal, EndsEarly, SaysLine, as_played, touching, GoesFurther, IsBehind, Turns, Plays, told_line, told_reply, told_turns}
+use Rattle.nb_session.proofs.Common.{slice_index_or, append-nil, World, Fault, Refused, Device, Memory, Refusal, RunError, Reply, Statement, Foretells, IsMaking, line_text, MadeFile, Turn, Begins, Seen, status_after, Now, Played, base_now, outcome, take_turn, Trail, first_turn, turn, status_plain, IsSingle, IsNoRefusal, Held, Left, Other, Task, Taken, Told, Says, Grows, shown_by, Acts, MayAct, TaskFits, left_refused, left_task, task_left, IsReady, HasEnded, is_refusal, EndsEarly, SaysLine, as_played, touching, GoesFurther, IsBehind, Turns, Plays, told_line, told_reply, told_turns, false_true}
 use Rattle.nb_model.specs.declared.reply.Reply.TheVariants.{Refused as RefusedBy}
 use Rattle.nb_model.proofs.UsageLaws.{never_usage}
 use Rattle.nb_session.proofs.EventLaws.{Marks, event_failed, event_quiet, event_unsaid, event_said}
@@ -148,10 +148,7 @@ status_told session statement now r is =
 
 -- after a reply that is no refusal it is 0
 pub status_none : (r : Reply) → is_refusal r ≡ false → status_after r ≡ 0
-status_none r none = status_plain r (λ usage. refused_is (sym none ∙ ap is_refusal usage)) ∙ ap (λ (b : Bool). if b then 1 else 0) none
-  where
-    refused_is : false ≡ true → ⊥
-    refused_is e = cc
+status_none r none = status_plain r (λ usage. false_true (sym none ∙ ap is_refusal usage)) ∙ ap (λ (b : Bool). if b then 1 else 0) none
 
 -- a statement that is done in one turn leaves nothing after it
 pub single_behind : (w : World) (held : Held) (session : ℕ) (statement : Statement) (now : Now) → IsSingle statement → IsBehind w held session (Begins statement) [] now None
