@@ -1,6 +1,6 @@
 -- Files of a chain, of a fold or of a plan are never refused as words are that name no job.
 use Rattle.std.proofs.Common.{◌≡◌, ◌≢◌, ℕ, ◌+◌, List, [], ◌∷◌, length, true, false, ap, subst, Bool, ◌==◌, not, Option, None, Some, Result, Ok, Err}
-use Rattle.nb_top.proofs.Common.{is_header, signature, state_of, stalled_state, File, Files, same_name, Refusal, Usage, NoFile, BadLevel, ChainLevel, ChainGuid, ChainSize, ChainScn, Cause, first_cause, when, Contents, read_level, begins_level, Link, whole_link, level_link, is_bad_length, not_whole, first_link, not_behind, next_link, linked, next_links, verdict, chained, file_after, files_after, not_after, with_first, Retention, planned, IsOther, other_first, other_when, some_same}
+use Rattle.nb_top.proofs.Common.{is_header, signature, state_of, stalled_state, File, Files, same_name, Refusal, Usage, NoFile, BadLevel, ChainLevel, ChainGuid, ChainSize, ChainScn, Cause, first_cause, when, Contents, read_level, begins_level, Link, whole_link, level_link, is_bad_length, not_whole, first_link, not_behind, next_link, linked, next_links, verdict, chained, file_after, files_after, not_after, with_first, Retention, planned, IsOther, other_first, other_when, some_same, none_some}
 use Rattle.nb_fields.specs.Bytes.{number_in}
 use Rattle.nb_fold.specs.Verdict.{with_files}
 use Rattle.nb_catalog.specs.Heads.{level_head, read_file, read_files, whole_head}
@@ -114,10 +114,7 @@ refused_chain files names refusal is = subst (λ (r : Result (List Link) Refusal
 -- ---- files that are folded
 
 after_other : (last : Option Contents) (name : List ℕ) (c : Contents) → IsOther (not_after last name c)
-after_other None name c = λ e. none_usage e
-  where
-    none_usage : ◌≡◌ {A = Cause} None (Some Usage) → ⊥
-    none_usage h = cc
+after_other None name c = λ e. none_some Usage e
 after_other (Some last) name c = behind_other (last.head.level + 1) (level_link last) name c
 
 after_fine : (files : Files) (last : Option Contents) (name : List ℕ) → IsFine (file_after files last name)

@@ -1,6 +1,6 @@
 -- The one turn of a merge in place: what it must be, and what stands after it.
 use Rattle.std.proofs.Common.{◌≡◌, ◌≢◌, ℕ, List, [], ◌∷◌, length, true, false, refl, sym, ap, subst, ◌∙◌, Bool, ◌==◌, nat_lt, None, Some, Result, Ok, Err}
-use Rattle.nb_top.proofs.Common.{state_of, stamp_of, applying_state, File, Files, Refusal, Usage, NoFile, BadLevel, ChainScn, Pages, Account, Cause, Page, image_in, bytes_in, in_place, in_place_of, not_finishing, not_mergeable, not_next, not_standby, other_pages, written_since, only_turn, only_refusal, apply_turn, account_behind, Contents, read_level, Event, account_after, with_made, merge, merged, IsOther, other_first, other_when, other_database, IsMergeable, none_other}
+use Rattle.nb_top.proofs.Common.{state_of, stamp_of, applying_state, File, Files, Refusal, Usage, NoFile, BadLevel, ChainScn, Pages, Account, Cause, Page, image_in, bytes_in, in_place, in_place_of, not_finishing, not_mergeable, not_next, not_standby, other_pages, written_since, only_turn, only_refusal, apply_turn, account_behind, Contents, read_level, Event, account_after, with_made, merge, merged, IsOther, other_first, other_when, other_database, IsMergeable, none_other, err_ok}
 use Rattle.nb_top.proofs.ChainRefusals.{some_other, IsFine, by_cause}
 
 -- the turn that merges what a level file holds into a standby
@@ -67,10 +67,7 @@ pub data MergeTurn (files : Files) (db name : List ℕ) : Type 0 where
 
 no_standby : (files : Files) (db name : List ℕ) (c : Contents) → files db ≡ None → in_place files db name ≡ Ok c → ⊥
 unfolding in_place not_standby
-no_standby files db name c none accepted = never (sym (rw (none, in_place) refl) ∙ accepted)
-  where
-    never : Err (NoFile db) ≡ Ok c → ⊥
-    never h = cc
+no_standby files db name c none accepted = err_ok (NoFile db) c (sym (rw (none, in_place) refl) ∙ accepted)
 
 module _ (files : Files) (db name : List ℕ) where
   pub refused_turn : (refusal : Refusal) → in_place files db name ≡ Err refusal → apply_turn files db name ≡ only_refusal refusal
