@@ -1,4 +1,5 @@
 -- The definitions that the proofs of this crate speak in, and the laws of other crates that they cite, passed on from one place. Declares nothing.
+pub use Rattle.nb_host.proofs.PlainLaws.{not_true}
 pub use Rattle.nb_host.specs.Files.{is_page_size}
 pub use Rattle.nb_host.specs.Names.{is_name, is_name_byte}
 pub use Rattle.nb_host.specs.declared.refusals.Refusal.TheVariants.{BadScript, ScriptLong}
