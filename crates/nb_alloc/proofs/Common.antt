@@ -81,7 +81,7 @@ pub use Rattle.nb_state.proofs.TurnLaws.{unless_none}
 pub use Rattle.nb_state.specs.Does.{Answers, Does, Goes, Makes, Tested, WhereEnded, has_only_told, only_tells, unless_by}
 pub use Rattle.nb_state.specs.Open.{Held, IsOpen, but_pages, name_of}
 pub use Rattle.std.proofs.Math.Nat.{div-mul-le_self, div-zero, lt-div-mul-add, mod-eq_of_lt, mul-add-mod_self_right, mul-div_cancel}
-pub use Rattle.std.proofs.lemmas.Bool.{and_left, and_parts, eq-eqb, eqb-true, lt-ltb, ltb-true, ne_eqb, or_cases, or_from, or_left, or_right, true≢false}
+pub use Rattle.std.proofs.lemmas.Bool.{and_left, and_parts, eq-eqb, eqb-true, lt-ltb, ltb-true, ne_eqb, or_cases, or_from, or_left, or_parts, or_right, true≢false}
 pub use Rattle.std.proofs.lemmas.Bool.Decides.{eqb_tells, leb_tells}
 pub use Rattle.std.proofs.lemmas.List.{append-nil, drop-drop, drop_at, length-set, length-take, length-take-le, replicate-append-replicate, take-append-drop, take-set-le, take_at}
 pub use Rattle.std.proofs.lemmas.Nat.{div-mul-add, le-div}

@@ -91,7 +91,7 @@ pub use Rattle.nb_page.specs.Quiet.{Quiet}
 pub use Rattle.std.proofs.Math.Nat.{div-eq_of_lt, mul-div_cancel}
 pub use Rattle.std.proofs.lemmas.Bool.{cases_Bool, cases_eq, cond-false, cond-true, ne_eqb, true_from_ne_false, true≢false}
 pub use Rattle.std.proofs.lemmas.Bool.Decides.{eqb_tells, leb_tells}
-pub use Rattle.std.proofs.lemmas.List.{append-nil, drop_all, drop_at, ext_get_or, get_or-append_right, get_or_append_left, length-drop, length-replicate, length-take, length-take-le, replicate-append-replicate, take-append-drop, take-append-le, take-take, take_all, take_at, take_more}
+pub use Rattle.std.proofs.lemmas.List.{append-nil, drop_all, drop_at, ext_get_or, get_or-append_right, get_or_append_left, length-drop, length-replicate, length-take, length-take-le, nil_from_length, replicate-append-replicate, take-append-drop, take-append-le, take-take, take_all, take_at, take_more}
 pub use Rattle.std.proofs.lemmas.Result.{err_from_is_err_and, on_ok_weaker}
 unfoldable pub use Rattle.std.specs.List.{IsDistinct}
 pub use Rattle.std.specs.List.{flat_map, list_any, position_from, range_with_len}

@@ -1,6 +1,6 @@
 -- Drafted entries come into the table, once their slots are written: what a crash leaves meanwhile, and that the files hold what is seen then.
 use Rattle.std.proofs.Common.{◌≡◌, inl, inr, ⊎_elim, ℕ, zero, suc, ◌<◌, ◌≤◌, List, [], ◌∷◌, ◌++◌, length, get_or, take, drop, refl, sym, ap, subst, ◌∙◌, arith, append_assoc, length-append, Bool, false, Option, Some, None, Ok, max}
-use Rattle.nb_base.proofs.Common.{eqb_tells, leb_tells, append-nil, state_of, size_of, page_in, slot_place, stalled_state, File, Files, bytes_of, with_file, World, Leaves, IsDurable, IsStill, IsTimely, Passes, Changes, Only, Moved, left_before, with_file-same, with_file-other, begun, moved_on, left_with, still_more, durable_is, AreEntries, HasTable, slot_page, Waits, Stays, Fronts, FrontStep, HasAll, Image, page_at, first_page, image_size, image_state, Base, delta_name, entry_for, behind_entries, owned, owner, Trail, StandsIn, IsOnTheWay, IsEntering, way_left, enter_left, named, itself_firm, same_pages, owned_length, owned_at, Held, IsOpen, StandsAs, HasPageIn, IsSlotted, GoesIn, none_there, for_here, some_same}
+use Rattle.nb_base.proofs.Common.{eqb_tells, leb_tells, append-nil, state_of, size_of, page_in, slot_place, stalled_state, File, Files, bytes_of, with_file, World, Leaves, IsDurable, IsStill, IsTimely, Passes, Changes, Only, Moved, left_before, with_file-same, with_file-other, begun, moved_on, left_with, still_more, durable_is, AreEntries, HasTable, slot_page, Waits, Stays, Fronts, FrontStep, HasAll, Image, page_at, first_page, image_size, image_state, Base, delta_name, entry_for, behind_entries, owned, owner, Trail, StandsIn, IsOnTheWay, IsEntering, way_left, enter_left, named, itself_firm, same_pages, owned_length, owned_at, Held, IsOpen, StandsAs, HasPageIn, IsSlotted, GoesIn, none_there, for_here, some_same, nil_from_length}
 use Rattle.nb_model.specs.Owner.{slot_page as owned_slot}
 use Rattle.nb_base.proofs.MergingLaws.{entry_named}
 use Rattle.nb_base.proofs.OwnedLaws.{Holds, holds, shows, base-length, base-page, base-state, base-size, owned-entry, owned-none, entry-front, entry-behind, entry-later, later, slots_stay}
@@ -311,10 +311,6 @@ module _ (w : World) (reads : (n : List ℕ) → Leaves w n (w.files n)) (held :
         beside : new.files (delta_name held.name) ≡ w.files (delta_name held.name)
         beside = ap (λ (x : Files). x (delta_name name)) still.files
 
-        empty : (xs : List ℕ) → length xs ≡ 0 → xs ≡ []
-        empty [] e = refl
-        empty (x ∷ xs) e = absurd (omega (arith, e))
-
         no_more : t.base.diverted ≡ f.base.diverted
         no_more =
-            goes.behind.diverted.1 ∙ ap (λ (x : List ℕ). table ++ x) (empty drafts (omega (arith, goes.drafted, no_drafts, ap length goes.behind.diverted.1, length-append table drafts))) ∙ append-nil table
+            goes.behind.diverted.1 ∙ ap (λ (x : List ℕ). table ++ x) (nil_from_length drafts (omega (arith, goes.drafted, no_drafts, ap length goes.behind.diverted.1, length-append table drafts))) ∙ append-nil table

@@ -31,7 +31,7 @@ pub use Rattle.nb_model.proofs.DropTurns.{given_none}
 pub use Rattle.nb_model.proofs.FitLaws.{Fits, IsWhole, fits_first}
 pub use Rattle.nb_model.proofs.LeakTurns.{given_first, leaked_plain, leaked_two}
 pub use Rattle.nb_model.proofs.PutSound.{IsPlace, Raises, header_whole, is_raised, no_first}
-pub use Rattle.nb_model.proofs.ReadLaws.{and_no_right, eq_no, eq_yes, le_no, lt_no, lt_yes}
+pub use Rattle.nb_model.proofs.ReadLaws.{eq_no, eq_yes, le_no, lt_no, lt_yes}
 pub use Rattle.nb_model.proofs.RoomLaws.{first_found, in_chain, old_there, pages_found}
 pub use Rattle.nb_model.proofs.RoundLaws.{AnyPage, bit_by, kind_found, no_place, put_here, put_inventory, put_long, raises}
 pub use Rattle.nb_model.proofs.SoundLaws.{all_at, all_from, inventory_place_some, inventory_there, scn_page_there}
@@ -77,7 +77,7 @@ pub use Rattle.nb_walk.proofs.SlotLaws.{slot_inside, slots_step}
 pub use Rattle.nb_walk.proofs.WalkLaws.{Walks, so, walks_all, walks_broken, walks_first, walks_length, walks_next, walks_none, walks_over, walks_split}
 pub use Rattle.nb_walk.specs.Walks.{chain_by, not_linked}
 pub use Rattle.std.proofs.Math.Nat.{lt-div-mul-add, mod-lt, mul_assoc}
-pub use Rattle.std.proofs.lemmas.Bool.{and_from, and_left, and_parts, cases_Bool, cases_eq, cases_lt, eqb-true, false_from_ne_true, leb-false, leb-true, ltb-false, ltb-true, not_from_false, or_cases, or_parts, or_right, true≢false}
+pub use Rattle.std.proofs.lemmas.Bool.{and_from, and_left, and_parts, and_right, cases_Bool, cases_eq, cases_lt, eqb-true, false_from_ne_true, leb-false, leb-true, ltb-false, ltb-true, not_from_false, or_cases, or_parts, or_right, true≢false}
 pub use Rattle.std.proofs.lemmas.Bool.Decides.{eqb_tells}
 pub use Rattle.std.proofs.lemmas.List.{append-nil, get_or-replicate, get_or-set_other, get_or-set_same, get_or_past, length-replicate}
 pub use Rattle.std.proofs.lemmas.List.Folds.{list_any-append}

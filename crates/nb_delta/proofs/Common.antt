@@ -32,8 +32,9 @@ pub use Rattle.nb_host.specs.declared.faults.Fault.TheVariants.{Device, Memory, 
 pub use Rattle.nb_host.specs.declared.refusals.Refusal.TheVariants.{BadDelta}
 pub use Rattle.std.proofs.Math.Nat.{mul-le-mul_right}
 pub use Rattle.std.proofs.lemmas.Bool.{and_cases, and_from, and_left, and_right, cases_Bool, cases_eq, cases_lt, cases_order, cond-false, cond-true, eq-eqb, eqb-false, eqb-true, le-ltb, leb-false, lt-leb, lt-ltb, ltb-false, ne_eqb, or_cases, or_from, or_left, or_parts, or_right}
-pub use Rattle.std.proofs.lemmas.List.{append-nil, append_assoc, drop-drop, drop-replicate, drop_all, ext_get_or, get_or-append-add, get_or-append_right, get_or-drop, get_or-replicate, get_or_append_left, get_or_read, length-replicate, length-take-le, places, replicate-append-replicate, take-append-drop, take-append-le, take-replicate, take_all}
+pub use Rattle.std.proofs.lemmas.List.{append-nil, append_assoc, drop-drop, drop-replicate, drop_all, ext_get_or, get_or-append-add, get_or-append_right, get_or-drop, get_or-replicate, get_or_append_left, get_or_read, length-replicate, length-take-le, nil_from_length, places, replicate-append-replicate, take-append-drop, take-append-le, take-replicate, take_all}
 pub use Rattle.std.proofs.lemmas.List.Folds.{list_any-append}
+pub use Rattle.std.proofs.lemmas.Nat.{le-div}
 pub use Rattle.std.proofs.lemmas.Result.{on_ok_weaker}
 unfoldable pub use Rattle.std.specs.List.{IsDistinct}
 pub use Rattle.std.specs.List.{AllByRecursion, list_any, position_from}

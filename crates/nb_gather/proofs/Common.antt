@@ -25,7 +25,7 @@ pub use Rattle.nb_level.specs.Heads.{head_of}
 pub use Rattle.nb_level.specs.declared.head.LevelHead.{LevelHead}
 pub use Rattle.nb_model.proofs.GatherLaws.{gathered_total, run_front, total}
 pub use Rattle.nb_model.proofs.ImageLaws.{all-append, joined-append, length-joined}
-pub use Rattle.nb_model.proofs.ReadLaws.{AreClear, and_no_right, eight_bytes, end_tests, eq_yes, run_tests}
+pub use Rattle.nb_model.proofs.ReadLaws.{AreClear, eight_bytes, end_tests, eq_yes, run_tests}
 pub use Rattle.nb_model.specs.Image.{Numbered, Page}
 unfoldable pub use Rattle.nb_model.specs.Levels.{body_bytes, end_bytes, first_fault, head_then, level_bytes, pages_in, read_end, read_level, read_pages, read_runs, run_bytes, runs_behind, runs_of, taken_from}
 pub use Rattle.nb_model.specs.Levels.{AreOfSize, AreRising, Contents, Head, Stretch, Test, barred_after, behind, end_mark, joined}
@@ -33,6 +33,6 @@ pub use Rattle.nb_page.proofs.BlankLaws.{blank_free}
 pub use Rattle.nb_page.proofs.StampLaws.{stamp_in}
 pub use Rattle.nb_page.specs.Quiet.{Quiet}
 pub use Rattle.std.proofs.Math.Nat.{mul-div_cancel, suc-mul}
-pub use Rattle.std.proofs.lemmas.Bool.{and_parts, eqb-true, or_cases}
+pub use Rattle.std.proofs.lemmas.Bool.{and_parts, and_right, eqb-true, or_cases, or_parts}
 pub use Rattle.std.proofs.lemmas.Bool.Decides.{eqb_tells, leb_tells}
 pub use Rattle.std.proofs.lemmas.List.{append-nil, drop-drop, drop_all, drop_at, length-drop, length-take-le, take-append-drop, take_all}

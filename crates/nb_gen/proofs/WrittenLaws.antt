@@ -1,6 +1,6 @@
 -- A text is written to a new file.
 use Rattle.std.proofs.Common.{◌≡◌, ◌⊎◌, inl, inr, ⊎_elim, ℕ, suc, List, [], ◌∷◌, ◌++◌, length, refl, sym, ap, subst, ◌∙◌, Bool, false, ◌&&◌, ◌==◌, nat_le, IsTrue, Some, Result, Ok}
-use Rattle.nb_gen.proofs.Common.{IsNoBackup, IsUnfinished, IsUnfinishedOr, IsScriptText, unfinished_empty, err_ok}
+use Rattle.nb_gen.proofs.Common.{IsNoBackup, IsUnfinished, IsUnfinishedOr, IsScriptText, unfinished_empty, err_ok, and_right}
 use Rattle.nb_fields.specs.Bytes.{is_zeros, number_in, number_of}
 use Rattle.nb_fields.specs.Free.{is_free_file}
 use Rattle.nb_fields.specs.Header.{is_header, is_marked, pending_of, state_of}
@@ -13,7 +13,6 @@ use Rattle.nb_change.specs.Changes.{Changes, Only, Remade}
 use Rattle.nb_change.proofs.CallLaws.{bytes_others, remade_alone, remade_step}
 use Rattle.nb_change.proofs.NameLaws.{with_file-same}
 use Rattle.nb_model.specs.Levels.{begins_level}
-use Rattle.nb_model.proofs.ReadLaws.{and_no_right}
 use Rattle.nb_model.proofs.StandsLaws.{not_level}
 use Rattle.nb_gather.proofs.TornLaws.{Torn, torn_of}
 
@@ -21,7 +20,7 @@ use Rattle.nb_gather.proofs.TornLaws.{Torn, torn_of}
 begins_no_header : (b : ℕ) (bs : List ℕ) → (b ≡ 49) ⊎ (b ≡ 0) → is_header (b ∷ bs) ≡ false
 unfolding is_header is_marked number_in number_of
 begins_no_header b bs is =
-    ⊎_elim (λ e. subst (λ x. is_header (x ∷ bs) ≡ false) (sym e) (and_no_right (nat_le 64 (suc (length bs))) false refl)) (λ e. subst (λ x. is_header (x ∷ bs) ≡ false) (sym e) (and_no_right (nat_le 64 (suc (length bs))) false refl)) is
+    ⊎_elim (λ e. subst (λ x. is_header (x ∷ bs) ≡ false) (sym e) (and_right (nat_le 64 (suc (length bs))) false refl)) (λ e. subst (λ x. is_header (x ∷ bs) ≡ false) (sym e) (and_right (nat_le 64 (suc (length bs))) false refl)) is
 
 begins_no_level : (b : ℕ) (bs : List ℕ) → (b ≡ 49) ⊎ (b ≡ 0) → begins_level (b ∷ bs) ≡ false
 unfolding begins_level

@@ -90,5 +90,5 @@ pub use Rattle.nb_restore.proofs.HeadLaws.{HasHead, head_all, level-headed}
 pub use Rattle.nb_restore.specs.Copied.{Holds, IsDone, Overwrites}
 pub use Rattle.nb_restore.specs.Target.{IsKept}
 pub use Rattle.std.proofs.Math.Nat.{mul-div_cancel}
-pub use Rattle.std.proofs.lemmas.Bool.{and_from, and_parts, cases_eq, cases_lt, eq-eqb, eqb-false, eqb-true, or_from, or_parts, true≢false}
+pub use Rattle.std.proofs.lemmas.Bool.{and_from, and_parts, cases_eq, cases_lt, eq-eqb, eqb-false, eqb-true, or_from, or_parts, or_right, true≢false}
 pub use Rattle.std.proofs.lemmas.List.{append-nil, drop-drop, drop-replicate, drop_all, get_or-append_right, get_or-drop, get_or-set_same, length-replicate, length-take, length-take-le, replicate-append-replicate, take-append-drop, take-append-le, take-replicate, take-take, take_all, take_at, with_items_is}

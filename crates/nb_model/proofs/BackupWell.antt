@@ -1,6 +1,6 @@
 -- The start and the close of a backup keep what was seen well: the row that the close writes names the record that the begin has kept.
 use Rattle.std.proofs.Common.{◌≡◌, inl, inr, ℕ, ◌+◌, ◌*◌, ◌<◌, ◌≤◌, List, [], ◌∷◌, ◌++◌, length, take, drop, refl, sym, ap, subst, ◌∙◌, arith, append_assoc, Bool, true, false, ◌&&◌, Option, Some, None, Contains}
-use Rattle.nb_model.proofs.Common.{AllByRecursion, and_parts, cases_lt, take_at, Contains-append_right, bytes_of, number_in, padded, with_part, stamped, number_of-bytes_of, normal_state, stalled_state, data_kind, Ask, Kept, Base, Entry, room_in, ask_of, broken_at, History, Slot, Spot, is_used, level_in, scn_in, guid_in, slots_in, spots_on, spots_of, spots, pages_of, found_pages, last_such, backup_spot, backup_slot, put_slot, is_in_chain, drafted, Page, Image, page_at, image_size, image_state, image_scn, kept_of, Backing, Given, Seen, next_guid, HasHeader, is_history_page, GoesOn, GoesOnFrom, IsRemembered, HasRows, NamesPast, Step, makes, after_step, after_steps, made, Stroke, begin, on_base, records_of, Trail, settled, settles_at, after_stroke, AllGoOn, IsWellTrail, some_same}
+use Rattle.nb_model.proofs.Common.{AllByRecursion, and_parts, cases_lt, take_at, Contains-append_right, bytes_of, number_in, padded, with_part, stamped, number_of-bytes_of, normal_state, stalled_state, data_kind, Ask, Kept, Base, Entry, room_in, ask_of, broken_at, History, Slot, Spot, is_used, level_in, scn_in, guid_in, slots_in, spots_on, spots_of, spots, pages_of, found_pages, last_such, backup_spot, backup_slot, put_slot, is_in_chain, drafted, Page, Image, page_at, image_size, image_state, image_scn, kept_of, Backing, Given, Seen, next_guid, HasHeader, is_history_page, GoesOn, GoesOnFrom, IsRemembered, HasRows, NamesPast, Step, makes, after_step, after_steps, made, Stroke, begin, on_base, records_of, Trail, settled, settles_at, after_stroke, AllGoOn, IsWellTrail, some_same, Contains-push}
 use Rattle.nb_model.proofs.ControlMay.{may_begin}
 use Rattle.nb_model.proofs.ControlSound.{control_rest, control_long, control_goes_on, new_size, new_free}
 use Rattle.nb_model.proofs.ControlWell.{goes_on_now}
@@ -18,7 +18,6 @@ use Rattle.nb_model.proofs.SoundLaws.{all_at}
 use Rattle.nb_model.proofs.SoundTurns.{HasPlace}
 use Rattle.nb_model.proofs.SteadyLaws.{WellAlong, KeepsAlong, record_of, kept_along, rows_along, begin_along, along_append, along_last, kept_append}
 use Rattle.nb_model.proofs.StepsLaws.{after_steps_append, made_seen}
-use Rattle.nb_model.proofs.TrailLaws.{last_there}
 use Rattle.nb_model.proofs.TurnCases.{MayStart, started, IsFrom, whole, since}
 
 -- Rows of the history that pass a test are kept where room is made for one more.
@@ -131,7 +130,7 @@ recorded_settled kept t b h = record {
 }
   where
     on : (r : Kept) → AllGoOn t r → AllGoOn (settled t.base) r
-    on r all = settled_goes_on t.base r (all t.base (last_there t.earlier t.base))
+    on r all = settled_goes_on t.base r (all t.base (Contains-push t.earlier t.base))
 
 -- what a well trail says of its image
 module _ (kept : List Kept) (t : Trail) (w : IsWellTrail kept t) where
@@ -139,7 +138,7 @@ module _ (kept : List Kept) (t : Trail) (w : IsWellTrail kept t) where
   its_header = record { header = w.base.well.header; scn = w.base.well.scn }
 
   its_past : NamesPast kept (AllGoOn t) t.base.image
-  its_past = w.past t.base (last_there t.earlier t.base)
+  its_past = w.past t.base (Contains-push t.earlier t.base)
 
   -- the row from which a backup goes on names a record from which all that was seen goes on
   its_row : (test : Slot → Bool) (row : Spot) → broken_at (pages_of History t.base.image) ≡ None → backup_spot test t.base.image ≡ Some row → IsRemembered kept (AllGoOn t) row.bytes
@@ -151,7 +150,7 @@ module _ (kept : List Kept) (t : Trail) (w : IsWellTrail kept t) where
     unfolding on_base
     goes_on_then ask r all =
         control_goes_on stalled_state (image_scn u.base.image + 1) guid u.base.image (record { header = later.base.well.header; scn = later.base.well.scn }) later.base.well.sound
-        (may_begin u.base.image (record { header = later.base.well.header; scn = later.base.well.scn }) guid sixteen scn) r (all u.base (last_there u.earlier u.base))
+        (may_begin u.base.image (record { header = later.base.well.header; scn = later.base.well.scn }) guid sixteen scn) r (all u.base (Contains-push u.earlier u.base))
 
     its_parent : (asked : Ask) → broken_at (pages_of History t.base.image) ≡ None → IsFrom t.base.image asked → HasParent kept (record_of u guid (Some asked))
     unfolding ask_of
@@ -164,7 +163,7 @@ module _ (kept : List Kept) (t : Trail) (w : IsWellTrail kept t) where
           parent = remembered.backup;
           kept_as = remembered.kept_as;
           scn = remembered.scn;
-          earlier = (all u.base (last_there u.earlier u.base)).earlier;
+          earlier = (all u.base (Contains-push u.earlier u.base)).earlier;
           follows = (goes_on_then (Some (ask_of level (Some row))) remembered.backup all).follows;
         }))
 
@@ -323,7 +322,7 @@ module _ (kept : List Kept) (t : Trail) (w : IsWellTrail kept t) (b : Backing) (
   IsKnown row = is_used row ≡ true → IsRemembered kept (AllGoOn t) row
 
   scn_low : b.scn < 4294967296
-  scn_low = let earlier = (recorded.go_on t.base (last_there t.earlier t.base)).earlier in let low = w.base.well.scn in omega (arith, earlier, low)
+  scn_low = let earlier = (recorded.go_on t.base (Contains-push t.earlier t.base)).earlier in let low = w.base.well.scn in omega (arith, earlier, low)
 
   slot_known : IsRemembered kept (AllGoOn t) its_slot
   slot_known = record {

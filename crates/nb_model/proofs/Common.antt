@@ -103,7 +103,7 @@ pub use Rattle.std.proofs.Math.Nat.{div-eq_of_lt, div-mul-le_self, mod-eq_of_lt,
 pub use Rattle.std.proofs.Math.Seq.{get_or-append_seam, set-append_seam, take-append-add}
 pub use Rattle.std.proofs.lemmas.Bool.{and_from, and_left, and_parts, and_right, cases_Bool, cases_lt, cond-false, cond-true, cond_both, eq-eqb, eqb-false, eqb-true, false_from_ne_true, le-leb, leb-true, lt-leb, lt-ltb, ltb-false, ltb-true, ne_eqb, or_cases, or_from, or_parts, or_right, true≢false}
 pub use Rattle.std.proofs.lemmas.Bool.Decides.{eqb_tells, leb_tells}
-pub use Rattle.std.proofs.lemmas.List.{append-nil, drop-append-le, drop-drop, drop-replicate, drop_all, drop_at, get_or-append_right, get_or-drop, get_or-set_other, get_or-set_same, get_or_append_left, get_or_past, length-drop, length-replicate, length-set, length-take-le, map-append, replicate-append-replicate, set_split, take-append-drop, take-append-le, take_all, take_at}
-pub use Rattle.std.proofs.lemmas.List.Elements.{Contains-append_cases, Contains-append_left, Contains-append_right}
+pub use Rattle.std.proofs.lemmas.List.{append-nil, drop-append-le, drop-drop, drop-replicate, drop_all, drop_at, get_or-append_right, get_or-drop, get_or-set_other, get_or-set_same, get_or_append_left, get_or_past, length-drop, length-replicate, length-set, length-take-le, map-append, nil_from_length, replicate-append-replicate, set_split, take-append-drop, take-append-le, take_all, take_at}
+pub use Rattle.std.proofs.lemmas.List.Elements.{Contains-append_cases, Contains-append_left, Contains-append_right, Contains-push}
 pub use Rattle.std.specs.Cmp.Lexicographic.{pointwise, told_text}
 pub use Rattle.std.specs.List.{AllByRecursion, filter, flat_map, list_all, list_any, range_with_len, slice_index_or, sum_by}

@@ -1,6 +1,6 @@
 -- Lists of pages: their bytes joined and cut again, and the pages of zeros at their end.
 use Rattle.std.proofs.Common.{◌≡◌, inl, inr, ℕ, zero, suc, ◌+◌, ◌*◌, ◌<◌, ◌≤◌, List, [], ◌∷◌, ◌++◌, length, take, drop, replicate, refl, sym, ap, ◌∙◌, arith, length-append, append_assoc, suc-mul, Bool, true, false}
-use Rattle.nb_model.proofs.Common.{AllByRecursion, flat_map, cases_Bool, leb_tells, take_at, drop_at, length-drop, length-take-le, take-append-drop, replicate-append-replicate, is_zeros, Page, Image, page_at, cut, trimmed, joined, HasNoZeros, IsOfSize, nil_cons}
+use Rattle.nb_model.proofs.Common.{AllByRecursion, flat_map, cases_Bool, leb_tells, take_at, drop_at, length-drop, length-take-le, take-append-drop, replicate-append-replicate, is_zeros, Page, Image, page_at, cut, trimmed, joined, HasNoZeros, IsOfSize, nil_cons, nil_from_length}
 
 -- each page is all zeros
 abbrev pub AreZeros : List Page → Type 0
@@ -92,11 +92,7 @@ module _ (size : ℕ) where
     pub is : bytes ≡ joined pages
 
   pub pages_of : (n : ℕ) (bytes : List ℕ) → length bytes ≡ n * size → Pages bytes n
-  pages_of zero bytes long = record { pages = []; count = refl; sizes = tt; is = none bytes (omega arith) }
-    where
-      none : (bytes : List ℕ) → length bytes ≡ 0 → bytes ≡ []
-      none [] h = refl
-      none (b ∷ bs) h = absurd (omega arith)
+  pages_of zero bytes long = record { pages = []; count = refl; sizes = tt; is = nil_from_length bytes (omega arith) }
   pages_of (suc n) bytes long =
       let all : length bytes ≡ n * size + size = omega (arith, suc-mul n size) in
       let rest : Pages (drop size bytes) n = pages_of n (drop size bytes) (omega (arith, length-drop size bytes)) in

@@ -36,18 +36,12 @@ whole_laid image bytes out whole = record { rest = out.rest; is = out.is; size =
 
 -- an image with a header has a page
 pub some_page : (image : Image) → is_header (first_page image) ≡ true → 1 ≤ length image
-some_page [] h = absurd (none (header-long [] h))
-  where
-    none : 64 ≤ 0 → ⊥
-    none k = omega arith
+some_page [] h = absurd (let few : 64 ≤ 0 = header-long [] h in omega (arith, few))
 some_page (p ∷ ps) h = omega arith
 
 -- its first 64 bytes are those of the file
 pub laid-front : (image : Image) (bytes : List ℕ) → IsLaid image bytes → take 64 bytes ≡ take 64 (first_page image)
-laid-front [] bytes laid = absurd (none (some_page [] laid.header))
-  where
-    none : 1 ≤ 0 → ⊥
-    none k = omega arith
+laid-front [] bytes laid = absurd (let few : 1 ≤ 0 = some_page [] laid.header in omega (arith, few))
 laid-front (p ∷ ps) bytes laid = ap (take 64) laid.is ∙ take-append-le 64 p (joined (ps ++ laid.rest)) (header-long p laid.header)
 
 pub laid-wide : (image : Image) (bytes : List ℕ) → IsLaid image bytes → 1024 ≤ image_size image

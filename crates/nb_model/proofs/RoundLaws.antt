@@ -569,10 +569,7 @@ pub record IsNew (image : Image) (kind : ℕ) (made : Draft × ℕ) : Type 0 whe
 -- where a page was left for it
 pub new_is_new : (tries kind : ℕ) (payload : ℕ → List ℕ) (image : Image) → IsWhole image → (kind == 0) ≡ false → ((p : ℕ) → length (payload p) ≤ 1008)
     → (new_within tries kind payload (drafted image)).0.full ≡ false → IsNew image kind (new_within tries kind payload (drafted image))
-new_is_new zero kind payload image h some room left = absurd (no_tries (found image h kind payload zero left).tries_is)
-  where
-    no_tries : {n : ℕ} → zero ≡ suc n → ⊥
-    no_tries e = omega (arith, e)
+new_is_new zero kind payload image h some room left = absurd (omega (arith, (found image h kind payload zero left).tries_is))
 new_is_new (suc tries) kind payload image h some room left = by (λ x well full. new_is_new tries kind payload x well some room full) (is_system_place (image_size image) p) refl
   where
     p : ℕ

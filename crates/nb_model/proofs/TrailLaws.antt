@@ -1,16 +1,13 @@
 -- Laws of trails: what a crash may leave of one that is settled, and that writes that are synced keep it settled.
-use Rattle.std.proofs.Common.{◌≡◌, ℕ, zero, suc, ◌≤◌, List, [], ◌∷◌, ◌++◌, length, take, refl, sym, ap, subst, ◌∙◌, set, arith, Bool, true, false, ◌||◌, ◌==◌, nat_le, nat_lt, Ok, Contains}
-use Rattle.nb_model.proofs.Common.{AllByRecursion, true≢false, append-nil, Contains-append_right, number_of, number_in, File, Files, Page, Image, is_forced, with_page, Base, owner, Stroke, make, page, begin, ends, finish, fix, merge, on_base, base_after, Trail, settled, bases_of, settles_at, after_stroke, after_strokes, AreSynced, IsBehindFirst, IsLeft, IsFirm, StandsOn, StandsIn, ShowsIn}
+use Rattle.std.proofs.Common.{◌≡◌, ℕ, zero, suc, ◌≤◌, List, [], ◌∷◌, ◌++◌, length, take, refl, sym, ap, subst, ◌∙◌, set, arith, Bool, true, false, ◌||◌, ◌==◌, nat_le, nat_lt, Ok}
+use Rattle.nb_model.proofs.Common.{AllByRecursion, true≢false, append-nil, number_of, number_in, File, Files, Page, Image, is_forced, with_page, Base, owner, Stroke, make, page, begin, ends, finish, fix, merge, on_base, base_after, Trail, settled, bases_of, settles_at, after_stroke, after_strokes, AreSynced, IsBehindFirst, IsLeft, IsFirm, StandsOn, StandsIn, ShowsIn, Contains-push}
 use Rattle.nb_model.proofs.StrokeLaws.{whole_page, stroke_page}
 use Rattle.nb_model.proofs.CoveredLaws.{firm_left}
-
-pub last_there : (bases : List Base) (b : Base) → Contains (bases ++ b ∷ []) b
-last_there bases b = Contains-append_right bases (b ∷ []) b (0, omega arith, refl)
 
 -- A crash may leave what was seen last.
 pub itself_firm : (t : Trail) → IsFirm t t.base
 itself_firm t = record {
-  mixed = record { long = refl; first = refl; each = λ p low. record { base = t.base; there = last_there t.earlier t.base; below = low; same = refl } };
+  mixed = record { long = refl; first = refl; each = λ p low. record { base = t.base; there = Contains-push t.earlier t.base; below = low; same = refl } };
   kept = λ p at. refl;
   rest = record { frozen = refl; diverted = ([], sym (append-nil t.base.diverted)); merging = λ is. refl; whole = λ none. refl };
 }

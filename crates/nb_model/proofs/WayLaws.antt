@@ -1,9 +1,9 @@
 -- The pages that wait go out one by one: what is left and what reads after each of them.
 use Rattle.std.proofs.Common.{◌≡◌, ◌≢◌, ◌⊎◌, inl, inr, ⊎_elim, ℕ, suc, ◌<◌, ◌≤◌, List, [], ◌∷◌, ◌++◌, length, refl, sym, ap, subst, ◌∙◌, arith, append_assoc, length-append, Bool, true, false, ◌==◌, ◌||◌, nat_eq, nat_le}
-use Rattle.nb_model.proofs.Common.{list_any, true≢false, append-nil, eqb_tells, leb_tells, is_scn_place, state_of, size_of, stalled_state, merge_state, Page, Image, page_at, first_page, image_size, image_state, is_forced, with_page, Base, page, noted, on_base, Trail, bases_of, settles_at, after_stroke, HasPage, IsFirm, IsBehind, IsRewritten, IsOnTheWay, IsRead}
+use Rattle.nb_model.proofs.Common.{list_any, true≢false, append-nil, eqb_tells, leb_tells, is_scn_place, state_of, size_of, stalled_state, merge_state, Page, Image, page_at, first_page, image_size, image_state, is_forced, with_page, Base, page, noted, on_base, Trail, bases_of, settles_at, after_stroke, HasPage, IsFirm, IsBehind, IsRewritten, IsOnTheWay, IsRead, Contains-push}
 use Rattle.nb_model.proofs.SoundLaws.{with_page_length}
 use Rattle.nb_model.proofs.StrokeLaws.{with_page_same, with_page_other, whole_page, stroke_page}
-use Rattle.nb_model.proofs.TrailLaws.{last_there, waits_after}
+use Rattle.nb_model.proofs.TrailLaws.{waits_after}
 use Rattle.nb_model.proofs.BehindLaws.{f_there}
 
 -- images with the same pages are the same
@@ -116,7 +116,7 @@ module _ (t : Trail) (p : ℕ) (some : 1 ≤ p) (low : p < length t.base.image) 
       long = long_put b left.mixed.long left.mixed.first;
       first = first_put b left.mixed.long left.mixed.first;
       each = λ q inside_q. elim (eqb_tells q p) [
-        | inl w ↦ record { base = t.base; there = last_there t.earlier t.base; below = omega (arith, w.1, low); same = here b left.mixed.long left.mixed.first q w.1 }
+        | inl w ↦ record { base = t.base; there = Contains-push t.earlier t.base; below = omega (arith, w.1, low); same = here b left.mixed.long left.mixed.first q w.1 }
         | inr w ↦ subst (HasPage (bases_of t) q) (sym (there b left.mixed.long left.mixed.first q w.1)) (left.mixed.each q (omega (arith, inside_q, long_put b left.mixed.long left.mixed.first, left.mixed.long)))
       ];
     };
@@ -183,7 +183,7 @@ read_firm f t waits r behind unsettled is none = record {
   where
     by : (p : ℕ) → p < length r.image → (u : Bool) → waits p ≡ u → HasPage (bases_of t) p (page_at r.image p)
     by p low true w = record { base = f.base; there = f_there f t behind; below = omega (arith, low, is.long, behind.long); same = is.waiting p w }
-    by p low false w = record { base = t.base; there = last_there t.earlier t.base; below = omega (arith, low, is.long); same = is.others p w }
+    by p low false w = record { base = t.base; there = Contains-push t.earlier t.base; below = omega (arith, low, is.long); same = is.others p w }
 
 -- and where none waits it is what is seen.
 pub read_done : (f t : Trail) (waits : ℕ → Bool) (r : Base) → IsRead f t waits r → ((p : ℕ) → waits p ≡ false) → r ≡ t.base

@@ -79,5 +79,5 @@ pub use Rattle.nb_restore.specs.Sources.{AreHeaded, AreOfPages, AreReady, AreSou
 pub use Rattle.nb_restore.specs.Target.{IsFree, IsFreeOr, IsKept, IsPlan, IsUnfinishedPage, KeepsImage, ReadsOr, restored}
 pub use Rattle.std.proofs.Math.Seq.{drop-cons, take-add}
 pub use Rattle.std.proofs.lemmas.Bool.{and_from, and_parts, cases_eq, cases_lt, eqb-true, or_left, or_parts, or_right, true≢false}
-pub use Rattle.std.proofs.lemmas.List.{append-nil, drop-drop, drop_all, drop_at, length-replicate, length-take-le, set_split, take-append-le, take-take, take_all, take_at, with_items_is}
+pub use Rattle.std.proofs.lemmas.List.{append-nil, drop-drop, drop_all, drop_at, length-replicate, length-take-le, nil_from_length, set_split, take-append-le, take-take, take_all, take_at, with_items_is}
 pub use Rattle.std.specs.List.{AllByRecursion}

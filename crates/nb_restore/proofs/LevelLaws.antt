@@ -1,6 +1,6 @@
 -- The pages of a level file, and of the level files, as far as they were written.
 use Rattle.std.proofs.Common.{◌≡◌, ◌≢◌, ℕ, List, [], ◌∷◌, ◌++◌, length, refl, sym, ap, subst, ◌∙◌, arith, append_assoc, Bool, IsTrue, Result, Ok, Err}
-use Rattle.nb_restore.proofs.Common.{append-nil, File, Files, bytes_of, Fault, Refused, Device, Memory, BadLevel, Page, Numbered, behind, Link, NextSays, Reading, still_to_come, IsDone, Overwrites, OverwritesAll, IsReady, AreReady, AreOfPages, ok_same, err_not_ok}
+use Rattle.nb_restore.proofs.Common.{append-nil, File, Files, bytes_of, Fault, Refused, Device, Memory, BadLevel, Page, Numbered, behind, Link, NextSays, Reading, still_to_come, IsDone, Overwrites, OverwritesAll, IsReady, AreReady, AreOfPages, ok_same, err_not_ok, nil_from_length}
 use Rattle.std.specs.Iterator.{Yields}
 use Rattle.std.specs.Vec.Iter.{into_iter_items, into_iter_len, into_iter_steps}
 use Rattle.std.specs.declared.vec.IntoIter.{IntoIter}
@@ -156,13 +156,9 @@ counted : {X A : Type 0} (s : IntoIter X A) (xs : List X) (t : IntoIter X A) →
 counted s [] t long y = subst (λ i. into_iter_len i ≡ length (into_iter_items i)) y long
 counted s (x ∷ xs) t long y = counted y.0 xs t (let one = ap length y.1.0 in let fewer = y.1.1 in omega (arith, one, fewer, long)) y.2
 
-nothing_left : {X : Type 0} (xs : List X) → length xs ≡ 0 → xs ≡ []
-nothing_left [] none = refl
-nothing_left (x ∷ xs) none = absurd (omega (arith, none))
-
 pub all_taken : {X A : Type 0} (all : List X) (s : IntoIter X A) (xs : List X) (t : IntoIter X A) → into_iter_items s ≡ all → into_iter_len s ≡ length all → Yields into_iter_steps s xs t → into_iter_len t ≡ 0 → all ≡ xs ++ []
 all_taken all s xs t given long y none =
-    sym given ∙ taken_front s xs t y ∙ ap (λ ys. xs ++ ys) (nothing_left (into_iter_items t) (sym (counted s xs t (long ∙ ap length (sym given)) y) ∙ none))
+    sym given ∙ taken_front s xs t y ∙ ap (λ ys. xs ++ ys) (nil_from_length (into_iter_items t) (sym (counted s xs t (long ∙ ap length (sym given)) y) ∙ none))
 
 -- a reader among readers of pages of that size
 pub of_pages_at : (size : ℕ) (front : List Reading) (reader : Reading) (more all : List Reading) → all ≡ front ++ reader ∷ more → AreOfPages size all → reader.head.page_size ≡ size

@@ -18,10 +18,7 @@ free_page page is =
 
 -- a file that begins with such a page
 pub free_front : (page : Page) (file : File) → IsUnfinishedPage page → BeginsWith (take 64 page) file → IsFree file
-free_front page None is begins = absurd (none begins.long)
-  where
-    none : 64 ≤ 0 → ⊥
-    none h = omega arith
+free_front page None is begins = absurd (let few : 64 ≤ 0 = begins.long in omega (arith, few))
 free_front page (Some bytes) is begins = sym (is_free_file-take bytes) ∙ ap (λ (x : List ℕ). is_free_file (Some x)) begins.is ∙ is_free_file-take page ∙ free_page page is
 
 -- page 0 is the first that is written

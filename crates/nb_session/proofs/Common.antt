@@ -112,4 +112,5 @@ pub use Rattle.std.proofs.lemmas.Bool.{and_parts, cases_lt, ne_eqb, true≢false
 pub use Rattle.std.proofs.lemmas.Bool.Decides.{eqb_tells}
 pub use Rattle.std.proofs.lemmas.List.{append-nil, append_cancel_left, append_cancel_right, drop_more, get_or_past, length-map, take-append-le, take_all, take_more}
 pub use Rattle.std.proofs.lemmas.List.Elements.{Contains-append_cases, Contains-append_left, Contains-append_right}
+pub use Rattle.std.proofs.lemmas.Result.{IfOk-from_err}
 pub use Rattle.std.specs.List.{AllByRecursion, list_all, range_with_len, slice_index_or}
