@@ -1,6 +1,6 @@
 -- Why a file isn't opened, and what is held of one that is.
 use Rattle.std.proofs.Common.{◌≡◌, ◌≢◌, inl, inr, ℕ, zero, suc, ◌+◌, ◌-◌, ◌*◌, ◌/◌, ◌%◌, ◌<◌, ◌≤◌, List, [], ◌∷◌, ◌++◌, length, get_or, take, drop, refl, sym, ap, subst, ◌∙◌, arith, length-append, mul-le-mul_right, suc-mul, Bool, true, false, not, ◌==◌, ◌||◌, IsTrue, Option, Some, None, option_map, min, max, nat_lt, Result, Ok, Err, IsErr, IsErrAnd, IfOk, IfErr}
-use Rattle.nb_base.proofs.Common.{div-eq_of_lt, cases_Bool, leb_tells, eqb_tells, get_or-append_right, get_or_append_left, take-take, take_more, is_zeros, number_in, is_header, state_of, size_of, is_page_size, most_pages, number_in-take, size_facts, applying_state, File, Fault, Refused, Device, Memory, Refusal, NotDatabase, Unfinished, Image, page_at, first_page, image_size, image_in, Cause, first_cause, when, not_database, header-size, same-number, all_at, IsTrimmed, page-joined, length-joined, trimmed-drop, trimmed-zeros, IsLaid, laid, laid-front, laid-wide, some_page, Known, behind_entries, IsBlank, Tested, length_cause, start_cause, main_cause, unheaded, device_memory, nil_cons, none_some, ok_equal, some_same, true≢false}
+use Rattle.nb_base.proofs.Common.{div-eq_of_lt, cases_Bool, leb_tells, eqb_tells, get_or-append_right, get_or_append_left, take-take, take_more, is_zeros, number_in, is_header, state_of, size_of, is_page_size, most_pages, number_in-take, size_facts, applying_state, File, Fault, Refused, Device, Memory, Refusal, NotDatabase, Unfinished, Image, page_at, first_page, image_size, image_in, Cause, first_cause, when, not_database, header-size, same-number, all_at, IsTrimmed, page-joined, length-joined, trimmed-drop, trimmed-zeros, IsLaid, laid, laid-front, laid-wide, some_page, Known, behind_entries, IsBlank, Tested, length_cause, start_cause, main_cause, unheaded, device_memory, nil_cons, none_some, ok_equal, some_same, true≢false, or_right}
 use Rattle.nb_fields.proofs.HeaderLaws.{is_header-take}
 use Rattle.nb_model.proofs.ReadLaws.{lt_no, lt_yes, eq_no, eq_yes}
 use Rattle.nb_base.proofs.OwnedLaws.{behind-added}
@@ -33,11 +33,7 @@ module _ (len size : ℕ) where
   parted h = first_here _ _ _ (applies _ _ (ap (λ (t : Bool). not t || nat_lt (len / size) 5) (eq_no (len % size) 0 h)))
 
   pub too_few : len / size < 5 → length_cause len size ≡ Some (NotDatabase (min (len / size) most_pages))
-  too_few h = first_here _ _ _ (applies _ _ (last (len % size == 0) (lt_yes (len / size) 5 h)))
-    where
-      last : (t : Bool) {b : Bool} → b ≡ true → (not t || b) ≡ true
-      last true e = e
-      last false e = refl
+  too_few h = first_here _ _ _ (applies _ _ (or_right (not (len % size == 0)) _ (lt_yes (len / size) 5 h)))
 
   whole_test : len % size ≡ 0 → 5 ≤ len / size → (not (len % size == 0) || nat_lt (len / size) 5) ≡ false
   whole_test h k = ap (λ (t : Bool). not t || nat_lt (len / size) 5) (eq_yes (len % size) 0 h) ∙ lt_no (len / size) 5 k

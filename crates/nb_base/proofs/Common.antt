@@ -43,7 +43,7 @@ pub use Rattle.nb_fields.specs.States.{applying_state, merge_state, normal_state
 unfoldable pub use Rattle.nb_fields.specs.Table.{page_in, slot_place, table_of}
 pub use Rattle.nb_host.proofs.FileLaws.{device_memory}
 pub use Rattle.nb_host.proofs.NameLaws.{with_file-named}
-pub use Rattle.nb_host.proofs.PlainLaws.{err_ok, false_true, nil_cons, no_err, none_some, none_there, not_le, ok_equal, ok_same, some_none, some_same}
+pub use Rattle.nb_host.proofs.PlainLaws.{err_ok, false_true, le_yes, nil_cons, no_err, none_some, none_there, not_le, ok_equal, ok_same, some_none, some_same}
 pub use Rattle.nb_host.specs.Calls.{IsSilent, IsStill, ReadsBytes, ReadsPage, Remakes, Syncs, WholeOrNot, WritesPage}
 pub use Rattle.nb_host.specs.Crash.{IsDurable, Leaves, LeavesAll, PageLeft, Untouched}
 unfoldable pub use Rattle.nb_host.specs.Files.{padded, put_at, with_file}
@@ -89,9 +89,9 @@ pub use Rattle.nb_page.proofs.BlankLaws.{blank_free, blank_left, blank_put}
 pub use Rattle.nb_page.proofs.QuietLaws.{quiet_begun, quiet_joined}
 pub use Rattle.nb_page.specs.Quiet.{Quiet}
 pub use Rattle.std.proofs.Math.Nat.{div-eq_of_lt, mul-div_cancel}
-pub use Rattle.std.proofs.lemmas.Bool.{cases_Bool, cases_eq, cond-false, cond-true, ne_eqb, true_from_ne_false, true≢false}
+pub use Rattle.std.proofs.lemmas.Bool.{cases_Bool, cases_eq, cond-false, cond-true, ne_eqb, or_right, true_from_ne_false, true≢false}
 pub use Rattle.std.proofs.lemmas.Bool.Decides.{eqb_tells, leb_tells}
-pub use Rattle.std.proofs.lemmas.List.{append-nil, drop_all, drop_at, ext_get_or, get_or-append_right, get_or_append_left, length-drop, length-replicate, length-take, length-take-le, nil_from_length, replicate-append-replicate, take-append-drop, take-append-le, take-take, take_all, take_at, take_more}
+pub use Rattle.std.proofs.lemmas.List.{append-nil, drop_all, drop_at, ext_get_or, get_or-append_right, get_or_append_left, get_or_past, length-drop, length-replicate, length-take, length-take-le, nil_from_length, replicate-append-replicate, take-append-drop, take-append-le, take-take, take_all, take_at, take_more}
 pub use Rattle.std.proofs.lemmas.Result.{err_from_is_err_and, on_ok_weaker}
 unfoldable pub use Rattle.std.specs.List.{IsDistinct}
 pub use Rattle.std.specs.List.{flat_map, list_any, position_from, range_with_len}

@@ -1,6 +1,6 @@
 -- Leaked pages are given back one after the other: what each front of the strokes leaves.
 use Rattle.std.proofs.Common.{◌≡◌, ◌≢◌, inl, inr, ℕ, zero, suc, ◌+◌, ◌<◌, ◌≤◌, List, [], ◌∷◌, ◌++◌, length, take, drop, refl, sym, ap, subst, append_assoc, ◌∙◌, arith, Bool, true, false, cond, ◌&&◌, ◌||◌, ◌==◌, not, nat_eq, None}
-use Rattle.nb_check.proofs.Common.{filter, range_with_len, cases_Bool, true≢false, and_left, or_cases, eqb_tells, append-nil, list_any-append, kind_of, is_system_place, data_kind, Base, History, Draft, drafted, give_page, is_free_page, Page, Image, page_at, image_size, HasHeader, IsSoundImage, Stroke, base_after, all_given, Along, along_append, along_front, drafted_is, drafts_are, set_bit_keeps, IsWhole, leaked_two, given_first, header_whole, eq_no, eq_yes, is_among, is_leaked, leaked, reached, unsound_by, check_cause, reclaimed, given_none, head_same, tail_same, nil_cons}
+use Rattle.nb_check.proofs.Common.{filter, range_with_len, cases_Bool, and_left, or_cases, eqb_tells, append-nil, list_any-append, kind_of, is_system_place, data_kind, Base, History, Draft, drafted, give_page, is_free_page, Page, Image, page_at, image_size, HasHeader, IsSoundImage, Stroke, base_after, all_given, Along, along_append, along_front, drafted_is, drafts_are, set_bit_keeps, IsWhole, leaked_two, given_first, header_whole, eq_no, eq_yes, is_among, is_leaked, leaked, reached, unsound_by, check_cause, reclaimed, given_none, head_same, tail_same, nil_cons, or_parts, or_false, or_true, or_assoc}
 use Rattle.nb_model.proofs.DraftLaws.{IsOf}
 use Rattle.nb_model.proofs.StrokeLaws.{base_after-append}
 use Rattle.nb_check.specs.Laws.{KeepsPages, Reclaims}
@@ -64,12 +64,8 @@ pub record IsBack (x : Image) (ps : List ℕ) (y : Image) : Type 0 where
   pub whole : IsWhole y
   pub bits : (q : ℕ) → q < length x → is_free_page y q ≡ (is_free_page x q || is_among q ps)
 
-or_false : (t : Bool) → t ≡ (t || false)
-or_false true = refl
-or_false false = refl
-
 pub back_first : (x : Image) → IsWhole x → IsBack x [] x
-back_first x h = record { alike = record { size = refl; same = refl; pages = λ p plain. refl }; whole = h; bits = λ q low. or_false (is_free_page x q) }
+back_first x h = record { alike = record { size = refl; same = refl; pages = λ p plain. refl }; whole = h; bits = λ q low. sym (or_false (is_free_page x q)) }
 
 module _ (x : Image) (sound : IsSoundImage x) (ps : List ℕ) (y : Image) (back : IsBack x ps y) where
   -- a page of a system place is none of data
@@ -118,12 +114,8 @@ module _ (x : Image) (sound : IsSoundImage x) (ps : List ℕ) (y : Image) (back 
     pages = λ p low plain. back.alike.pages p plain;
     rows = λ table. rows_same x y back.alike sound.sound back.whole.sound.sound table;
     history = spots_same x y back.alike sound.sound back.whole.sound.sound History;
-    bits = λ p low off. back.bits p low ∙ ap (λ (t : Bool). is_free_page x p || t) (front_off (is_among p ps) (is_among p qs) (sym (list_any-append (nat_eq p) ps qs) ∙ ap (is_among p) (sym e) ∙ off)) ∙ sym (or_false (is_free_page x p));
+    bits = λ p low off. back.bits p low ∙ ap (λ (t : Bool). is_free_page x p || t) (or_parts (is_among p ps) (is_among p qs) (sym (list_any-append (nat_eq p) ps qs) ∙ ap (is_among p) (sym e) ∙ off)).0 ∙ or_false (is_free_page x p);
   }
-    where
-      front_off : (a b : Bool) → (a || b) ≡ false → a ≡ false
-      front_off false b fails = refl
-      front_off true b fails = absurd (true≢false fails)
 
 -- One page more is given back.
 module _ (x : Image) (header : HasHeader x) (sound : IsSoundImage x) (ps : List ℕ) (p : ℕ) (y : Image) (back : IsBack x ps y) (low : p < length x) (holds : is_leaked x p ≡ true) where
@@ -135,14 +127,6 @@ module _ (x : Image) (header : HasHeader x) (sound : IsSoundImage x) (ps : List 
 
   among_more : (q : ℕ) → is_among q (ps ++ p ∷ []) ≡ (is_among q ps || is_among q (p ∷ []))
   among_more q = list_any-append (nat_eq q) ps (p ∷ [])
-
-  or_assoc : (a b c : Bool) → ((a || b) || c) ≡ (a || (b || c))
-  or_assoc true b c = refl
-  or_assoc false b c = refl
-
-  or_all : (t : Bool) → true ≡ (t || true)
-  or_all true = refl
-  or_all false = refl
 
   plain_y : (q : ℕ) → is_system_place (image_size x) q ≡ false → is_system_place (image_size y) q ≡ false
   plain_y q plain = ap (λ (s : ℕ). is_system_place s q) back.alike.size ∙ plain
@@ -175,13 +159,13 @@ module _ (x : Image) (header : HasHeader x) (sound : IsSoundImage x) (ps : List 
       bits : (q : ℕ) → q < length x → is_free_page (given y back.whole p two low_y) q ≡ (is_free_page x q || is_among q (ps ++ p ∷ []))
       bits q below = elim (eqb_tells q p) [
         | inl w ↦
-            ap (is_free_page (given y back.whole p two low_y)) w.1 ∙ free_then y back.whole p two low_y ∙ or_all (is_free_page x q || is_among q ps)
+            ap (is_free_page (given y back.whole p two low_y)) w.1 ∙ free_then y back.whole p two low_y ∙ sym (or_true (is_free_page x q || is_among q ps))
             ∙ ap (λ (t : Bool). (is_free_page x q || is_among q ps) || t) (sym (ap (λ (m : ℕ). is_among q (m ∷ [])) (sym w.1) ∙ among_first q []))
-            ∙ or_assoc (is_free_page x q) (is_among q ps) (is_among q (p ∷ [])) ∙ ap (λ (t : Bool). is_free_page x q || t) (sym (among_more q))
+            ∙ sym (or_assoc (is_free_page x q) (is_among q ps) (is_among q (p ∷ []))) ∙ ap (λ (t : Bool). is_free_page x q || t) (sym (among_more q))
         | inr w ↦
-            other_then y back.whole p two low_y q w.1 ∙ back.bits q below ∙ or_false (is_free_page x q || is_among q ps)
+            other_then y back.whole p two low_y q w.1 ∙ back.bits q below ∙ sym (or_false (is_free_page x q || is_among q ps))
             ∙ ap (λ (t : Bool). (is_free_page x q || is_among q ps) || t) (sym (one_only q w.1))
-            ∙ or_assoc (is_free_page x q) (is_among q ps) (is_among q (p ∷ [])) ∙ ap (λ (t : Bool). is_free_page x q || t) (sym (among_more q))
+            ∙ sym (or_assoc (is_free_page x q) (is_among q ps) (is_among q (p ∷ []))) ∙ ap (λ (t : Bool). is_free_page x q || t) (sym (among_more q))
       ]
 
 -- The leaked pages are some that were given back and the others.

@@ -18,7 +18,7 @@ pub use Rattle.nb_fields.specs.Page.{kind_of, stamp_of}
 pub use Rattle.nb_fields.specs.Payloads.{bit_of, entry_of}
 unfoldable pub use Rattle.nb_fields.specs.Places.{is_inventory_place, is_scn_place, is_system_place}
 pub use Rattle.nb_fields.specs.Places.{bits_in, entries_in, inventory_place, is_page_size, most_pages, scn_place}
-pub use Rattle.nb_host.proofs.PlainLaws.{first_twice, head_same, le_yes, never, nil_cons, none_some, not_both, not_false, some_none, tail_same}
+pub use Rattle.nb_host.proofs.PlainLaws.{all_both, all_go, first_twice, head_same, le_yes, never, nil_cons, none_some, not_both, not_false, or_assoc, or_false, or_true, some_none, tail_same}
 pub use Rattle.nb_host.specs.World.{World}
 pub use Rattle.nb_host.specs.declared.faults.Fault.{Fault}
 pub use Rattle.nb_host.specs.declared.faults.Fault.TheVariants.{Memory}

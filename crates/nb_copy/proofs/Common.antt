@@ -53,7 +53,7 @@ pub use Rattle.nb_gather.proofs.TouchLaws.{touches_named, touches_page, touches_
 pub use Rattle.nb_gather.specs.Gathering.{HasTaken, IsHeaded, LevelWriting, MayHave}
 pub use Rattle.nb_gather.specs.Making.{IsBlank, IsEmpty, IsFreeOr, IsKept, IsMade, IsUnfinished, IsUnfinishedOr}
 pub use Rattle.nb_host.proofs.NameLaws.{with_file-named}
-pub use Rattle.nb_host.proofs.PlainLaws.{far_behind, lt_holds, none_some, true_or_false}
+pub use Rattle.nb_host.proofs.PlainLaws.{all_front, far_behind, lt_holds, none_some, true_or_false}
 pub use Rattle.nb_host.specs.Calls.{IsStill, Remakes, Syncs, WritesPage}
 pub use Rattle.nb_host.specs.Crash.{IsDurable, Leaves, LeavesAll, PageLeft}
 unfoldable pub use Rattle.nb_host.specs.Files.{padded, put_at, with_file}

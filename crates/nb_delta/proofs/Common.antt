@@ -20,7 +20,7 @@ pub use Rattle.nb_fields.specs.Bytes.{AreApart, part}
 pub use Rattle.nb_fields.specs.Places.{is_page_size, most_pages, slots_in}
 unfoldable pub use Rattle.nb_fields.specs.Table.{alloc_place, entries_from, groups_from, page_in, slot_place, table_of}
 pub use Rattle.nb_host.proofs.FileLaws.{length-front}
-pub use Rattle.nb_host.proofs.PlainLaws.{err_ok, false_true, none_some, some_none}
+pub use Rattle.nb_host.proofs.PlainLaws.{all_parts, err_ok, false_true, none_some, some_none}
 pub use Rattle.nb_host.specs.Calls.{IsSilent, ReadsBytes, ReadsPage, Remakes, WritesPage}
 pub use Rattle.nb_host.specs.Crash.{IsDurable, LeavesAll, PageLeft}
 unfoldable pub use Rattle.nb_host.specs.Files.{padded, put_at, with_file}

@@ -45,7 +45,7 @@ pub use Rattle.nb_fields.specs.Payloads.{text_length, text_of}
 unfoldable pub use Rattle.nb_fields.specs.Places.{is_scn_place}
 pub use Rattle.nb_fields.specs.Places.{bits_in, entries_in, inventory_place, is_page_size, most_pages, scn_place}
 pub use Rattle.nb_fields.specs.States.{normal_state}
-pub use Rattle.nb_host.proofs.PlainLaws.{append_none, le_yes, none_some}
+pub use Rattle.nb_host.proofs.PlainLaws.{append_none, le_yes, none_some, not_false}
 pub use Rattle.nb_host.specs.Faults.{as_fault}
 pub use Rattle.nb_host.specs.World.{World}
 pub use Rattle.nb_host.specs.declared.faults.Fault.{Fault}

@@ -28,4 +28,5 @@ pub use Rattle.nb_model.specs.Owner.{delta_name}
 unfoldable pub use Rattle.nb_model.specs.Strokes.{fixed}
 pub use Rattle.nb_restore.proofs.FinishLaws.{normal_page, two, written_whole}
 pub use Rattle.std.proofs.Math.Nat.{div-eq_of_lt, mul-mod_left}
+pub use Rattle.std.proofs.lemmas.Bool.{or_right}
 pub use Rattle.std.proofs.lemmas.List.{drop-drop, drop-take, length-take, length-take-le, take-append-drop, take-take, take_at}

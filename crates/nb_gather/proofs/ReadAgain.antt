@@ -1,15 +1,11 @@
 -- What it says of bytes that they are read as runs.
-use Rattle.std.proofs.Common.{◌≡◌, ◌≢◌, ◌⊎◌, inl, inr, ℕ, suc, ◌+◌, ◌*◌, ◌≤◌, List, length, drop, refl, sym, ap, ◌∙◌, arith, Bool, true, false, not, ◌||◌, ◌==◌, nat_lt, Option, None, Some, Result, Ok, Err}
-use Rattle.nb_gather.proofs.Common.{eqb_tells, number_in, Numbered, Head, Test, first_fault, behind, read_end, read_runs, pages_in, barred_after, end_mark, AreClear, eq_yes, run_tests, end_tests, not_both, true_or_false, err_ok}
+use Rattle.std.proofs.Common.{◌≡◌, ◌≢◌, ◌⊎◌, inl, inr, ℕ, suc, ◌+◌, ◌*◌, ◌≤◌, List, length, drop, refl, sym, ap, ◌∙◌, arith, true, false, not, ◌==◌, nat_lt, Option, None, Some, Result, Ok, Err}
+use Rattle.nb_gather.proofs.Common.{eqb_tells, number_in, Numbered, Head, Test, first_fault, behind, read_end, read_runs, pages_in, barred_after, end_mark, AreClear, eq_yes, run_tests, end_tests, not_both, true_or_false, err_ok, or_parts}
 use Rattle.nb_model.proofs.LevelWalk.{none_clear, not_long}
 
 some_or : (o : Option ℕ) → ((p : ℕ) × (o ≡ Some p)) ⊎ (o ≡ None)
 some_or None = inr refl
 some_or (Some p) = inl (p, refl)
-
-or_no_left : (a b : Bool) → (a || b) ≡ false → a ≡ false
-or_no_left true b is = absurd (not_both true refl is)
-or_no_left false b is = refl
 
 not_no : (a b : ℕ) → not (a == b) ≡ false → a ≡ b
 not_no a b is = elim (eqb_tells a b) [ inl w ↦ w.1 | inr w ↦ absurd (not_both (not (a == b)) (ap not w.0) is) ]
@@ -72,7 +68,7 @@ module _ (left : ℕ) (h : Head) (at count least barred : ℕ) (rest : List ℕ)
 
   pub run_facts : AreClear tests → RunFacts
   run_facts clear = record {
-    some = λ zero_. not_both (number_in 4 4 rest == 0) (eq_yes (number_in 4 4 rest) 0 zero_) (or_no_left (number_in 4 4 rest == 0) _ clear.1.1.0);
+    some = λ zero_. not_both (number_in 4 4 rest == 0) (eq_yes (number_in 4 4 rest) 0 zero_) (or_parts (number_in 4 4 rest == 0) _ clear.1.1.0).0;
     fits = not_long (length rest) (8 + number_in 4 4 rest * h.size) clear.1.1.1.1.1.0;
   }
 

@@ -1,6 +1,6 @@
 -- The start and the close of a backup keep what was seen well: the row that the close writes names the record that the begin has kept.
 use Rattle.std.proofs.Common.{◌≡◌, inl, inr, ℕ, ◌+◌, ◌*◌, ◌<◌, ◌≤◌, List, [], ◌∷◌, ◌++◌, length, take, drop, refl, sym, ap, subst, ◌∙◌, arith, append_assoc, Bool, true, false, ◌&&◌, Option, Some, None, Contains}
-use Rattle.nb_model.proofs.Common.{AllByRecursion, and_parts, cases_lt, take_at, Contains-append_right, bytes_of, number_in, padded, with_part, stamped, number_of-bytes_of, normal_state, stalled_state, data_kind, Ask, Kept, Base, Entry, room_in, ask_of, broken_at, History, Slot, Spot, is_used, level_in, scn_in, guid_in, slots_in, spots_on, spots_of, spots, pages_of, found_pages, last_such, backup_spot, backup_slot, put_slot, is_in_chain, drafted, Page, Image, page_at, image_size, image_state, image_scn, kept_of, Backing, Given, Seen, next_guid, HasHeader, is_history_page, GoesOn, GoesOnFrom, IsRemembered, HasRows, NamesPast, Step, makes, after_step, after_steps, made, Stroke, begin, on_base, records_of, Trail, settled, settles_at, after_stroke, AllGoOn, IsWellTrail, some_same, Contains-push}
+use Rattle.nb_model.proofs.Common.{AllByRecursion, and_parts, cases_lt, take_at, Contains-append_right, bytes_of, number_in, padded, with_part, stamped, number_of-bytes_of, normal_state, stalled_state, data_kind, Ask, Kept, Base, Entry, room_in, ask_of, broken_at, History, Slot, Spot, is_used, level_in, scn_in, guid_in, slots_in, spots_on, spots_of, spots, pages_of, found_pages, last_such, backup_spot, backup_slot, put_slot, is_in_chain, drafted, Page, Image, page_at, image_size, image_state, image_scn, kept_of, Backing, Given, Seen, next_guid, HasHeader, is_history_page, GoesOn, GoesOnFrom, IsRemembered, HasRows, NamesPast, Step, makes, after_step, after_steps, made, Stroke, begin, on_base, records_of, Trail, settled, settles_at, after_stroke, AllGoOn, IsWellTrail, some_same, Contains-push, all_go}
 use Rattle.nb_model.proofs.ControlMay.{may_begin}
 use Rattle.nb_model.proofs.ControlSound.{control_rest, control_long, control_goes_on, new_size, new_free}
 use Rattle.nb_model.proofs.ControlWell.{goes_on_now}
@@ -9,7 +9,7 @@ use Rattle.nb_model.proofs.FitLaws.{Fits, Stays, fitting_stays}
 use Rattle.nb_model.proofs.HeldLaws.{IsHeld, IsOfHistory, held_by}
 use Rattle.nb_model.proofs.LeadLaws.{LeadsTo, leads_kept, past_chain}
 use Rattle.nb_model.proofs.HeldRoom.{HoldsRows, HasChainRows, room_held}
-use Rattle.nb_model.proofs.PastLaws.{all_rows, no_history, no_rows_pass, kept_more, remembered_with}
+use Rattle.nb_model.proofs.PastLaws.{no_history, no_rows_pass, kept_more, remembered_with}
 use Rattle.nb_model.proofs.PutSound.{header_whole}
 use Rattle.nb_model.proofs.RecordLaws.{HasParent}
 use Rattle.nb_model.proofs.RoomLaws.{HoldsOfHistory, in_chain, pages_found, room_fits, slot_fits, backup_length}
@@ -102,7 +102,7 @@ holds_on P R q old new goes held h = record {
   held = (held h.bytes h.of_history (h.held, h.leads)).0;
   leads = (held h.bytes h.of_history (h.held, h.leads)).1;
   of_history = h.of_history;
-  rows = all_rows (λ row. is_used row ≡ true → P row) (λ row. is_used row ≡ true → R row) (slots_in h.bytes) (λ row one used. goes row (one used)) h.rows;
+  rows = all_go {X = Slot} (λ row. is_used row ≡ true → P row) (λ row. is_used row ≡ true → R row) (slots_in h.bytes) (λ row one used. goes row (one used)) h.rows;
 }
 
 remembered_on : (kept more : List Kept) (P R : Kept → Type 0) → ((r : Kept) → P r → R r) → (row : Slot) → IsRemembered kept P row → IsRemembered (kept ++ more) R row

@@ -27,7 +27,7 @@ unfoldable pub use Rattle.nb_fields.specs.Table.{page_in, slot_place}
 pub use Rattle.nb_fields.specs.declared.kinds.PageKind.{PageKind}
 pub use Rattle.nb_fields.specs.declared.kinds.PageKind.TheVariants.{Data, Header, Inventory, Raw, ScnInventory}
 pub use Rattle.nb_host.proofs.NameLaws.{decide, same_self}
-pub use Rattle.nb_host.proofs.PlainLaws.{append_none, cons_nil, eq_other, eq_self, err_not_ok, err_ok, false_true, head_same, lt_holds, nil_cons, none_and_some, none_in, none_some, not_false, not_le, not_lt, ok_same, some_none, some_same, tail_same}
+pub use Rattle.nb_host.proofs.PlainLaws.{all_append, all_both, all_front, all_go, all_parts, append_none, cons_nil, eq_other, eq_self, err_not_ok, err_ok, false_true, head_same, lt_holds, nil_cons, none_and_some, none_in, none_some, not_false, not_le, not_lt, not_there, not_true, ok_same, or_false, or_true, some_none, some_same, tail_same}
 unfoldable pub use Rattle.nb_host.specs.Files.{put_at, with_file}
 pub use Rattle.nb_host.specs.Files.{File, Files}
 pub use Rattle.nb_host.specs.Names.{delta_suffix, is_delta, is_name, same_name}

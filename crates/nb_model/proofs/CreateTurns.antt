@@ -1,6 +1,6 @@
 -- A table is created: its page is made first, and it is there once its slot stands in the catalogue.
 use Rattle.std.proofs.Common.{◌≡◌, ◌≢◌, ◌⊎◌, inr, ℕ, ◌+◌, ◌≤◌, ◌<◌, List, [], ◌++◌, length, refl, sym, ap, subst, ◌∙◌, arith, true, false, Option, None, is_some, Result, Ok, Err}
-use Rattle.nb_model.proofs.Common.{AllByRecursion, or_parts, data_payload, is_system_place, Base, Catalogue, History, RowsFrom, Slot, owner_in, next_in, is_slot, slots_in, Spot, pages_of, found_pages, spots_of, spots, free_spot, table_spot, table_slot, place_at, place_slot, Draft, drafted, old_page, Page, Image, page_at, image_scn, GivesRows, chains, pages_of_all, rows, IsNeat, HasHeader, IsSoundImage, base_after, is_table_name}
+use Rattle.nb_model.proofs.Common.{AllByRecursion, or_parts, data_payload, is_system_place, Base, Catalogue, History, RowsFrom, Slot, owner_in, next_in, is_slot, slots_in, Spot, pages_of, found_pages, spots_of, spots, free_spot, table_spot, table_slot, place_at, place_slot, Draft, drafted, old_page, Page, Image, page_at, image_scn, GivesRows, chains, pages_of_all, rows, IsNeat, HasHeader, IsSoundImage, base_after, is_table_name, all_go}
 use Rattle.nb_model.proofs.Along.{Along, along_append, along_more}
 use Rattle.nb_model.proofs.ChainWalks.{HasForm}
 use Rattle.nb_model.proofs.DraftJoin.{joined}
@@ -8,7 +8,7 @@ use Rattle.nb_model.proofs.FitLaws.{IsWhole, Fits, fits_first, fitting_stays}
 use Rattle.nb_model.proofs.HeldAlong.{new_held_along, each_along, longer_along, both_along}
 use Rattle.nb_model.proofs.HeldChains.{KeepsEach, IsHeldIn, chains_held, chain_each, nothing_changes}
 use Rattle.nb_model.proofs.HeldLaws.{IsHeld, IsMade, new_is_made}
-use Rattle.nb_model.proofs.NeatLaws.{all_go, chains_are, same_pages, same_all, same_chains, catalogue_same, same_table, stays_neat, other_rows, rows_of_none, ChangesChain}
+use Rattle.nb_model.proofs.NeatLaws.{chains_are, same_pages, same_all, same_chains, catalogue_same, same_table, stays_neat, other_rows, rows_of_none, ChangesChain}
 use Rattle.nb_model.proofs.NewSlots.{IsFree, free_fits, new_next, none_used}
 use Rattle.nb_model.proofs.NewSound.{new_fits}
 use Rattle.nb_model.proofs.PutSound.{header_whole}

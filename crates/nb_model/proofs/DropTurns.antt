@@ -1,6 +1,6 @@
 -- A table is dropped: its slot in the catalogue is emptied first, and its pages are given back then, which changes nothing for the others.
 use Rattle.std.proofs.Common.{◌≡◌, ◌≢◌, ◌⊎◌, inl, inr, ℕ, zero, suc, ◌+◌, ◌*◌, ◌≤◌, List, [], ◌∷◌, ◌++◌, map, length, drop, refl, sym, ap, subst, ◌∙◌, arith, false, None, Contains}
-use Rattle.nb_model.proofs.Common.{AllByRecursion, with_part, Base, base_of, Chain, Catalogue, History, Spot, is_used, found_pages, spots, table_spot, free_slot, put_slot, Draft, drafted, raised, give_page, Page, Image, page_at, Seen, GivesRows, used, table_chains, chains, pages_of_all, rows, AreDistinct, IsNeat, HasHeader, IsSoundImage, Stroke, on_base, base_after, all_given}
+use Rattle.nb_model.proofs.Common.{AllByRecursion, with_part, Base, base_of, Chain, Catalogue, History, Spot, is_used, found_pages, spots, table_spot, free_slot, put_slot, Draft, drafted, raised, give_page, Page, Image, page_at, Seen, GivesRows, used, table_chains, chains, pages_of_all, rows, AreDistinct, IsNeat, HasHeader, IsSoundImage, Stroke, on_base, base_after, all_given, all_go, all_both}
 use Rattle.nb_model.proofs.Along.{Along, along_append, along_more, along_end, put_along}
 use Rattle.nb_model.proofs.DraftJoin.{Joins, joined, join_none, join_then, join_set_bit}
 use Rattle.nb_model.proofs.DraftLaws.{IsOf, drafted_is, drafts_are, set_bit_keeps}
@@ -10,7 +10,7 @@ use Rattle.nb_model.proofs.HeldChains.{nothing_changes, these_stay}
 use Rattle.nb_model.proofs.HeldLaws.{IsHeld, held_bit}
 use Rattle.nb_model.proofs.NeatDrops.{has_name, left_each, left_other, each_pages, gone as not_there, table_gone, pages_left, fronted}
 use Rattle.nb_model.proofs.NeatGrows.{apart_front}
-use Rattle.nb_model.proofs.NeatLaws.{all_go, all_both, pages_first, distinct_right, pages_among, chain_held, once_table, table_found, IsFoundTable, chains_are, same_table, stays_neat, other_rows}
+use Rattle.nb_model.proofs.NeatLaws.{pages_first, distinct_right, pages_among, chain_held, once_table, table_found, IsFoundTable, chains_are, same_table, stays_neat, other_rows}
 use Rattle.nb_model.proofs.NoRows.{HasNoRows}
 use Rattle.nb_model.proofs.PutSound.{header_whole}
 use Rattle.nb_model.proofs.RowSlots.{free_not_used, free_is_slot}

@@ -1,13 +1,13 @@
 -- Statements on raw pages and on a byte of the header change no row of a table.
 use Rattle.std.proofs.Common.{◌≡◌, ◌≢◌, ℕ, ◌+◌, ◌/◌, ◌<◌, ◌≤◌, List, [], length, refl, sym, ap, ◌∙◌, arith, Bool, Some, None}
-use Rattle.nb_model.proofs.Common.{AllByRecursion, true≢false, kind_of, text_payload, bits_in, is_inventory_place, data_kind, raw_kind, PageNew, Write, Free, Forced, Access, Base, Cause, not_raw, Catalogue, History, found_pages, Draft, drafted, put, new_page, Page, Image, page_at, image_size, Seen, Outcome, unless, changes, new_turn, write_turn, free_turn, forced_turn, access_turn, byte_strokes, KeepsRows, chains, pages_of_all, rows, IsNeat, HasHeader, IsSoundImage, Stroke, on_base, first_turn}
+use Rattle.nb_model.proofs.Common.{AllByRecursion, true≢false, kind_of, text_payload, bits_in, is_inventory_place, data_kind, raw_kind, PageNew, Write, Free, Forced, Access, Base, Cause, not_raw, Catalogue, History, found_pages, Draft, drafted, put, new_page, Page, Image, page_at, image_size, Seen, Outcome, unless, changes, new_turn, write_turn, free_turn, forced_turn, access_turn, byte_strokes, KeepsRows, chains, pages_of_all, rows, IsNeat, HasHeader, IsSoundImage, Stroke, on_base, first_turn, all_go}
 use Rattle.nb_model.proofs.Along.{Along, along_front, along_more}
 use Rattle.nb_model.proofs.FitLaws.{IsWhole, AreFitting}
 use Rattle.nb_model.proofs.HeadSound.{byte_fits}
 use Rattle.nb_model.proofs.HeldAlong.{put_held_along, bit_held_along, new_held_along, these_along, longer_along, both_along}
 use Rattle.nb_model.proofs.HeldChains.{IsHeldIn, chains_held, chain_each, these_stay}
 use Rattle.nb_model.proofs.HeldLaws.{IsHeld, held_write}
-use Rattle.nb_model.proofs.NeatLaws.{all_go, stays_neat, other_rows}
+use Rattle.nb_model.proofs.NeatLaws.{stays_neat, other_rows}
 use Rattle.nb_model.proofs.NewSound.{empty_text}
 use Rattle.nb_model.proofs.NoRows.{HasNoRows}
 use Rattle.nb_model.proofs.PagesFit.{pages_fit}

@@ -1,16 +1,7 @@
 -- One slot among the slots of a chain is written: which rows there are then, and that no key stands twice.
 use Rattle.std.proofs.Common.{◌≡◌, ◌≢◌, ◌⊎◌, inl, inr, ℕ, List, [], ◌∷◌, map, refl, sym, ap, subst, ◌∙◌, arith, Bool, true, false, ◌&&◌, ◌==◌, nat_eq, slice_index, Option, Some, None, option_map}
-use Rattle.nb_model.proofs.Common.{AllByRecursion, true≢false, and_parts, and_left, and_right, eqb-true, ne_eqb, eqb_tells, Spot, is_used, key_of, text_in, first_such, free_spot, row_spot, with_row, without_row, row_at, rows_in, some_same, some_none}
+use Rattle.nb_model.proofs.Common.{AllByRecursion, true≢false, and_parts, and_left, and_right, eqb-true, ne_eqb, eqb_tells, Spot, is_used, key_of, text_in, first_such, free_spot, row_spot, with_row, without_row, row_at, rows_in, some_same, some_none, all_go, all_both}
 use Rattle.nb_model.proofs.RowMaps.{with_rising, without_rising, rows_rise, with_here, with_there, without_here, without_there, same_maps, rows_at}
-
--- what holds of each
-pub all_spots : (P R : Spot → Type 0) (xs : List Spot) → ((s : Spot) → P s → R s) → AllByRecursion P xs → AllByRecursion R xs
-all_spots P R [] goes all = tt
-all_spots P R (x ∷ xs) goes all = (goes x all.0, all_spots P R xs goes all.1)
-
-pub both_spots : (P R : Spot → Type 0) (xs : List Spot) → AllByRecursion P xs → AllByRecursion R xs → AllByRecursion (λ s. P s × R s) xs
-both_spots P R [] a b = tt
-both_spots P R (x ∷ xs) a b = ((a.0, b.0), both_spots P R xs a.1 b.1)
 
 -- The first that passes a test.
 abbrev picked : Bool → Spot → Option Spot → Option Spot
@@ -115,8 +106,8 @@ module _ (f : Spot → Spot) (s : Spot) (key : ℕ) (xs : List Spot) (all : AllB
     ]
       where
         passes : AllByRecursion (λ u. other u ≡ false → has_key key (f u) ≡ false) xs
-        passes = all_spots (λ u. ChangesOne f s u × (other u ≡ false → has_key key u ≡ false)) (λ u. other u ≡ false → has_key key (f u) ≡ false) xs
-            (λ u facts fails. by_change u facts.0 fails (facts.1 fails)) (both_spots (ChangesOne f s) (λ u. other u ≡ false → has_key key u ≡ false) xs all before)
+        passes = all_go {X = Spot} (λ u. ChangesOne f s u × (other u ≡ false → has_key key u ≡ false)) (λ u. other u ≡ false → has_key key (f u) ≡ false) xs
+            (λ u facts fails. by_change u facts.0 fails (facts.1 fails)) (all_both {X = Spot} (ChangesOne f s) (λ u. other u ≡ false → has_key key u ≡ false) xs all before)
           where
             by_change : (u : Spot) → ChangesOne f s u → other u ≡ false → has_key key u ≡ false → has_key key (f u) ≡ false
             by_change u (inl same) fails none = ap (has_key key) same ∙ none
@@ -136,7 +127,7 @@ module _ (f : Spot → Spot) (s : Spot) (key : ℕ) (xs : List Spot) (all : AllB
 
     pub inserted_rows : free_spot xs ≡ Some s → row_spot key xs ≡ None → rows_in (map f xs) ≡ with_row key (text_in (f s).bytes) (rows_in xs)
     unfolding free_spot row_spot
-    inserted_rows found none = written_rows is_free_slot found (all_spots (λ u. has_key key u ≡ false) (λ u. is_free_slot u ≡ false → has_key key u ≡ false) xs (λ u e used. e) (none_such (has_key key) xs none))
+    inserted_rows found none = written_rows is_free_slot found (all_go {X = Spot} (λ u. has_key key u ≡ false) (λ u. is_free_slot u ≡ false → has_key key u ≡ false) xs (λ u e used. e) (none_such (has_key key) xs none))
         (λ k ne. unused_key k s (free_unused s (such_passes is_free_slot xs s found)))
 
   -- A row is taken out of the slot, where no other has its key.
@@ -156,7 +147,7 @@ module _ (f : Spot → Spot) (s : Spot) (key : ℕ) (xs : List Spot) (all : AllB
       each k = elim (eqb_tells k key) [
         | inl w ↦
             ap (λ (n : ℕ). row_at n (rows_in (map f xs))) w.1 ∙ rows_at key (map f xs)
-            ∙ ap (option_map (λ (u : Spot). text_in u.bytes)) (none_found f s (has_key key) xs (all_spots (λ u. ChangesOne f s u × (has_key key u ≡ true → u ≡ s)) (λ u. has_key key (f u) ≡ false) xs (λ u facts. gone u facts.0 facts.1) (both_spots (ChangesOne f s) (λ u. has_key key u ≡ true → u ≡ s) xs all once)))
+            ∙ ap (option_map (λ (u : Spot). text_in u.bytes)) (none_found f s (has_key key) xs (all_go {X = Spot} (λ u. ChangesOne f s u × (has_key key u ≡ true → u ≡ s)) (λ u. has_key key (f u) ≡ false) xs (λ u facts. gone u facts.0 facts.1) (all_both {X = Spot} (ChangesOne f s) (λ u. has_key key u ≡ true → u ≡ s) xs all once)))
             ∙ sym (without_here key (rows_in xs)) ∙ ap (λ (n : ℕ). row_at n (without_row key (rows_in xs))) (sym w.1)
         | inr w ↦
             rows_at k (map f xs)

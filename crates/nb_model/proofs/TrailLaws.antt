@@ -1,6 +1,6 @@
 -- Laws of trails: what a crash may leave of one that is settled, and that writes that are synced keep it settled.
 use Rattle.std.proofs.Common.{◌≡◌, ℕ, zero, suc, ◌≤◌, List, [], ◌∷◌, ◌++◌, length, take, refl, sym, ap, subst, ◌∙◌, set, arith, Bool, true, false, ◌||◌, ◌==◌, nat_le, nat_lt, Ok}
-use Rattle.nb_model.proofs.Common.{AllByRecursion, true≢false, append-nil, number_of, number_in, File, Files, Page, Image, is_forced, with_page, Base, owner, Stroke, make, page, begin, ends, finish, fix, merge, on_base, base_after, Trail, settled, bases_of, settles_at, after_stroke, after_strokes, AreSynced, IsBehindFirst, IsLeft, IsFirm, StandsOn, StandsIn, ShowsIn, Contains-push}
+use Rattle.nb_model.proofs.Common.{AllByRecursion, true≢false, append-nil, number_of, number_in, File, Files, Page, Image, is_forced, with_page, Base, owner, Stroke, make, page, begin, ends, finish, fix, merge, on_base, base_after, Trail, settled, bases_of, settles_at, after_stroke, after_strokes, AreSynced, IsBehindFirst, IsLeft, IsFirm, StandsOn, StandsIn, ShowsIn, Contains-push, or_true}
 use Rattle.nb_model.proofs.StrokeLaws.{whole_page, stroke_page}
 use Rattle.nb_model.proofs.CoveredLaws.{firm_left}
 
@@ -70,11 +70,7 @@ forced_settles b p bytes forced = ap (λ (u : Bool). u || (p == 0 || nat_le (len
 -- page 0
 pub first_settles : (b : Base) (bytes : Page) → settles_at (settled b) (page 0 bytes) ≡ true
 unfolding settles_at
-first_settles b bytes = by (is_forced b.image)
-  where
-    by : (x : Bool) → (x || true) ≡ true
-    by true = refl
-    by false = refl
+first_settles b bytes = or_true (is_forced b.image)
 
 -- A write of a page that isn't page 0 keeps forced writes on.
 forced_stays : (p : ℕ) (bytes : Page) (image : Image) → 1 ≤ p → is_forced image ≡ true → is_forced (with_page p bytes image) ≡ true

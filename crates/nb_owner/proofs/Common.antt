@@ -23,7 +23,7 @@ pub use Rattle.nb_fields.specs.Header.{size_of, state_of}
 unfoldable pub use Rattle.nb_fields.specs.Places.{is_scn_place}
 pub use Rattle.nb_fields.specs.Places.{most_pages}
 pub use Rattle.nb_fields.specs.States.{merge_state, normal_state, stalled_state}
-pub use Rattle.nb_host.proofs.PlainLaws.{both_true, eq_other, eq_self, none_some, none_there, not_true, some_same}
+pub use Rattle.nb_host.proofs.PlainLaws.{both_true, eq_other, eq_self, none_some, none_there, not_there, not_true, some_same}
 pub use Rattle.nb_host.specs.Files.{Files}
 pub use Rattle.nb_host.specs.Moments.{IsTimely}
 pub use Rattle.nb_host.specs.World.{World}

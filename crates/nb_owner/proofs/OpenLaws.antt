@@ -276,10 +276,6 @@ pub found_slot : (o : Option Slot) (into old : List ℕ) → is_some o ≡ true 
 found_slot None into old is filled = cc
 found_slot (Some slot) into old is filled = (slot, refl, filled)
 
-pub missed_slot : (o : Option Slot) → is_some o ≡ false → o ≡ None
-missed_slot None is = refl
-missed_slot (Some slot) is = cc
-
 -- it is that page of the image
 pub found_page : (image : Image) (pages : Pages) (p : ℕ) (slot : Slot) → slot_of pages p ≡ Some slot → AreOf image pages → slot.bytes ≡ page_at image p
 found_page image pages p slot there all = All-found p pages slot there (λ e. e.1.bytes ≡ page_at image e.0) all

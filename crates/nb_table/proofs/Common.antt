@@ -23,7 +23,7 @@ pub use Rattle.nb_fields.specs.Bytes.{part, with_part}
 pub use Rattle.nb_fields.specs.Kinds.{data_kind, header_kind, inventory_kind, scn_kind}
 unfoldable pub use Rattle.nb_fields.specs.Places.{is_scn_place}
 pub use Rattle.nb_fields.specs.Places.{is_page_size, most_pages}
-pub use Rattle.nb_host.proofs.PlainLaws.{append_none, err_ok, false_true, le_yes, none_some, some_none, some_same}
+pub use Rattle.nb_host.proofs.PlainLaws.{all_both, all_go, append_none, err_ok, false_true, le_yes, none_some, some_none, some_same}
 pub use Rattle.nb_host.specs.World.{World}
 pub use Rattle.nb_host.specs.declared.faults.Fault.{Fault}
 pub use Rattle.nb_host.specs.declared.refusals.Refusal.{Refusal}
@@ -32,7 +32,6 @@ pub use Rattle.nb_model.proofs.ChainWalks.{IsWalk, StaysLinked, linked_same, ok_
 pub use Rattle.nb_model.proofs.DraftLaws.{IsOf, drafted_is, drafts_are, new_keeps, put_keeps, set_bit_keeps}
 pub use Rattle.nb_model.proofs.DropTurns.{given_none, join_given}
 pub use Rattle.nb_model.proofs.LeakTurns.{given_first}
-pub use Rattle.nb_model.proofs.NeatLaws.{all_both, all_go}
 pub use Rattle.nb_model.proofs.PutSound.{no_first}
 pub use Rattle.nb_model.proofs.ReadLaws.{eq_no, eq_yes, le_no, lt_no, lt_yes}
 pub use Rattle.nb_model.proofs.RoomLaws.{chain_owner, first_found, in_chain, pages_found}
