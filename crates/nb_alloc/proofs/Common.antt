@@ -13,7 +13,7 @@ pub use Rattle.nb_base.proofs.AttachLaws.{applies, first_here, first_next}
 pub use Rattle.nb_base.specs.Takes.{IsNoRefusal, Strikes, after_strokes}
 pub use Rattle.nb_change.proofs.FaultLaws.{counts_passed, memory_wanted, none_wanted}
 pub use Rattle.nb_change.proofs.ReachedLaws.{after_all-joined, strokes_composed}
-pub use Rattle.nb_change.proofs.ResultLaws.{on_ok, passed_on}
+pub use Rattle.nb_change.proofs.ResultLaws.{passed_on}
 pub use Rattle.nb_fields.proofs.NumberLaws.{length-bytes_of}
 pub use Rattle.nb_fields.proofs.PageLaws.{filled, padded_whole}
 pub use Rattle.nb_fields.proofs.PartLaws.{length-part, length-with_part, number_in-take, number_in-with_part_other, put_mid-with_part}
@@ -30,7 +30,7 @@ unfoldable pub use Rattle.nb_fields.specs.Payloads.{data_payload, inventory_payl
 pub use Rattle.nb_fields.specs.Payloads.{bit_of, entry_of, text_length, text_of}
 unfoldable pub use Rattle.nb_fields.specs.Places.{is_inventory_place, is_scn_place, is_system_place}
 pub use Rattle.nb_fields.specs.Places.{bits_in, entries_in, inventory_place, is_page_size, most_pages, scn_place}
-pub use Rattle.nb_host.proofs.PlainLaws.{append_none, cons_nil, le_yes, never, none_some, none_there, or_false, or_true, some_none, some_same}
+pub use Rattle.nb_host.proofs.PlainLaws.{append_none, cons_nil, le_yes, never, none_some, none_there, on_ok, or_false, or_true, some_none, some_same}
 pub use Rattle.nb_host.specs.Faults.{as_answer, as_fault}
 pub use Rattle.nb_host.specs.World.{World}
 pub use Rattle.nb_host.specs.declared.faults.Fault.{Fault}
@@ -50,7 +50,7 @@ pub use Rattle.nb_model.proofs.SearchLaws.{Met, clear_cause, draft_cause, joined
 pub use Rattle.nb_model.proofs.SoundLaws.{inventory_place_some, inventory_there, scn_page_there, with_page_length}
 pub use Rattle.nb_model.proofs.StepLaws.{IsClear, IsPutOn, IsReady, IsShaped, IsVisited, Visits, kind_moves, kind_parts, map_entry_before, plain_unkept, plain_visits, put_on, scn_page_moves, system_visits}
 pub use Rattle.nb_model.proofs.StrokeLaws.{base_after-append, stroke_other, stroke_page}
-pub use Rattle.nb_model.proofs.TurnCases.{is_so, no_cause}
+pub use Rattle.nb_model.proofs.TurnCases.{is_so, no_cause, one_cause}
 pub use Rattle.nb_model.proofs.WholeLaws.{when_false}
 pub use Rattle.nb_model.specs.Account.{Base}
 unfoldable pub use Rattle.nb_model.specs.Causes.{first_cause, lowest_broken, not_raw}

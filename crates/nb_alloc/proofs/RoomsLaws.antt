@@ -1,8 +1,8 @@
 -- The tests before new pages, and what is written after them.
 use Rattle.std.proofs.Common.{◌≡◌, ℕ, ◌+◌, ◌*◌, ◌<◌, ◌≤◌, List, [], ◌∷◌, ◌++◌, length, refl, sym, ap, subst, ◌∙◌, arith, drop, Bool, true, false, not, ◌||◌, nat_lt, min, Some, None, Result, Ok, Err, IfOk, OnOk, IsErr, IsErrAnd}
-use Rattle.nb_alloc.proofs.Common.{append-nil, bytes_of, with_part, data_payload, most_pages, data_kind, scn_kind, Fault, Refused, Device, Memory, Refusal, NotDatabase, Full, passed_on, Image, page_at, image_scn, Draft, drafted, is_kind, other_kind, needs, wants, has_entry, scn_page_of, scn_entry, raised, entry_raised, entry_written, put, written, wrote, new_page, Cause, first_cause, when, lowest_of, lowest_broken, too_short, not_of_form, no_room, Chain, Slot, owner_of, last_of, put_slot, grown, joined, joined_new, join_new, draft_cause, joined_cause, IsClear, Tested, WhereEnded, where_ended, Behind, judged, entry_broken, behind_cause, page_if, IsKnown, Judges, EndsAlike, new_behind, second_data, unmade, unmade_behind, entry_cause, new_of, IsShort, Finds, EndsBy, lt_no, lt_yes, applies, first_here, first_next, append_none, when_false, none_some, some_none, or_parts}
+use Rattle.nb_alloc.proofs.Common.{append-nil, bytes_of, with_part, data_payload, most_pages, data_kind, scn_kind, Fault, Refused, Device, Memory, Refusal, NotDatabase, Full, passed_on, Image, page_at, image_scn, Draft, drafted, is_kind, other_kind, needs, wants, has_entry, scn_page_of, scn_entry, raised, entry_raised, entry_written, put, written, wrote, new_page, Cause, first_cause, when, lowest_of, lowest_broken, too_short, not_of_form, no_room, Chain, Slot, owner_of, last_of, put_slot, grown, joined, joined_new, join_new, draft_cause, joined_cause, IsClear, Tested, WhereEnded, where_ended, Behind, judged, entry_broken, behind_cause, page_if, IsKnown, Judges, EndsAlike, new_behind, second_data, unmade, unmade_behind, entry_cause, new_of, IsShort, Finds, EndsBy, lt_no, lt_yes, applies, first_here, first_next, append_none, when_false, none_some, some_none, or_parts, one_cause}
 use Rattle.nb_alloc.proofs.BehindLaws.{other_page, lowest_min}
-use Rattle.nb_alloc.proofs.CauseLaws.{one_cause, none_behind}
+use Rattle.nb_alloc.proofs.CauseLaws.{none_behind}
 use Rattle.nb_alloc.proofs.FullLaws.{put_full}
 use Rattle.nb_alloc.proofs.PutLaws.{no_entry_cause, entry_cause-is}
 use Rattle.nb_model.proofs.RoomThere.{other_met}

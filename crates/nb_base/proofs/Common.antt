@@ -20,7 +20,7 @@ pub use Rattle.nb_change.proofs.ChangesLaws.{all_before, begun, composed, compos
 pub use Rattle.nb_change.proofs.MomentLaws.{left_before, untouched_fewer}
 pub use Rattle.nb_change.proofs.NameLaws.{whole-other, with_file-other, with_file-same}
 pub use Rattle.nb_change.proofs.ReachedLaws.{reached_weaker, strokes_composed}
-pub use Rattle.nb_change.proofs.ResultLaws.{on_ok, whole_on_ok}
+pub use Rattle.nb_change.proofs.ResultLaws.{whole_on_ok}
 pub use Rattle.nb_change.proofs.SettledLaws.{durable_is, durable_still}
 pub use Rattle.nb_change.specs.Changes.{Changes, Moved, Names, Only, Reached, Remade}
 pub use Rattle.nb_change.specs.Gave.{GaveNothing}
@@ -41,9 +41,9 @@ unfoldable pub use Rattle.nb_fields.specs.Places.{is_scn_place}
 pub use Rattle.nb_fields.specs.Places.{is_page_size, most_pages, slots_in}
 pub use Rattle.nb_fields.specs.States.{applying_state, merge_state, normal_state, stalled_state}
 unfoldable pub use Rattle.nb_fields.specs.Table.{page_in, slot_place, table_of}
-pub use Rattle.nb_host.proofs.FileLaws.{device_memory}
+pub use Rattle.nb_host.proofs.FileLaws.{IsLong, device_memory, long_file}
 pub use Rattle.nb_host.proofs.NameLaws.{with_file-named}
-pub use Rattle.nb_host.proofs.PlainLaws.{err_ok, false_true, le_yes, nil_cons, no_err, none_some, none_there, not_le, ok_equal, ok_same, some_none, some_same}
+pub use Rattle.nb_host.proofs.PlainLaws.{err_ok, false_true, le_yes, nil_cons, no_err, none_some, none_there, not_le, ok_equal, ok_same, on_ok, some_none, some_same}
 pub use Rattle.nb_host.specs.Calls.{IsSilent, IsStill, ReadsBytes, ReadsPage, Remakes, Syncs, WholeOrNot, WritesPage}
 pub use Rattle.nb_host.specs.Crash.{IsDurable, Leaves, LeavesAll, PageLeft, Untouched}
 unfoldable pub use Rattle.nb_host.specs.Files.{padded, put_at, with_file}

@@ -1,5 +1,5 @@
 -- The definitions that the proofs of this crate speak in, and the laws of other crates that they cite, passed on from one place. Declares nothing.
-pub use Rattle.nb_alloc.proofs.CauseLaws.{one_cause, told_some, unless_allowed, unless_refused}
+pub use Rattle.nb_alloc.proofs.CauseLaws.{told_some, unless_allowed, unless_refused}
 pub use Rattle.nb_alloc.proofs.DoesLaws.{sure_of, tested_on, tries_after, tries_opened, tries_passed, unless_some}
 pub use Rattle.nb_alloc.proofs.PutLaws.{other-with}
 pub use Rattle.nb_alloc.proofs.RaiseLaws.{entry-is, scn_page-is}
@@ -15,7 +15,7 @@ pub use Rattle.nb_change.proofs.MomentLaws.{left_before}
 pub use Rattle.nb_change.proofs.MovedLaws.{remade_begun, remade_weaker}
 pub use Rattle.nb_change.proofs.NameLaws.{with_file-other, with_file-same}
 pub use Rattle.nb_change.proofs.ReachedLaws.{after_all-joined, reached_back, reached_first, reached_front}
-pub use Rattle.nb_change.proofs.ResultLaws.{on_ok, passed_on}
+pub use Rattle.nb_change.proofs.ResultLaws.{passed_on}
 pub use Rattle.nb_change.specs.Changes.{Changes, Names, Only, Other, Reached, Remade}
 pub use Rattle.nb_change.specs.Gave.{GaveNothing}
 pub use Rattle.nb_copy.specs.Closing.{BackupTurn, CloseLeft, Closes, GaveTimeAtMost, OfBackup}
@@ -53,7 +53,7 @@ pub use Rattle.nb_gather.proofs.TouchLaws.{touches_named, touches_page, touches_
 pub use Rattle.nb_gather.specs.Gathering.{HasTaken, IsHeaded, LevelWriting, MayHave}
 pub use Rattle.nb_gather.specs.Making.{IsBlank, IsEmpty, IsFreeOr, IsKept, IsMade, IsUnfinished, IsUnfinishedOr}
 pub use Rattle.nb_host.proofs.NameLaws.{with_file-named}
-pub use Rattle.nb_host.proofs.PlainLaws.{all_front, far_behind, lt_holds, none_some, true_or_false}
+pub use Rattle.nb_host.proofs.PlainLaws.{all_front, far_behind, lt_holds, none_some, on_ok, true_or_false}
 pub use Rattle.nb_host.specs.Calls.{IsStill, Remakes, Syncs, WritesPage}
 pub use Rattle.nb_host.specs.Crash.{IsDurable, Leaves, LeavesAll, PageLeft}
 unfoldable pub use Rattle.nb_host.specs.Files.{padded, put_at, with_file}
@@ -74,7 +74,7 @@ pub use Rattle.nb_model.proofs.MainLaws.{IsLaid, some_page}
 pub use Rattle.nb_model.proofs.PutSound.{needs_image, no_first}
 pub use Rattle.nb_model.proofs.RoomThere.{taken_keeps}
 pub use Rattle.nb_model.proofs.SoundLaws.{inventory_place_some, kind_of_header, scn_place_of}
-pub use Rattle.nb_model.proofs.TurnCases.{no_cause}
+pub use Rattle.nb_model.proofs.TurnCases.{no_cause, one_cause}
 pub use Rattle.nb_model.specs.Account.{Ask, Base}
 unfoldable pub use Rattle.nb_model.specs.Backups.{ask_of, backup_turn, close_backup, copy_turn, level_behind, needs_taken, room_in, since_turn, starts}
 pub use Rattle.nb_model.specs.Backups.{Room}

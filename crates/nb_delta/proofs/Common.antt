@@ -3,7 +3,7 @@ pub use Rattle.nb_change.proofs.CallLaws.{page_alone, page_others, remade_alone,
 pub use Rattle.nb_change.proofs.ChangesLaws.{begun, kept_on, still_more}
 pub use Rattle.nb_change.proofs.MovedLaws.{moved_begun, moved_joined, moved_weaker}
 pub use Rattle.nb_change.proofs.NameLaws.{with_file-same}
-pub use Rattle.nb_change.proofs.ResultLaws.{on_ok, whole_on_ok}
+pub use Rattle.nb_change.proofs.ResultLaws.{whole_on_ok}
 pub use Rattle.nb_change.proofs.SettledLaws.{durable_is}
 pub use Rattle.nb_change.specs.Changes.{Changes, Moved, NoNames, Only, Remade}
 pub use Rattle.nb_delta.specs.Entries.{AreEntries, IsIndex, place_of}
@@ -19,8 +19,8 @@ unfoldable pub use Rattle.nb_fields.specs.Bytes.{number_in, number_of}
 pub use Rattle.nb_fields.specs.Bytes.{AreApart, part}
 pub use Rattle.nb_fields.specs.Places.{is_page_size, most_pages, slots_in}
 unfoldable pub use Rattle.nb_fields.specs.Table.{alloc_place, entries_from, groups_from, page_in, slot_place, table_of}
-pub use Rattle.nb_host.proofs.FileLaws.{length-front}
-pub use Rattle.nb_host.proofs.PlainLaws.{all_parts, err_ok, false_true, none_some, some_none}
+pub use Rattle.nb_host.proofs.FileLaws.{IsLong, length-front, long_file}
+pub use Rattle.nb_host.proofs.PlainLaws.{all_parts, err_ok, false_true, none_some, on_ok, some_none}
 pub use Rattle.nb_host.specs.Calls.{IsSilent, ReadsBytes, ReadsPage, Remakes, WritesPage}
 pub use Rattle.nb_host.specs.Crash.{IsDurable, LeavesAll, PageLeft}
 unfoldable pub use Rattle.nb_host.specs.Files.{padded, put_at, with_file}

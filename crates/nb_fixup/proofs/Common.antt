@@ -6,7 +6,7 @@ pub use Rattle.nb_fields.specs.Header.{guid_of, size_of, state_of}
 pub use Rattle.nb_fields.specs.Places.{is_page_size, most_pages}
 pub use Rattle.nb_fixup.specs.Fixup.{FixAnswers, FixLeft, Fixes, IsFixable, IsFixed, fixed_bytes, fixup_cause}
 pub use Rattle.nb_fixup.specs.Tests.{IsPageOf, Tested, copy_cause, file_cause}
-pub use Rattle.nb_host.proofs.FileLaws.{passed}
+pub use Rattle.nb_host.proofs.FileLaws.{IsLong, long_file, passed}
 pub use Rattle.nb_host.proofs.PlainLaws.{some_none}
 pub use Rattle.nb_host.specs.Crash.{Leaves, LeavesAll, PageLeft}
 unfoldable pub use Rattle.nb_host.specs.Files.{padded, put_at}

@@ -1,7 +1,7 @@
 -- The bytes of a file: with zeros after them, and so many as its length says.
-use Rattle.std.proofs.Common.{◌≡◌, ℕ, ◌+◌, ◌-◌, ◌≤◌, List, ◌++◌, length, ◌∙◌, ap, arith, replicate, take, length-append, length-take, sym, subst, Result, Ok, Err, IsErr, IsErrAnd}
+use Rattle.std.proofs.Common.{◌≡◌, ℕ, ◌+◌, ◌-◌, ◌≤◌, List, ◌++◌, length, ◌∙◌, ap, arith, replicate, take, length-append, length-take, sym, subst, Result, Ok, Err, IsErr, IsErrAnd, refl, Some, None, Option, option_map}
 use Rattle.std.proofs.lemmas.List.{append-nil, length-replicate}
-use Rattle.nb_host.specs.Files.{padded}
+use Rattle.nb_host.specs.Files.{padded, File}
 use Rattle.nb_host.specs.declared.faults.Fault.{Fault}
 use Rattle.nb_host.specs.declared.faults.Fault.TheVariants.{Device, Memory}
 
@@ -21,3 +21,16 @@ passed T P (Err e) fault is here = subst (λ (f : Fault). P (Err f)) (sym is.1) 
 -- the device isn't memory
 pub device_memory : Device ≡ Memory → ⊥
 device_memory h = cc
+
+-- a file that has a length has so many bytes
+pub record IsLong (file : File) (size : ℕ) : Type 0 where
+  pub bytes : List ℕ
+  pub is : file ≡ Some bytes
+  pub long : length bytes ≡ size
+
+pub long_file : (file : File) (size : Option ℕ) (long : ℕ) → size ≡ option_map length file → size ≡ Some long → IsLong file long
+long_file (Some bytes) size long told is = record { bytes = bytes; is = refl; long = cc }
+long_file None size long told is = absurd (none_some long (sym told ∙ is))
+  where
+    none_some : (n : ℕ) → option_map (length {A = ℕ}) None ≡ Some n → ⊥
+    none_some n e = cc

@@ -17,10 +17,10 @@ pub use Rattle.nb_fields.specs.Header.{guid_of, is_sound, pending_of, scn_of, si
 pub use Rattle.nb_fields.specs.Page.{stamp_of}
 pub use Rattle.nb_fields.specs.Places.{is_page_size, most_pages}
 pub use Rattle.nb_fields.specs.States.{applying_state, merge_state, normal_state, stalled_state}
-pub use Rattle.nb_fixup.proofs.AnswerLaws.{IsLong, long_file, refused, tested_by}
+pub use Rattle.nb_fixup.proofs.AnswerLaws.{refused, tested_by}
 pub use Rattle.nb_fixup.proofs.CauseLaws.{fits, no_page, parted, too_few, too_many}
 pub use Rattle.nb_fixup.specs.Tests.{Tested}
-pub use Rattle.nb_host.proofs.FileLaws.{passed}
+pub use Rattle.nb_host.proofs.FileLaws.{IsLong, long_file, passed}
 pub use Rattle.nb_host.proofs.NameLaws.{same_other, same_self, with_file-named}
 pub use Rattle.nb_host.proofs.PlainLaws.{err_not_ok, head_same, none_some, not_false, ok_same, some_none, some_same}
 pub use Rattle.nb_host.specs.Calls.{IsStill, ReadsPage, WritesPage}
@@ -51,9 +51,10 @@ unfoldable pub use Rattle.nb_level.specs.Reading.{still_to_come}
 pub use Rattle.nb_level.specs.Reading.{Reading}
 pub use Rattle.nb_level.specs.declared.head.LevelHead.{LevelHead}
 pub use Rattle.nb_model.proofs.FormLaws.{Formed, formed, no_cause, unheaded}
+pub use Rattle.nb_model.proofs.FrontLaws.{plain_base}
 pub use Rattle.nb_model.proofs.HeadSound.{all_zeros}
 pub use Rattle.nb_model.proofs.HeaderLaws.{form, header-long, header-other, header-room, header-scn, header-size, header-state, same-header, same-number}
-pub use Rattle.nb_model.proofs.ImageLaws.{AreZeros, Trimming, all-append, all-drop, all-replicate, all-right, all-take, drop-joined, joined-append, joined-zeros, length-joined, page-joined, take-joined, trimmed-append_zeros, trimmed-before, trimmed-no_zeros, trimmed-other, trimming, zeros-are}
+pub use Rattle.nb_model.proofs.ImageLaws.{AreZeros, Trimming, all-append, all-drop, all-replicate, all-right, all-take, drop-joined, first_and_rest, joined-append, joined-zeros, length-joined, page-joined, take-joined, trimmed-append_zeros, trimmed-before, trimmed-no_zeros, trimmed-other, trimming, zeros-are}
 pub use Rattle.nb_model.proofs.MainLaws.{IsLaid, image_in-is, laid, laid-front, laid-wide, main_laid, owner-formed, owner_main, some_page}
 pub use Rattle.nb_model.proofs.OwnerLaws.{main_here, main_past, other_page}
 pub use Rattle.nb_model.proofs.PutLaws.{put-first}

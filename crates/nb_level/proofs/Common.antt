@@ -12,6 +12,7 @@ unfoldable pub use Rattle.nb_level.specs.Reading.{end_step, head_fault, read_res
 pub use Rattle.nb_level.specs.Reading.{IsBegun, Reading, Step}
 pub use Rattle.nb_model.proofs.LevelWalk.{FirstIsZero, good, none_clear, not_long, not_same, runs_are, singles_are, zero_tells}
 pub use Rattle.nb_model.proofs.ReadLaws.{AreClear, end_tests, lt_no, lt_yes, run_tests, single_tests}
+pub use Rattle.nb_model.proofs.SpelledLaws.{rise_lower}
 pub use Rattle.nb_model.specs.Image.{Numbered}
 unfoldable pub use Rattle.nb_model.specs.Levels.{begins_level, first_fault, head_in, head_then, is_first_page, pages_in, read_end, read_level, read_pages, read_runs, read_singles}
 pub use Rattle.nb_model.specs.Levels.{AreOfSize, AreRising, Contents, Head, barred_after, behind, end_mark, ends_before, is_bad_number, level_signature, with_head}

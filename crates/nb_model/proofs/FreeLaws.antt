@@ -1,25 +1,20 @@
 -- The files go on to stand for the account where the file of one name becomes one whose name is free.
 use Rattle.std.proofs.Common.{◌≡◌, ◌≢◌, ◌⊎◌, inl, inr, ℕ, List, [], ◌∷◌, length, take, drop, replicate, refl, sym, ap, subst, ◌∙◌, arith, length-drop, length-take-le, true, false, ◌&&◌, ◌==◌, Some, None, Result, Ok, Err, IsTrue, is_some, Contains}
-use Rattle.nb_model.proofs.Common.{true≢false, and_parts, or_cases, eqb-true, is_zeros, is_unfinished, is_free_file, is_header, state_of, pending_of, is_header-take, applying_state, File, Files, is_delta, Refusal, Base, Kept, Entry, Missing, Plain, IsBase, Account, with_entry, Contents, begins_level, read_level, delta_name, owner, entry_of_files, entry_in, nil, IsKeptAs, HoldsItsRecord, is_applying, Stands, err_not_ok}
+use Rattle.nb_model.proofs.Common.{true≢false, and_parts, or_cases, eqb-true, is_zeros, is_unfinished, is_free_file, is_header, state_of, pending_of, is_header-take, applying_state, File, Files, is_delta, Refusal, Base, Kept, Entry, Plain, IsBase, Account, with_entry, Contents, begins_level, read_level, delta_name, owner, entry_of_files, entry_in, nil, IsKeptAs, HoldsItsRecord, is_applying, Stands, err_not_ok}
 use Rattle.nb_model.proofs.HeadSound.{all_zeros}
 use Rattle.nb_model.proofs.HeaderLaws.{header-long, header-other}
 use Rattle.nb_model.proofs.OpeningLaws.{opened_in_use}
 use Rattle.nb_model.proofs.StandsLaws.{not_level, header_no_level, StandsUnder, stands_with_both}
+use Rattle.nb_model.proofs.FrontLaws.{missing_base, plain_base}
 
 -- A file whose name may be taken isn't opened.
 free_closed : (name : List ℕ) (file delta : File) (b : Base) → is_free_file file ≡ true → entry_of_files name file delta ≡ IsBase b → ⊥
 unfolding entry_of_files
-free_closed name None delta b free e = missing e
-  where
-    missing : Missing delta ≡ IsBase b → ⊥
-    missing h = cc
+free_closed name None delta b free e = missing_base delta b e
 free_closed name (Some bytes) delta b free e = by (owner name (Some bytes) delta) refl e
   where
-    not_base : Plain bytes delta ≡ IsBase b → ⊥
-    not_base h = cc
-
     by : (answer : Result Base Refusal) → owner name (Some bytes) delta ≡ answer → elim answer as (λ z. Entry) [ Err refusal ↦ Plain bytes delta | Ok base ↦ IsBase base ] ≡ IsBase b → ⊥
-    by (Err r) is h = not_base h
+    by (Err r) is h = plain_base bytes delta b h
     by (Ok c) is h = true≢false (sym free ∙ opened_in_use name bytes delta c is)
 
 -- Such a file begins with zeros, or a restore was stopped.

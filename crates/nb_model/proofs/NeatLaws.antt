@@ -7,6 +7,10 @@ use Rattle.nb_model.proofs.SpotKeys.{keys_in}
 use Rattle.nb_model.proofs.SpotMaps.{such_passes}
 use Rattle.nb_model.proofs.TableCases.{chain_at}
 
+-- the catalogue is no history
+pub no_catalogue_history : Catalogue ≢ History
+no_catalogue_history e = cc
+
 -- no two lists with nothing twice share an element
 pub apart_lists : (xs ys : List ℕ) (q : ℕ) → AreDistinct (xs ++ ys) → Contains xs q → Contains ys q → ⊥
 apart_lists [] ys q distinct a b = none_in q a

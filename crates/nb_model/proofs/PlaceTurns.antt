@@ -10,7 +10,7 @@ use Rattle.nb_model.proofs.HeldLaws.{IsHeld}
 use Rattle.nb_model.proofs.Inserted.{Inserted, inserted_last, inserted_used, used_more, Among, used_nothing}
 use Rattle.nb_model.proofs.NeatDrops.{has_name}
 use Rattle.nb_model.proofs.NeatGrows.{GrowsChain}
-use Rattle.nb_model.proofs.NeatLaws.{pages_among, chain_apart, chains_are, same_pages, stays_neat, other_rows, rows_of_none, used_yes, used_not, ChangesChain}
+use Rattle.nb_model.proofs.NeatLaws.{pages_among, chain_apart, chains_are, same_pages, stays_neat, other_rows, rows_of_none, used_yes, used_not, ChangesChain, no_catalogue_history}
 use Rattle.nb_model.proofs.NeatMakes.{no_page, a_page, MakesTable, table_made}
 use Rattle.nb_model.proofs.NewSlots.{IsFree}
 use Rattle.nb_model.proofs.FoundSpots.{each_held, found_there}
@@ -114,9 +114,6 @@ module _ (c : Base) (header : HasHeader c.image) (is : IsSoundImage c.image) (ne
   not_of_catalogue : (q : ℕ) → Contains ps q → n ≢ q
   not_of_catalogue q at = absent_at n (pages_of_all z (chains z)) q apart (pages_among z (chains z) Catalogue q of_all at)
 
-  no_catalogue : Catalogue ≢ History
-  no_catalogue e = cc
-
   abbrev Gives : Image → Type 0
   Gives w = GivesRows z w table []
 
@@ -124,9 +121,9 @@ module _ (c : Base) (header : HasHeader c.image) (is : IsSoundImage c.image) (ne
   still w keeps less =
       let changes : ChangesChain History z w = nothing_changes z header is neat w less keeps in
       record {
-        neat = stays_neat z w neat History no_catalogue changes (λ first e. cc);
-        its = other_rows z w neat History no_catalogue changes table (λ u found e. cc) ∙ rows_of_none z table none;
-        others = λ other ne. other_rows z w neat History no_catalogue changes other (λ u found e. cc);
+        neat = stays_neat z w neat History no_catalogue_history changes (λ first e. cc);
+        its = other_rows z w neat History no_catalogue_history changes table (λ u found e. cc) ∙ rows_of_none z table none;
+        others = λ other ne. other_rows z w neat History no_catalogue_history changes other (λ u found e. cc);
       }
 
   -- its chain, wherever its page is held
@@ -265,9 +262,9 @@ module _ (c : Base) (header : HasHeader c.image) (is : IsSoundImage c.image) (ne
       where
         still_changes : (w : Image) → ChangesChain History z w → Gives w
         still_changes w changes = record {
-          neat = stays_neat z w neat History no_catalogue changes (λ first e. cc);
-          its = other_rows z w neat History no_catalogue changes table (λ u found e. cc) ∙ rows_of_none z table none;
-          others = λ other ne. other_rows z w neat History no_catalogue changes other (λ u found e. cc);
+          neat = stays_neat z w neat History no_catalogue_history changes (λ first e. cc);
+          its = other_rows z w neat History no_catalogue_history changes table (λ u found e. cc) ∙ rows_of_none z table none;
+          others = λ other ne. other_rows z w neat History no_catalogue_history changes other (λ u found e. cc);
         }
 
   -- Or the catalogue grows by a page.

@@ -1,5 +1,5 @@
 -- The definitions that the proofs of this crate speak in, and the laws of other crates that they cite, passed on from one place. Declares nothing.
-pub use Rattle.nb_alloc.proofs.CauseLaws.{first_front, first_rest, judged_by, one_cause, refused_by, unless_allowed, unless_refused}
+pub use Rattle.nb_alloc.proofs.CauseLaws.{first_front, first_rest, judged_by, refused_by, unless_allowed, unless_refused}
 pub use Rattle.nb_alloc.proofs.DataLaws.{owner_is}
 pub use Rattle.nb_alloc.proofs.DoesLaws.{makes_valued, refused_does, seeing, sure_of, tested_does, tested_on, tries_after, tries_does, tries_early, tries_front, tries_made, tries_opened, tries_other, tries_passed, tries_then, tries_valued, valued_does}
 pub use Rattle.nb_alloc.proofs.MakeLaws.{tries_named}
@@ -40,7 +40,7 @@ pub use Rattle.nb_model.proofs.SoundLaws.{all_at, kind_of_header, scn_place_befo
 pub use Rattle.nb_model.proofs.SpotMaps.{has_key, other_key, unused_key}
 pub use Rattle.nb_model.proofs.StepLaws.{IsShaped, Puts, kind_parts, put_on}
 pub use Rattle.nb_model.proofs.TableTurns.{name_short, table_length}
-pub use Rattle.nb_model.proofs.TurnCases.{is_so, no_cause}
+pub use Rattle.nb_model.proofs.TurnCases.{is_so, no_cause, one_cause}
 pub use Rattle.nb_model.proofs.WholeLaws.{when_false}
 unfoldable pub use Rattle.nb_model.specs.Causes.{first_cause, lowest_broken}
 pub use Rattle.nb_model.specs.Causes.{Cause, broken_at, lowest_of, no_room, not_kind, not_of_form, read_only, short_for, too_long, too_short, when}

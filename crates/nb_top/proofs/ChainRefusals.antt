@@ -1,6 +1,6 @@
 -- Files of a chain, of a fold or of a plan are never refused as words are that name no job.
 use Rattle.std.proofs.Common.{◌≡◌, ◌≢◌, ℕ, ◌+◌, List, [], ◌∷◌, length, true, false, ap, subst, Bool, ◌==◌, not, Option, None, Some, Result, Ok, Err}
-use Rattle.nb_top.proofs.Common.{is_header, signature, state_of, stalled_state, File, Files, same_name, Refusal, Usage, NoFile, BadLevel, ChainLevel, ChainGuid, ChainSize, ChainScn, Cause, first_cause, when, Contents, read_level, begins_level, Link, whole_link, level_link, is_bad_length, not_whole, first_link, not_behind, next_link, linked, next_links, verdict, chained, file_after, files_after, not_after, with_first, Retention, planned, IsOther, other_first, other_when, some_same, none_some}
+use Rattle.nb_top.proofs.Common.{is_header, signature, state_of, stalled_state, File, Files, same_name, Refusal, Usage, NoFile, BadLevel, ChainLevel, ChainGuid, ChainSize, ChainScn, Cause, first_cause, when, Contents, read_level, begins_level, Link, whole_link, level_link, is_bad_length, not_whole, first_link, not_behind, next_link, linked, next_links, verdict, chained, file_after, files_after, not_after, with_first, Retention, planned, IsOther, other_first, other_when, some_same, none_some, FileExists}
 use Rattle.nb_fields.specs.Bytes.{number_in}
 use Rattle.nb_fold.specs.Verdict.{with_files}
 use Rattle.nb_catalog.specs.Heads.{level_head, read_file, read_files, whole_head}
@@ -11,6 +11,9 @@ use Rattle.nb_level.specs.declared.head.LevelHead.{LevelHead}
 abbrev pub IsFine : {T : Type 0} → Result T Refusal → Type 0
 IsFine (Ok value) = Unit {0}
 IsFine (Err refusal) = refusal ≢ Usage
+
+pub exists_usage : (name : List ℕ) → FileExists name ≢ Usage
+exists_usage name h = cc
 
 pub some_other : (r : Refusal) → r ≢ Usage → IsOther (Some r)
 some_other r h e = h (some_same r Usage e)
