@@ -63,14 +63,14 @@ pub use Rattle.nb_model.proofs.HeadSound.{all_zeros}
 pub use Rattle.nb_model.proofs.HeaderLaws.{header-long, header-other, header-room, header-scn, header-size, header-state, same-header, same-number}
 pub use Rattle.nb_model.proofs.ImageLaws.{AreZeros, IsTrimmed, all-append, all-drop, all-left, all-replicate, all-right, all-take, joined-flat_map, length-joined, page-joined, trimmed-append_zeros, trimmed-before, trimmed-drop, trimmed-nothing, trimmed-over, trimmed-zeros, trimming}
 pub use Rattle.nb_model.proofs.MainLaws.{IsLaid, IsLaidOut, image_in-is, laid, laid-front, laid-wide, main_facts, owned-first, owned-front, owner-formed, owner-none, owner-refused, owner_in-normal, owner_main, some_page, trimmed_laid, whole_laid}
-pub use Rattle.nb_model.proofs.OverLaws.{owned_at, owned_length}
+pub use Rattle.nb_model.proofs.OverLaws.{owned-none, owned_at, owned_length}
 pub use Rattle.nb_model.proofs.OwnerLaws.{main_here, main_past, named, other_page, written_length}
 pub use Rattle.nb_model.proofs.PutLaws.{laid_grown, laid_put, put-first, put-joined, put-next, with_page-split}
 pub use Rattle.nb_model.proofs.SoundLaws.{all_at, with_page_length}
-pub use Rattle.nb_model.proofs.StrokeLaws.{with_page_other, with_page_same}
+pub use Rattle.nb_model.proofs.StrokeLaws.{stroke-frozen, stroke-diverted, stroke_page, with_page_other, with_page_same}
 pub use Rattle.nb_model.proofs.TrailLaws.{itself_firm, settles_after, trail_base, waits_after}
 pub use Rattle.nb_model.proofs.TrimLaws.{finish_base, trimmed_alike, trimmed_at, trimmed_front, trimmed_length, trimmed_page, trimmed_zeros}
-pub use Rattle.nb_model.proofs.WayLaws.{put_first, put_frozen, put_long, put_other, put_same, same_pages}
+pub use Rattle.nb_model.proofs.WayLaws.{put_first, put_long, put_other, put_same, same_pages}
 pub use Rattle.nb_model.specs.Account.{Ask, Base, base_of}
 pub use Rattle.nb_model.specs.Behind.{IsBehind, IsEntering, IsOnTheWay, IsRewritten}
 unfoldable pub use Rattle.nb_model.specs.Causes.{first_cause, not_database}

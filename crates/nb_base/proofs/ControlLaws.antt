@@ -1,10 +1,10 @@
 -- Page 0 with another control block: its fields, that the first 64 bytes decide it, and what is owned then.
 use Rattle.std.proofs.Common.{◌≡◌, ◌≢◌, inl, inr, ℕ, zero, suc, ◌+◌, ◌%◌, ◌^◌, ◌<◌, ◌≤◌, List, [], ◌∷◌, ◌++◌, length, take, drop, refl, sym, ap, ◌∙◌, arith, append_assoc, Bool, true, IsTrue, ◌&&◌, ◌||◌, ◌==◌, not, nat_lt, Option, Some, None, max}
-use Rattle.nb_base.proofs.Common.{eqb_tells, leb_tells, take-append-le, take_at, take-append-drop, length-take-le, number_in, with_part, is_header, is_sound, size_of, is_page_size, page_in, slot_place, length-with_part, number_in-take, stalled_state, Page, Image, page_at, first_page, controlled, with_control, entry_for, behind_entries, main_page, owned_page, owned, header-size, main_here, main_past, owned_length, owned_at, control_length, control_header, or_right, le_yes}
+use Rattle.nb_base.proofs.Common.{eqb_tells, leb_tells, take-append-le, take_at, take-append-drop, length-take-le, number_in, with_part, is_header, is_sound, size_of, is_page_size, page_in, slot_place, length-with_part, number_in-take, stalled_state, Page, Image, page_at, first_page, controlled, with_control, entry_for, behind_entries, main_page, owned_page, owned, header-size, main_here, main_past, owned_length, owned_at, control_length, control_header, or_right, le_yes, owned-none}
 use Rattle.nb_fields.specs.Bytes.{bytes_of}
 use Rattle.nb_fields.proofs.NumberLaws.{length-bytes_of}
 use Rattle.nb_model.specs.Owner.{slot_page}
-use Rattle.nb_base.proofs.OwnedLaws.{is_owned, owned-entry, owned-none}
+use Rattle.nb_base.proofs.OwnedLaws.{is_owned, owned-entry}
 
 -- a part within the front
 part_in_front : (at : ℕ) (x f r : List ℕ) → at + length x ≤ length f → with_part at x (f ++ r) ≡ with_part at x f ++ r

@@ -1,6 +1,6 @@
 -- What two files hold of a database, in each backup state, and what a change of one of them makes of its image.
 use Rattle.std.proofs.Common.{◌≡◌, ◌≢◌, inl, inr, ℕ, zero, suc, ◌+◌, ◌<◌, ◌≤◌, List, [], ◌∷◌, ◌++◌, length, get_or, take, drop, refl, sym, ap, subst, ◌∙◌, arith, length-append, Bool, true, false, ◌==◌, Option, Some, None, Result, Ok, Err, max}
-use Rattle.nb_base.proofs.Common.{leb_tells, eqb_tells, ext_get_or, length-drop, length-replicate, length-take-le, is_header, state_of, size_of, table_of, page_in, slot_place, normal_state, stalled_state, File, bytes_of, Refusal, BadDelta, Unfinished, HasTable, length-page_in, Page, Image, page_at, first_page, image_size, image_state, image_in, trimmed, with_page, written_at, IsOfSize, Cause, not_database, Base, base_of, merged_page, entry_for, behind_entries, main_page, owned_page, owned, diverted_base, owner_with, owner_in, owner, formed, header-long, header-state, same-header, same-number, laid, laid-front, laid-wide, some_page, owner-none, owner-refused, owner-formed, owner_in-normal, owned-first, owned-front, main_here, main_past, other_page, written_length, named, all_at, with_page_length, IsTrimmed, all-left, with_page_same, with_page_other, trimmed_length, trimmed_at, trimmed_page, owned_length, owned_at, none_there, for_here, ok_same, err_ok, some_same}
+use Rattle.nb_base.proofs.Common.{leb_tells, eqb_tells, ext_get_or, length-drop, length-replicate, length-take-le, is_header, state_of, size_of, table_of, page_in, slot_place, normal_state, stalled_state, File, bytes_of, Refusal, BadDelta, Unfinished, HasTable, length-page_in, Page, Image, page_at, first_page, image_size, image_state, image_in, trimmed, with_page, written_at, IsOfSize, Cause, not_database, Base, base_of, merged_page, entry_for, behind_entries, main_page, owned_page, owned, diverted_base, owner_with, owner_in, owner, formed, header-long, header-state, same-header, same-number, laid, laid-front, laid-wide, some_page, owner-none, owner-refused, owner-formed, owner_in-normal, owned-first, owned-front, main_here, main_past, other_page, written_length, named, all_at, with_page_length, IsTrimmed, all-left, with_page_same, with_page_other, trimmed_length, trimmed_at, trimmed_page, owned_length, owned_at, none_there, for_here, ok_same, err_ok, some_same, owned-none}
 use Rattle.nb_model.specs.Owner.{slot_page}
 use Rattle.nb_base.proofs.WrittenLaws.{HasMain, laid_formed, laid_image, written_same, written_inner, written_sizes}
 
@@ -15,10 +15,6 @@ module _ (size : ℕ) (main : Image) (delta table : List ℕ) where
   pub owned-entry : (p k : ℕ) → entry_for p table ≡ Some k → owned_page size main delta table p ≡ slot_page size main delta p k
   unfolding owned_page
   owned-entry p k is = ap (λ (x : Option ℕ). elim x as (λ z. Page) [ Some k ↦ slot_page size main delta p k | None ↦ main_page size main p ]) is
-
-  pub owned-none : (p : ℕ) → entry_for p table ≡ None → owned_page size main delta table p ≡ main_page size main p
-  unfolding owned_page
-  owned-none p is = ap (λ (x : Option ℕ). elim x as (λ z. Page) [ Some k ↦ slot_page size main delta p k | None ↦ main_page size main p ]) is
 
 -- each page of them has the size of a page
 module _ (size : ℕ) (main : Image) (delta table : List ℕ) (sizes : IsOfSize size main) (wide : 64 ≤ size) (some : 1 ≤ length main) where

@@ -1,9 +1,9 @@
 -- What is read of a main file, and of the image by the file that owns a page.
 use Rattle.std.proofs.Common.{◌≡◌, ◌≢◌, inl, inr, ℕ, zero, suc, ◌+◌, ◌-◌, ◌*◌, ◌<◌, ◌≤◌, List, [], ◌++◌, length, take, drop, replicate, refl, sym, ap, ◌∙◌, arith, length-append, length-take, suc-mul, mul-le-mul_right, le_of_mul-le-mul_right, Bool, true, false, Option, Some, None}
-use Rattle.nb_base.proofs.Common.{leb_tells, take_all, get_or_append_left, get_or-append_right, is_zeros, size_of, page_in, slot_place, stalled_state, File, Files, bytes_of, Known, ReadsPage, ReadsBytes, Page, Image, page_at, first_page, image_size, image_state, image_in, not_database, Base, ShowsIn, delta_name, entry_for, main_page, owned_page, formed, header-long, all-right, length-joined, page-joined, laid, laid-front, laid-wide, main_here, main_past, all_at, all_zeros, false_true, true≢false}
+use Rattle.nb_base.proofs.Common.{leb_tells, take_all, get_or_append_left, get_or-append_right, is_zeros, size_of, page_in, slot_place, stalled_state, File, Files, bytes_of, Known, ReadsPage, ReadsBytes, Page, Image, page_at, first_page, image_size, image_state, image_in, not_database, Base, ShowsIn, delta_name, entry_for, main_page, owned_page, formed, header-long, all-right, length-joined, page-joined, laid, laid-front, laid-wide, main_here, main_past, all_at, all_zeros, false_true, true≢false, owned-none}
 use Rattle.nb_model.specs.Owner.{slot_page}
 use Rattle.nb_base.proofs.WrittenLaws.{laid_formed, laid_image}
-use Rattle.nb_base.proofs.OwnedLaws.{Holds, holds, bytes-size, base-page, base-size, base-state, owned-entry, owned-none}
+use Rattle.nb_base.proofs.OwnedLaws.{Holds, holds, bytes-size, base-page, base-size, base-state, owned-entry}
 
 -- A page of a main file of that form.
 module _ (bytes : List ℕ) (formed : not_database bytes ≡ None) (p size : ℕ) (same : size_of bytes ≡ size) where

@@ -1,6 +1,6 @@
 -- Pages go into their slots in the stalled state, before their entries are in the table: what a crash leaves, and what reads after each.
 use Rattle.std.proofs.Common.{◌≡◌, ◌≢◌, ◌⊎◌, inl, inr, ⊎_elim, ℕ, ◌+◌, ◌<◌, ◌≤◌, List, [], ◌++◌, length, refl, sym, ap, subst, ◌∙◌, arith, append_assoc, Bool, true, false, Option, Some, None, Ok}
-use Rattle.nb_base.proofs.Common.{true≢false, cases_eq, eqb_tells, is_scn_place, state_of, size_of, stalled_state, File, bytes_of, World, IsTimely, Changes, Only, Moved, begun, moved_on, weaker_has, Known, HasTable, SlotStep, SlotPut, slot_page, Page, page_at, first_page, image_size, image_state, Base, delta_name, entry_for, owner, page, on_base, Trail, bases_of, settled, HasPage, IsFirm, StandsIn, IsBehind, IsRewritten, IsOnTheWay, way_left, named, itself_firm, put_same, put_other, put_first, put_long, put_frozen, Held, Agrees, IsSeen, IsWrite, StandsAs, HasPageIn, MaySlot, IsSlotted, GoesIn, none_there, some_same}
+use Rattle.nb_base.proofs.Common.{true≢false, cases_eq, eqb_tells, is_scn_place, state_of, size_of, stalled_state, File, bytes_of, World, IsTimely, Changes, Only, Moved, begun, moved_on, weaker_has, Known, HasTable, SlotStep, SlotPut, slot_page, Page, page_at, first_page, image_size, image_state, Base, delta_name, entry_for, owner, page, on_base, Trail, bases_of, settled, HasPage, IsFirm, StandsIn, IsBehind, IsRewritten, IsOnTheWay, way_left, named, itself_firm, put_same, put_other, put_first, put_long, Held, Agrees, IsSeen, IsWrite, StandsAs, HasPageIn, MaySlot, IsSlotted, GoesIn, none_there, some_same, stroke-frozen}
 use Rattle.nb_base.proofs.LeftLaws.{stroke-stalled, noted-there}
 use Rattle.nb_base.proofs.OwnedLaws.{Holds, holds, shows, base-length, base-state, base-size, entry-front, entry-behind, entry_apart}
 use Rattle.nb_base.proofs.StepLaws.{holds_slots, holds_slot}
@@ -57,7 +57,7 @@ module _ (f t : Trail) (p k : ℕ) (b : Base) (some : 1 ≤ p) (stalled : image_
           (way.others q (below q low_q) plain)
     ];
     below = λ s q j e. let low = way.below stalled q j (sym (ap (entry_for q) table) ∙ e) in omega (arith, low, put_long b p own some inside);
-    frozen = put_frozen b p own some inside ∙ way.frozen;
+    frozen = stroke-frozen b p own ∙ way.frozen;
     diverted = (way.diverted.0, way.diverted.1 ∙ ap (λ (x : List ℕ). x ++ way.diverted.0) (sym table));
     merging = λ m. absurd (omega (arith, m, stalled));
   }
@@ -249,7 +249,7 @@ module _ (w new : World) (held : Held) (f t : Trail) (waits : ℕ → Bool) (goe
                     | inl v ↦ absurd (none_there (sym none ∙ ap (entry_for q) (sym is.diverted) ∙ ap (λ n. entry_for n r.diverted) v.1 ∙ here))
                     | inr v ↦ slot_there t p k r may.some inside is_one is.first here q v.1 ∙ is.others q none
                   ];
-                  frozen = put_frozen r p (page_at t.base.image p) may.some inside ∙ is.frozen;
+                  frozen = stroke-frozen r p (page_at t.base.image p) ∙ is.frozen;
                   diverted = slot_table t p k r may.some inside is_one is.first here ∙ is.diverted;
                 });
               }

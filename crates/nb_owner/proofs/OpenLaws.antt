@@ -1,6 +1,6 @@
 -- What is in memory is what was seen last, after each call.
 use Rattle.std.proofs.Common.{◌≡◌, ◌≢◌, ◌⊎◌, inl, inr, ⊎_elim, ℕ, zero, suc, ◌+◌, ◌-◌, ◌<◌, ◌≤◌, Bool, nat_eq, true, false, List, [], ◌∷◌, length, take, Option, Some, None, refl, sym, ap, subst, ◌∙◌, arith, is_some, slice_get, MatchOption, if◌then◌else◌}
-use Rattle.nb_owner.proofs.Common.{option_and_then, option_map, option_map_or, AllByRecursion, IsDistinct, keys_of, lookup_entry, remove_entry, true≢false, eqb-false, leb_tells, normal_state, lru_cache, promoted, put_entries, Page, Image, page_at, first_page, image_scn, image_guid, trimmed, with_page, Ask, Base, page, begin, ends, finish, with_control, Trail, after_stroke, trail_base, World, Fits, merged_fits, stroke-image, Slot, slot_of, rank_of, with_rank, dropped, NoneWaits, IsNoLater, GoesFirst, Held, Pages, IsOpen, HasBlock, AreOf, IsValid, bare, used, behind_first, but_below, begun_image, ended_image}
+use Rattle.nb_owner.proofs.Common.{option_and_then, option_map, option_map_or, AllByRecursion, IsDistinct, keys_of, lookup_entry, remove_entry, true≢false, eqb-false, leb_tells, normal_state, lru_cache, promoted, put_entries, Page, Image, page_at, first_page, image_scn, image_guid, trimmed, with_page, Ask, Base, page, begin, ends, finish, with_control, Trail, after_stroke, trail_base, World, Fits, merged_fits, Slot, slot_of, rank_of, with_rank, dropped, NoneWaits, IsNoLater, GoesFirst, Held, Pages, IsOpen, HasBlock, AreOf, IsValid, bare, used, behind_first, but_below, begun_image, ended_image, stroke_page}
 use Rattle.nb_model.proofs.StrokeLaws.{with_page_same, with_page_other}
 use Rattle.nb_model.proofs.TrimLaws.{trimmed_length, trimmed_at, trimmed_past, finish_base}
 use Rattle.nb_base.specs.Open.{IsOpen as AreOpen}
@@ -27,7 +27,7 @@ module _ (pages : Pages) (once : IsDistinct nat_eq (keys_of pages)) where
     where
       written : (after_stroke (page p bytes) t).base.image ≡ with_page p bytes t.base.image
       written =
-          ap (λ (b : Base). b.image) (trail_base (page p bytes) t) ∙ stroke-image t.base p bytes
+          ap (λ (b : Base). b.image) (trail_base (page p bytes) t) ∙ stroke_page t.base p bytes
           ∙ ap (λ (x : Page). with_page p x t.base.image) (merged_fits p bytes t.base.image fits.front)
 
   -- page 0 has another control block

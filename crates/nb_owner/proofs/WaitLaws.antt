@@ -1,6 +1,6 @@
 -- What is open while pages wait, and that one more waits.
 use Rattle.std.proofs.Common.{◌≡◌, ◌≢◌, inl, inr, ⊎_elim, ℕ, suc, ◌+◌, ◌<◌, ◌≤◌, List, [], ◌∷◌, ◌++◌, length, refl, sym, ap, subst, ◌∙◌, arith, append_assoc, length-append, Bool, true, false, ◌==◌, ◌&&◌, not, nat_eq, nat_lt, Option, Some, None, is_some}
-use Rattle.nb_owner.proofs.Common.{AllByRecursion, true≢false, eqb_tells, leb_tells, append-nil, lru_cache, put_entries, is_scn_place, most_pages, is_header, state_of, size_of, normal_state, stalled_state, World, option_and_then, Page, Image, page_at, first_page, image_size, image_state, is_forced, Base, entry_for, page, on_base, Trail, after_stroke, ShowsIn, behind_left, behind_firm, trail_base, same_pages, put_same, put_other, put_first, put_long, put_frozen, put_diverted, put_longer, wait_behind, wait_unsettled, behind_itself, Agrees, StandsFirm, Drafts, stroke-stalled, noted-there, noted-new, entry-later, entry-added, entry-front, entry_at, later, Slot, slot_of, rank_of, with_rank, dropped, NoneWaits, Held, Pages, AreOf, waits, IsWaiting, AreDrafted, Waits, IsOpen, IsValid, may_wait, cache_of, rank_in, both_true, eq_self, not_true, some_same, not_there}
+use Rattle.nb_owner.proofs.Common.{AllByRecursion, true≢false, eqb_tells, leb_tells, append-nil, lru_cache, put_entries, is_scn_place, most_pages, is_header, state_of, size_of, normal_state, stalled_state, World, option_and_then, Page, Image, page_at, first_page, image_size, image_state, is_forced, Base, entry_for, page, on_base, Trail, after_stroke, ShowsIn, behind_left, behind_firm, trail_base, same_pages, put_same, put_other, put_first, put_long, put_longer, wait_behind, wait_unsettled, behind_itself, Agrees, StandsFirm, Drafts, stroke-stalled, noted-there, noted-new, entry-later, entry-added, entry-front, entry_at, later, Slot, slot_of, rank_of, with_rank, dropped, NoneWaits, Held, Pages, AreOf, waits, IsWaiting, AreDrafted, Waits, IsOpen, IsValid, may_wait, cache_of, rank_in, both_true, eq_self, not_true, some_same, not_there, stroke-frozen, stroke-diverted}
 use Rattle.nb_fields.specs.Bytes.{is_zeros, number_in}
 use Rattle.nb_host.specs.Calls.{IsStill}
 use Rattle.nb_model.specs.Waiting.{rank_of as rank_for}
@@ -246,7 +246,7 @@ module _ (w : World) (held : Held) (t : Trail) (is : IsOpen w held t) (valid : I
   long = ap (λ (b : Base). length b.image) base_is ∙ put_long t.base p bytes some low_t
 
   frozen : (after_stroke (page p bytes) t).base.frozen ≡ t.base.frozen
-  frozen = ap (λ (b : Base). b.frozen) base_is ∙ put_frozen t.base p bytes some low_t
+  frozen = ap (λ (b : Base). b.frozen) base_is ∙ stroke-frozen t.base p bytes
 
   unsettled : (after_stroke (page p bytes) t).earlier ≢ []
   unsettled = wait_unsettled is.sees t p bytes is.waits.behind some low_t loose
@@ -256,7 +256,7 @@ module _ (w : World) (held : Held) (t : Trail) (is : IsOpen w held t) (valid : I
   more = let longer = put_longer t.base p bytes some low_t in (longer.0, ap (λ (b : Base). b.diverted) base_is ∙ longer.1)
 
   table_main : image_state t.base.image ≢ stalled_state → (after_stroke (page p bytes) t).base.diverted ≡ t.base.diverted
-  table_main main = ap (λ (b : Base). b.diverted) base_is ∙ put_diverted t.base p bytes some low_t main
+  table_main main = ap (λ (b : Base). b.diverted) base_is ∙ stroke-diverted t.base p bytes main
 
   table_there : image_state t.base.image ≡ stalled_state → (k : ℕ) → entry_for p t.base.diverted ≡ Some k → (after_stroke (page p bytes) t).base.diverted ≡ t.base.diverted
   table_there stalled k at = ap (λ (b : Base). b.diverted) base_is ∙ stroke-stalled t.base p bytes stalled ∙ noted-there p t.base.diverted k at
