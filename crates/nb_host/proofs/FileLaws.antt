@@ -1,4 +1,4 @@
--- The bytes of a file: with zeros after them, and so many as its length says.
+-- Files and faults, for all crates: bytes with zeros after them, a fault that is passed on, a file that has a length.
 use Rattle.std.proofs.Common.{◌≡◌, ℕ, ◌+◌, ◌-◌, ◌≤◌, List, ◌++◌, length, ◌∙◌, ap, arith, replicate, take, length-append, length-take, sym, subst, Result, Ok, Err, IsErr, IsErrAnd, refl, Some, None, Option, option_map}
 use Rattle.std.proofs.lemmas.List.{append-nil, length-replicate}
 use Rattle.nb_host.specs.Files.{padded, File}

@@ -112,6 +112,9 @@ head_same x y xs ys e = cc
 pub tail_same : {X : Type 0} (x y : X) (xs ys : List X) → x ∷ xs ≡ y ∷ ys → xs ≡ ys
 tail_same x y xs ys e = cc
 
+pub none_in : {X : Type 0} (x : X) → Contains [] x → ⊥
+none_in x h = absurd (omega (arith, h.1))
+
 pub append_none : (xs ys : List ℕ) → xs ++ ys ≡ [] → (xs ≡ []) × (ys ≡ [])
 append_none [] ys e = (refl, e)
 append_none (x ∷ xs) ys e = absurd (cons_nil x (xs ++ ys) e)
@@ -125,10 +128,7 @@ take_self (suc n) (x ∷ l) = ap (λ (k : List ℕ). x ∷ k) (take_self n l)
 pub far_behind : (n size : ℕ) → 1 ≤ n → 1024 ≤ size → 64 ≤ n * size
 far_behind n size some wide = let low : 1 * size ≤ n * size = mul-le-mul_right size some in omega (arith, low, wide)
 
-pub none_in : {X : Type 0} (x : X) → Contains [] x → ⊥
-none_in x h = absurd (omega (arith, h.1))
-
--- of two lists, and of both as one
+-- what holds of each of two lists, and of both as one
 pub all_append : {A : Type 0} (P : A → Type 0) (xs ys : List A) → AllByRecursion P xs → AllByRecursion P ys → AllByRecursion P (xs ++ ys)
 all_append P [] ys first second = second
 all_append P (x ∷ xs) ys first second = (first.0, all_append P xs ys first.1 second)
