@@ -1,6 +1,6 @@
 -- A page that is written after a search for new pages: what the search leaves of it.
 use Rattle.std.proofs.Common.{◌≡◌, ◌≢◌, ◌⊎◌, inl, inr, ℕ, ◌/◌, ◌<◌, ◌≤◌, List, [], ◌∷◌, length, refl, sym, ap, subst, ◌∙◌, arith, Bool, true, false, not, ◌==◌, ◌||◌, nat_lt, min, IsTrue, Option, Some, None, Result, Ok, Err, IfOk, IfSome}
-use Rattle.nb_alloc.proofs.Common.{unwrap_or, true≢false, eqb_tells, leb_tells, is_page_size, entries_in, scn_place, is_inventory_place, is_scn_place, is_system_place, most_pages, data_kind, scn_kind, Fault, Refused, Device, Memory, Refusal, NotDatabase, Full, first_cause, lowest_of, lowest_broken, Image, image_size, is_kind, other_kind, has_entry, scn_page_of, IsMadeBehind, same_made, made_here, IsFreshBehind, same_fresh, fresh_here, eq_no, eq_yes, scn_page_there, plain_place, kind_same, IsVisited, kind_parts, Behind, judged, entry_broken, page_in, page_if, IsKnown, EndsAlike, passed, gone, need_cause, scn_place-some, or_false, or_true, kind_found, cons_nil, none_some, some_none, some_same}
+use Rattle.nb_alloc.proofs.Common.{unwrap_or, true≢false, eqb_tells, leb_tells, is_page_size, entries_in, scn_place, is_inventory_place, is_scn_place, is_system_place, most_pages, data_kind, scn_kind, Fault, Refused, Device, Memory, Refusal, NotDatabase, Full, first_cause, lowest_of, lowest_broken, Image, image_size, is_kind, other_kind, has_entry, scn_page_of, IsMadeBehind, same_made, made_here, IsFreshBehind, same_fresh, fresh_here, eq_no, eq_yes, scn_page_there, plain_place, kind_same, IsVisited, kind_parts, Behind, judged, entry_broken, page_in, page_if, IsKnown, EndsAlike, passed, gone, need_cause, scn_place-some, or_false, or_true, kind_found, none_some, some_none, some_same}
 use Rattle.nb_alloc.proofs.PlaceTests.{system_second}
 
 -- a page is of one kind
@@ -59,13 +59,6 @@ module _ (old now next : Image) (p kind : ℕ) (b : Behind) (known : IsKnown old
 
   entry_place : entries ≡ p → is_scn_place (image_size old) p ≡ true
   entry_place e = ap (is_scn_place (image_size old)) (sym e) ∙ scn_page_there (image_size old) (b.page / entries_in (image_size old)) size
-
-  -- no page is named where none is broken
-  none_named : page_if (nat_lt 0 b.entry) b.entry ≡ [] → b.entry ≡ 0
-  none_named e = elim (leb_tells 1 b.entry) [
-    | inl w ↦ absurd (cons_nil b.entry [] (sym (ap (λ (t : Bool). page_if t b.entry) w.0) ∙ e))
-    | inr w ↦ omega (arith, w.1)
-  ]
 
   -- no system page stands at page p, which becomes a data page
   pub known_plain : is_system_place (image_size old) p ≡ false → kind ≡ 5 → IsKnown old next b

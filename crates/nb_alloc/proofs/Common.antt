@@ -30,7 +30,7 @@ unfoldable pub use Rattle.nb_fields.specs.Payloads.{data_payload, inventory_payl
 pub use Rattle.nb_fields.specs.Payloads.{bit_of, entry_of, text_length, text_of}
 unfoldable pub use Rattle.nb_fields.specs.Places.{is_inventory_place, is_scn_place, is_system_place}
 pub use Rattle.nb_fields.specs.Places.{bits_in, entries_in, inventory_place, is_page_size, most_pages, scn_place}
-pub use Rattle.nb_host.proofs.PlainLaws.{append_none, cons_nil, le_yes, never, none_some, none_there, on_ok, or_false, or_true, some_none, some_same}
+pub use Rattle.nb_host.proofs.PlainLaws.{append_none, le_yes, never, none_some, none_there, on_ok, or_false, or_true, some_none, some_same}
 pub use Rattle.nb_host.specs.Faults.{as_answer, as_fault}
 pub use Rattle.nb_host.specs.World.{World}
 pub use Rattle.nb_host.specs.declared.faults.Fault.{Fault}

@@ -35,7 +35,7 @@ pub use Rattle.nb_script.specs.Lines.{left}
 pub use Rattle.nb_script.specs.Scripts.{Numbered}
 pub use Rattle.nb_script.specs.Words.{Bytes}
 pub use Rattle.std.proofs.lemmas.Bool.{and_parts, cases_Bool, cases_lt, cond-false, cond-true, eqb-true, leb-true, true≢false}
-pub use Rattle.std.proofs.lemmas.List.{append-nil, at_drop_all, at_drop_more, get_or-map, get_or_append_left, length-map, map-append, take-take, take_more}
+pub use Rattle.std.proofs.lemmas.List.{append-nil, at_drop_all, at_drop_more, get_or-map, get_or_append_left, length-map, map-append, take-take}
 pub use Rattle.std.proofs.lemmas.List.Quantifiers.{position-Some}
 pub use Rattle.std.proofs.lemmas.List.Sums.{sum_by-cons, sum_by-drop_more}
 pub use Rattle.std.specs.List.{AllByRecursion, list_any, slice_index_or}

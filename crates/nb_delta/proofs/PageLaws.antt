@@ -2,10 +2,6 @@
 use Rattle.std.proofs.Common.{◌≡◌, ◌≢◌, ◌⊎◌, inl, inr, ⊎_elim, ℕ, ◌+◌, ◌-◌, ◌*◌, ◌<◌, ◌≤◌, List, ◌++◌, length, get_or, take, drop, replicate, refl, sym, ◌∙◌, ap, arith, length-append, length-take, length-drop}
 use Rattle.nb_delta.proofs.Common.{get_or-drop, get_or_append_left, get_or-append-add, get_or-append_right, get_or-replicate, ext_get_or, length-replicate, places, cases_lt, mul-le-mul_right, padded, put_at, page_in, length-front}
 
-pub length-padded : (bytes : List ℕ) (n : ℕ) → length (padded bytes n) ≡ length bytes + (n - length bytes)
-unfolding padded
-length-padded bytes n = length-append bytes (replicate (n - length bytes) 0) ∙ ap (λ (k : ℕ). length bytes + k) (length-replicate {A = ℕ} (n - length bytes) 0)
-
 -- zeros after are read as what stands after the end
 pub zeros_behind : (bytes : List ℕ) (n i : ℕ) → get_or (bytes ++ replicate n 0) i 0 ≡ get_or bytes i 0
 zeros_behind bytes n i = elim (cases_lt i (length bytes)) [

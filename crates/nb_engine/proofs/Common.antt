@@ -14,7 +14,7 @@ pub use Rattle.nb_alloc.proofs.TestLaws.{at_ok, inventory_place_is, le_from, lt_
 pub use Rattle.nb_alloc.proofs.WantLaws.{stops_after, stops_first, stops_then, strikes_after}
 pub use Rattle.nb_alloc.specs.Behind.{behind_cause, entry_broken, give_broken, page_in}
 pub use Rattle.nb_alloc.specs.Data.{data_cause, new_behind, new_data, owner_by, put_data, second_data, unmade}
-pub use Rattle.nb_alloc.specs.Make.{IsWell, new_of, new_raw, page_strokes}
+pub use Rattle.nb_alloc.specs.Make.{new_of, new_raw, page_strokes}
 pub use Rattle.nb_alloc.specs.Mark.{mark_cause, mark_strokes}
 pub use Rattle.nb_alloc.specs.Put.{Reads, entry_cause, raise_strokes, raw_stroke}
 pub use Rattle.nb_alloc.specs.Search.{IsSearchable, IsShort}

@@ -108,9 +108,6 @@ makes_or old mid new name made was first second = record { left = remade_twice o
 pub makes_weaker : (old new : World) (name : List ℕ) (made all : File → Type 0) → ((c : File) → made c → all c) → MakesOr old new name made → MakesOr old new name all
 makes_weaker old new name made all by makes = record { left = remade_weaker old new (Only name) name made all makes.left by; reads = ⊎_elim inl (λ is. inr (by _ is)) makes.reads }
 
-pub some_more : (old new : World) (name : List ℕ) (made all : File → Type 0) → ((c : File) → made c → all c) → Makes old new name made → Makes old new name all
-some_more old new name made all by makes = record { left = remade_weaker old new (Only name) name made all makes.left by; reads = by _ makes.reads }
-
 -- Its head stands there, and no page was folded.
 pub folding_begun : (old mid : World) (file : LevelWriting) (sources : List Held) (whole : List Numbered) (most : ℕ) → IsReady old file sources whole most → HasTaken mid file [] → mid.reads ≡ old.reads → ((m : List ℕ) → m ≢ file.name → mid.files m ≡ old.files m) → IsFolding mid file sources whole most
 folding_begun old mid file sources whole most ready has same others = record {

@@ -1,6 +1,6 @@
 -- Steps of runs, one after another, and how many of them are acknowledged.
 use Rattle.std.proofs.Common.{◌≡◌, ℕ, zero, suc, ◌+◌, ◌-◌, ◌≤◌, List, [], ◌∷◌, ◌++◌, length, take, refl, sym, ap, ◌∙◌, arith, length-append, append_assoc, Bool, Option, Some, None, true, false, nat_le}
-use Rattle.nb_model.proofs.Common.{lt-leb, append-nil, take-append-le, take_all, take-append-add, Reply, Base, line_text, Stroke, base_after, Event, strokes_of, output, Trail, settled, after_stroke, after_strokes, Step, makes, settles, after_step, after_steps, made, steps_in, steps_of, acked_turns, acked_steps}
+use Rattle.nb_model.proofs.Common.{lt-leb, append-nil, take-append-le, take_all, take-append-add, Reply, Base, line_text, Stroke, base_after, Event, strokes_of, output, Trail, settled, after_stroke, Step, makes, settles, after_step, after_steps, made, steps_in, steps_of, acked_turns, acked_steps}
 use Rattle.nb_model.proofs.OutputLaws.{line-some, output-quiet, output-line, output_no_event}
 use Rattle.nb_model.proofs.StrokeLaws.{base_after-append}
 use Rattle.nb_model.proofs.SteadyLaws.{stroke_seen}
@@ -39,12 +39,6 @@ after_no_step t = refl
 pub after_settling : (t : Trail) → after_steps t (settles ∷ []) ≡ settled t.base
 unfolding after_steps after_step
 after_settling t = refl
-
--- strokes alone
-pub after_made : (t : Trail) (ss : List Stroke) → after_steps t (made ss) ≡ after_strokes ss t
-unfolding after_steps after_step made after_strokes
-after_made t [] = refl
-after_made t (s ∷ ss) = after_made (after_stroke s t) ss
 
 pub made_length : (ss : List Stroke) → length (made ss) ≡ length ss
 unfolding made

@@ -34,11 +34,6 @@ trail_base s t = by (settles_at t s)
     by true = refl
     by false = refl
 
-pub trail_bases : (ss : List Stroke) (t : Trail) → (after_strokes ss t).base ≡ base_after t.base ss
-unfolding after_strokes base_after
-trail_bases [] t = refl
-trail_bases (s ∷ ss) t = trail_bases ss (after_stroke s t) ∙ ap (λ (b : Base). base_after b ss) (trail_base s t)
-
 -- a stroke that settles
 pub settles_after : (s : Stroke) (t : Trail) → settles_at t s ≡ true → after_stroke s t ≡ settled (on_base s t.base)
 unfolding after_stroke
