@@ -67,7 +67,7 @@ pub data MergeTurn (files : Files) (db name : List ℕ) : Type 0 where
 
 no_standby : (files : Files) (db name : List ℕ) (c : Contents) → files db ≡ None → in_place files db name ≡ Ok c → ⊥
 unfolding in_place not_standby
-no_standby files db name c none accepted = err_ok (NoFile db) c (sym (rw (none, in_place) refl) ∙ accepted)
+no_standby files db name c none accepted = err_ok {E = Refusal} {T = Contents} (NoFile db) c (sym (rw (none, in_place) refl) ∙ accepted)
 
 module _ (files : Files) (db name : List ℕ) where
   pub refused_turn : (refusal : Refusal) → in_place files db name ≡ Err refusal → apply_turn files db name ≡ only_refusal refusal
