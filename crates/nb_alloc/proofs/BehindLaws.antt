@@ -1,6 +1,6 @@
 -- A page that is written after a search for new pages: what the search leaves of it.
 use Rattle.std.proofs.Common.{◌≡◌, ◌≢◌, ◌⊎◌, inl, inr, ℕ, ◌/◌, ◌<◌, ◌≤◌, List, [], ◌∷◌, length, refl, sym, ap, subst, ◌∙◌, arith, Bool, true, false, not, ◌==◌, ◌||◌, nat_lt, min, IsTrue, Option, Some, None, Result, Ok, Err, IfOk, IfSome}
-use Rattle.nb_alloc.proofs.Common.{unwrap_or, true≢false, eqb_tells, leb_tells, is_page_size, entries_in, scn_place, is_inventory_place, is_scn_place, is_system_place, most_pages, data_kind, scn_kind, Fault, Refused, Device, Memory, Refusal, NotDatabase, Full, first_cause, lowest_of, lowest_broken, Image, image_size, is_kind, other_kind, has_entry, scn_page_of, IsMadeBehind, same_made, made_here, IsFreshBehind, same_fresh, fresh_here, eq_no, eq_yes, scn_page_there, plain_place, kind_same, IsVisited, kind_parts, Behind, judged, entry_broken, page_in, page_if, IsKnown, EndsAlike, passed, gone, need_cause, scn_place-some, or_false, or_true, kind_found}
+use Rattle.nb_alloc.proofs.Common.{unwrap_or, true≢false, eqb_tells, leb_tells, is_page_size, entries_in, scn_place, is_inventory_place, is_scn_place, is_system_place, most_pages, data_kind, scn_kind, Fault, Refused, Device, Memory, Refusal, NotDatabase, Full, first_cause, lowest_of, lowest_broken, Image, image_size, is_kind, other_kind, has_entry, scn_page_of, IsMadeBehind, same_made, made_here, IsFreshBehind, same_fresh, fresh_here, eq_no, eq_yes, scn_page_there, plain_place, kind_same, IsVisited, kind_parts, Behind, judged, entry_broken, page_in, page_if, IsKnown, EndsAlike, passed, gone, need_cause, scn_place-some, or_false, or_true, kind_found, none_some, some_none, some_same}
 use Rattle.nb_alloc.proofs.PlaceTests.{system_second}
 
 -- a page is of one kind
@@ -59,16 +59,6 @@ module _ (old now next : Image) (p kind : ℕ) (b : Behind) (known : IsKnown old
 
   entry_place : entries ≡ p → is_scn_place (image_size old) p ≡ true
   entry_place e = ap (is_scn_place (image_size old)) (sym e) ∙ scn_page_there (image_size old) (b.page / entries_in (image_size old)) size
-
-  -- no page is named where none is broken
-  none_named : page_if (nat_lt 0 b.entry) b.entry ≡ [] → b.entry ≡ 0
-  none_named e = elim (leb_tells 1 b.entry) [
-    | inl w ↦ absurd (some_none b.entry (sym (ap (λ (t : Bool). page_if t b.entry) w.0) ∙ e))
-    | inr w ↦ omega (arith, w.1)
-  ]
-    where
-      some_none : (n : ℕ) → n ∷ [] ≡ [] → ⊥
-      some_none n h = cc
 
   -- no system page stands at page p, which becomes a data page
   pub known_plain : is_system_place (image_size old) p ≡ false → kind ≡ 5 → IsKnown old next b
@@ -222,10 +212,7 @@ known_lacking x p (Some q) size is broken at =
 pub judged_none : (page : ℕ) (pages : List ℕ) (full : Bool) → judged pages full ≡ None → judged (page ∷ pages) full ≡ Some (NotDatabase page)
 unfolding first_cause lowest_broken
 judged_none page [] full none = refl
-judged_none page (q ∷ qs) full none = absurd (some_none none)
-  where
-    some_none : Some (NotDatabase (lowest_of q qs)) ≡ None → ⊥
-    some_none e = cc
+judged_none page (q ∷ qs) full none = absurd (some_none (NotDatabase (lowest_of q qs)) none)
 
 pub lowest_min : (p q : ℕ) (qs : List ℕ) → lowest_of (min p q) qs ≡ min p (lowest_of q qs)
 lowest_min p q [] = refl
@@ -238,10 +225,7 @@ judged_page page other [] true some = absurd (other_cause some)
   where
     other_cause : Some (Full most_pages) ≡ Some (NotDatabase other) → ⊥
     other_cause e = cc
-judged_page page other [] false some = absurd (none_some some)
-  where
-    none_some : None ≡ Some (NotDatabase other) → ⊥
-    none_some e = cc
+judged_page page other [] false some = absurd (none_some (NotDatabase other) some)
 judged_page page other (q ∷ qs) full some = ap (λ (n : ℕ). Some (NotDatabase n)) (lowest_min page q qs ∙ ap (min page) (page_is some))
   where
     page_is : Some (NotDatabase (lowest_of q qs)) ≡ Some (NotDatabase other) → lowest_of q qs ≡ other
@@ -251,10 +235,7 @@ judged_page page other (q ∷ qs) full some = ap (λ (n : ℕ). Some (NotDatabas
 pub judged_other : (page : ℕ) (r : Refusal) (pages : List ℕ) (full : Bool) → ((other : ℕ) → r ≢ NotDatabase other) → judged pages full ≡ Some r → judged (page ∷ pages) full ≡ Some (NotDatabase page)
 unfolding first_cause lowest_broken
 judged_other page r [] full never some = refl
-judged_other page r (q ∷ qs) full never some = absurd (never (lowest_of q qs) (sym (same some)))
-  where
-    same : Some (NotDatabase (lowest_of q qs)) ≡ Some r → NotDatabase (lowest_of q qs) ≡ r
-    same e = cc
+judged_other page r (q ∷ qs) full never some = absurd (never (lowest_of q qs) (sym (some_same (NotDatabase (lowest_of q qs)) r some)))
 
 -- a page that was found to lack is the lowest of its list
 page_cause : (o : Option ℕ) → lowest_broken (page_in o) ≡ need_cause o

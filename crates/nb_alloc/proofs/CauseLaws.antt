@@ -12,12 +12,7 @@ pub unless_allowed : (s : Seen) (cause : Cause) (o : Outcome) → cause ≡ None
 unfolding unless
 unless_allowed s cause o e = ap (λ (c : Cause). unless s c o) e
 
--- of one cause alone
-pub one_cause : (c : Cause) → first_cause (c ∷ []) ≡ c
-unfolding first_cause
-one_cause None = refl
-one_cause (Some r) = refl
-
+-- of one cause with none behind it
 pub none_behind : (c : Cause) → first_cause (c ∷ None ∷ []) ≡ c
 unfolding first_cause
 none_behind None = refl

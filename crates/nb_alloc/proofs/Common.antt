@@ -13,7 +13,7 @@ pub use Rattle.nb_base.proofs.AttachLaws.{applies, first_here, first_next}
 pub use Rattle.nb_base.specs.Takes.{IsNoRefusal, Strikes, after_strokes}
 pub use Rattle.nb_change.proofs.FaultLaws.{counts_passed, memory_wanted, none_wanted}
 pub use Rattle.nb_change.proofs.ReachedLaws.{after_all-joined, strokes_composed}
-pub use Rattle.nb_change.proofs.ResultLaws.{on_ok, passed_on}
+pub use Rattle.nb_change.proofs.ResultLaws.{passed_on}
 pub use Rattle.nb_fields.proofs.NumberLaws.{length-bytes_of}
 pub use Rattle.nb_fields.proofs.PageLaws.{filled, padded_whole}
 pub use Rattle.nb_fields.proofs.PartLaws.{length-part, length-with_part, number_in-take, number_in-with_part_other, put_mid-with_part}
@@ -30,7 +30,7 @@ unfoldable pub use Rattle.nb_fields.specs.Payloads.{data_payload, inventory_payl
 pub use Rattle.nb_fields.specs.Payloads.{bit_of, entry_of, text_length, text_of}
 unfoldable pub use Rattle.nb_fields.specs.Places.{is_inventory_place, is_scn_place, is_system_place}
 pub use Rattle.nb_fields.specs.Places.{bits_in, entries_in, inventory_place, is_page_size, most_pages, scn_place}
-pub use Rattle.nb_host.proofs.PlainLaws.{append_none, le_yes, never, none_there, or_false, or_true, some_none}
+pub use Rattle.nb_host.proofs.PlainLaws.{append_none, le_yes, never, none_some, none_there, on_ok, or_false, or_true, some_none, some_same}
 pub use Rattle.nb_host.specs.Faults.{as_answer, as_fault}
 pub use Rattle.nb_host.specs.World.{World}
 pub use Rattle.nb_host.specs.declared.faults.Fault.{Fault}
@@ -38,7 +38,7 @@ pub use Rattle.nb_host.specs.declared.faults.Fault.TheVariants.{Device, Memory, 
 pub use Rattle.nb_host.specs.declared.refusals.Refusal.{Refusal}
 pub use Rattle.nb_host.specs.declared.refusals.Refusal.TheVariants.{Access, Full, NotAllocated, NotDatabase, PageRange, SystemPage, TextLong}
 pub use Rattle.nb_model.proofs.DraftJoin.{join_new, join_set_bit, joined, joined_new}
-pub use Rattle.nb_model.proofs.DraftLaws.{IsOf, drafted_is, drafts_are, either, put_keeps, set_bit_keeps, system_keeps}
+pub use Rattle.nb_model.proofs.DraftLaws.{IsOf, drafted_is, drafts_are, either, page_image, put_keeps, set_bit_keeps, system_keeps}
 pub use Rattle.nb_model.proofs.FirstFree.{IsLowestFree, free_from_is, lowest_is}
 pub use Rattle.nb_model.proofs.NeedLaws.{behind_none, behind_some, first_append, first_behind, first_none, maps_found, maps_split}
 pub use Rattle.nb_model.proofs.NewSound.{inventory_before, places_apart, plain_place}
@@ -50,7 +50,7 @@ pub use Rattle.nb_model.proofs.SearchLaws.{Met, clear_cause, draft_cause, joined
 pub use Rattle.nb_model.proofs.SoundLaws.{inventory_place_some, inventory_there, scn_page_there, with_page_length}
 pub use Rattle.nb_model.proofs.StepLaws.{IsClear, IsPutOn, IsReady, IsShaped, IsVisited, Visits, kind_moves, kind_parts, map_entry_before, plain_unkept, plain_visits, put_on, scn_page_moves, system_visits}
 pub use Rattle.nb_model.proofs.StrokeLaws.{base_after-append, stroke_other, stroke_page}
-pub use Rattle.nb_model.proofs.TurnCases.{is_so, no_cause}
+pub use Rattle.nb_model.proofs.TurnCases.{is_so, no_cause, one_cause}
 pub use Rattle.nb_model.proofs.WholeLaws.{when_false}
 pub use Rattle.nb_model.specs.Account.{Base}
 unfoldable pub use Rattle.nb_model.specs.Causes.{first_cause, lowest_broken, not_raw}
@@ -81,7 +81,7 @@ pub use Rattle.nb_state.proofs.TurnLaws.{unless_none}
 pub use Rattle.nb_state.specs.Does.{Answers, Does, Goes, Makes, Tested, WhereEnded, has_only_told, only_tells, unless_by}
 pub use Rattle.nb_state.specs.Open.{Held, IsOpen, but_pages, name_of}
 pub use Rattle.std.proofs.Math.Nat.{div-mul-le_self, div-zero, lt-div-mul-add, mod-eq_of_lt, mul-add-mod_self_right, mul-div_cancel}
-pub use Rattle.std.proofs.lemmas.Bool.{and_left, and_parts, eq-eqb, eqb-true, lt-ltb, ltb-true, ne_eqb, or_cases, or_from, or_left, or_right, true≢false}
+pub use Rattle.std.proofs.lemmas.Bool.{and_left, and_parts, eq-eqb, eqb-true, lt-ltb, ltb-true, ne_eqb, or_cases, or_from, or_left, or_parts, or_right, true≢false}
 pub use Rattle.std.proofs.lemmas.Bool.Decides.{eqb_tells, leb_tells}
 pub use Rattle.std.proofs.lemmas.List.{append-nil, drop-drop, drop_at, length-set, length-take, length-take-le, replicate-append-replicate, take-append-drop, take-set-le, take_at}
 pub use Rattle.std.proofs.lemmas.Nat.{div-mul-add, le-div}

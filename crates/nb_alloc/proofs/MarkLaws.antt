@@ -1,9 +1,8 @@
 -- Writing the bit of a page: the inventory page's bytes, the strokes, and why they are refused.
 use Rattle.std.proofs.Common.{◌≡◌, ◌≢◌, ℕ, ◌+◌, ◌/◌, ◌<◌, List, [], ◌∷◌, ◌++◌, length, drop, refl, sym, ap, subst, ◌∙◌, arith, Bool, true, IsTrue, Some, None}
-use Rattle.nb_alloc.proofs.Common.{take-set-le, number_in, is_page_size, entries_in, kind_of, stamped, generation_of, number_in-take, entries-least, inventory_kind, scn_kind, Refusal, NotDatabase, Page, Image, page_at, image_size, image_scn, Base, page, Draft, drafted, put, set_bit, with_bit, is_kind, inventory_of, bit_number, Cause, not_kind, not_of_form, no_room, kind_parts, entry_cause, raise_strokes, put_stroke, bit_for, mark_cause, bit_stroke, mark_stroke, mark_strokes, first_here, first_next, needs_found, is_so}
+use Rattle.nb_alloc.proofs.Common.{take-set-le, number_in, is_page_size, entries_in, kind_of, stamped, generation_of, number_in-take, entries-least, inventory_kind, scn_kind, Refusal, NotDatabase, Page, Image, page_at, image_size, image_scn, Base, page, Draft, drafted, put, set_bit, with_bit, is_kind, inventory_of, bit_number, Cause, not_kind, not_of_form, no_room, kind_parts, entry_cause, raise_strokes, put_stroke, bit_for, mark_cause, bit_stroke, mark_stroke, mark_strokes, first_here, first_next, needs_found, is_so, one_cause}
 use Rattle.nb_pip.specs.Bits.{with_bit as with_bit_at}
 use Rattle.nb_model.proofs.BitLaws.{with_bit_length}
-use Rattle.nb_alloc.proofs.CauseLaws.{one_cause}
 use Rattle.nb_alloc.proofs.PutLaws.{Keeps, put_stroke-after, put_strokes, put_form, put_room, put_refused}
 use Rattle.nb_alloc.proofs.RaiseLaws.{stamped-over}
 

@@ -1,27 +1,18 @@
 -- The inventory pages that a search reads, and the first of them that isn't of its kind.
 use Rattle.std.proofs.Common.{◌≡◌, inl, inr, ℕ, suc, ◌+◌, ◌-◌, ◌*◌, ◌/◌, ◌<◌, ◌≤◌, length, refl, sym, ap, subst, ◌∙◌, arith, mul-le-mul_right, Bool, true, false, not, IsTrue, Option, Some, None, Result, Err, IsErr, IsErrAnd}
-use Rattle.nb_alloc.proofs.Common.{div-mul-le_self, mul-div_cancel, le-div, true≢false, eqb_tells, leb_tells, is_page_size, bits_in, inventory_place, most_pages, bits-least, inventory_index, inventory_kind, Fault, Refused, Device, Memory, Refusal, NotDatabase, passed_on, Image, image_size, is_kind, inventory_of, free_from, first_not, maps_from, Cause, when, not_kind, first_behind, first_append, behind_none, maps_found, maps_split, IsLowestFree, free_from_is, div_rises, last_map, maps_up_to, Tested, AreTaken, RefusedFor, need_cause, AreMaps}
+use Rattle.nb_alloc.proofs.Common.{div-mul-le_self, mul-div_cancel, le-div, true≢false, eqb_tells, leb_tells, is_page_size, bits_in, inventory_place, most_pages, bits-least, inventory_index, inventory_kind, Fault, Refused, Device, Memory, Refusal, NotDatabase, passed_on, Image, image_size, is_kind, inventory_of, free_from, first_not, maps_from, Cause, when, not_kind, first_behind, first_append, behind_none, maps_found, maps_split, IsLowestFree, free_from_is, div_rises, last_map, maps_up_to, Tested, AreTaken, RefusedFor, need_cause, AreMaps, none_some, some_none, some_same}
 
 -- what a test of a page's kind tells
 kind_by : (t : Bool) (p : ℕ) (r : Refusal) → when (not t) (NotDatabase p) ≡ Some r → (t ≡ false) × (r ≡ NotDatabase p)
-kind_by true p r e = absurd (none_some e)
-  where
-    none_some : None ≡ Some r → ⊥
-    none_some h = cc
-kind_by false p r e = (refl, some_same e)
-  where
-    some_same : Some (NotDatabase p) ≡ Some r → r ≡ NotDatabase p
-    some_same h = cc
+kind_by true p r e = absurd (none_some r e)
+kind_by false p r e = (refl, sym (some_same (NotDatabase p) r e))
 
 pub kind_refused : (image : Image) (kind p : ℕ) (r : Refusal) → not_kind image kind p ≡ Some r → (is_kind image kind p ≡ false) × (r ≡ NotDatabase p)
 kind_refused image kind p r e = kind_by (is_kind image kind p) p r e
 
 kind_none : (t : Bool) (p : ℕ) → when (not t) (NotDatabase p) ≡ None → t ≡ true
 kind_none true p e = refl
-kind_none false p e = absurd (some_none e)
-  where
-    some_none : Some (NotDatabase p) ≡ None → ⊥
-    some_none h = cc
+kind_none false p e = absurd (some_none (NotDatabase p) e)
 
 pub kind_found : (image : Image) (kind p : ℕ) → not_kind image kind p ≡ None → is_kind image kind p ≡ true
 kind_found image kind p e = kind_none (is_kind image kind p) p e

@@ -1,6 +1,6 @@
 -- A write of a page is its SCN entry first, where that is raised, and then the page.
 use Rattle.std.proofs.Common.{◌≡◌, ◌≢◌, inl, inr, ℕ, zero, suc, ◌+◌, ◌*◌, ◌/◌, ◌<◌, ◌≤◌, List, [], ◌∷◌, ◌++◌, length, drop, refl, sym, ap, subst, ◌∙◌, arith, Bool, true, false, ◌&&◌, ◌||◌, ◌==◌, not, nat_lt, Some, None}
-use Rattle.nb_alloc.proofs.Common.{and_parts, and_left, or_left, or_right, or_from, ltb-true, lt-ltb, eq-eqb, ne_eqb, leb_tells, length-set, bytes_of, with_part, entries_in, scn_place, is_scn_place, most_pages, kind_of, stamped, scn_kind, Refusal, NotDatabase, Full, Page, Image, page_at, image_size, image_scn, with_page, Base, Stroke, page, on_base, base_after, merged_page, Draft, drafted, old_page, wrote, written, is_kind, needs, scn_page_of, entry_number, scn_entry, has_entry, entry_written, entry_raised, raised, put, Cause, when, not_kind, lowest_broken, not_of_form, no_room, stroke_page, stroke_other, kind_parts, entry_cause, must_raise, raise_stroke, raise_strokes, put_stroke, needs_found, is_so}
+use Rattle.nb_alloc.proofs.Common.{and_parts, and_left, or_left, or_right, or_from, ltb-true, lt-ltb, eq-eqb, ne_eqb, leb_tells, length-set, bytes_of, with_part, entries_in, scn_place, is_scn_place, most_pages, kind_of, stamped, scn_kind, Refusal, NotDatabase, Full, Page, Image, page_at, image_size, image_scn, with_page, Base, Stroke, page, on_base, base_after, merged_page, Draft, drafted, old_page, wrote, written, is_kind, needs, scn_page_of, entry_number, scn_entry, has_entry, entry_written, entry_raised, raised, put, Cause, when, not_kind, lowest_broken, not_of_form, no_room, stroke_page, stroke_other, kind_parts, entry_cause, must_raise, raise_stroke, raise_strokes, put_stroke, needs_found, is_so, page_image, none_some}
 use Rattle.nb_alloc.proofs.BehindLaws.{page_alone}
 
 -- a page stroke below the length keeps the length
@@ -162,10 +162,6 @@ module _ (image : Image) (p : ℕ) where
       by true = refl
       by false = refl
 
-one_stroke : (b : Base) (p : ℕ) (bytes : Page) → (base_after b (page p bytes ∷ [])).image ≡ with_page p (merged_page p bytes b.image) b.image
-unfolding base_after on_base
-one_stroke b p bytes = refl
-
 no_stroke : (b : Base) → (base_after b []).image ≡ b.image
 unfolding base_after
 no_stroke b = refl
@@ -190,7 +186,7 @@ written_draft b p none must =
       broken = refl;
       full = refl;
       image = ap (λ (x : Page). with_page q (merged_page q (stamped x scn_kind payload (image_scn b.image) q) b.image) b.image) old
-          ∙ sym (one_stroke b q (stamped (page_at b.image q) scn_kind payload (image_scn b.image) q)) ∙ ap (λ (ss : List Stroke). (base_after b ss).image) (sym one);
+          ∙ sym (page_image b q (stamped (page_at b.image q) scn_kind payload (image_scn b.image) q)) ∙ ap (λ (ss : List Stroke). (base_after b ss).image) (sym one);
     }
 
 pub draft_raised : (b : Base) (p : ℕ) → entry_cause b.image p ≡ None → Raises b p (raised p (drafted b.image))
@@ -260,12 +256,9 @@ module _ (b : Base) (p kind : ℕ) (payload : List ℕ) where
       q : ℕ
       q = scn_page_of b.image p
 
-      none_some : None ≡ Some r → ⊥
-      none_some e = cc
-
       by : (has is : Bool) → has_entry b.image p ≡ has → is_kind b.image scn_kind q ≡ is → not_of_form made ≡ Some r
-      by false is e f = absurd (none_some (sym (no_entry_cause b.image p e) ∙ cause))
-      by true true e f = absurd (none_some (ap (λ (t : Bool). when (not t) (NotDatabase q)) (sym f) ∙ sym (entry_cause-is b.image p e) ∙ cause))
+      by false is e f = absurd (none_some r (sym (no_entry_cause b.image p e) ∙ cause))
+      by true true e f = absurd (none_some r (ap (λ (t : Bool). when (not t) (NotDatabase q)) (sym f) ∙ sym (entry_cause-is b.image p e) ∙ cause))
       by true false e f =
           ap lowest_broken (made_broken ∙ ap (λ (d : Draft). d.broken) (raised-one b.image p e) ∙ entry_raised-broken b.image p _ ∙ ap (λ (d : Draft). d.broken) (needs-broken b.image p f))
           ∙ page_alone q ∙ ap (λ (t : Bool). when (not t) (NotDatabase q)) (sym f) ∙ sym (entry_cause-is b.image p e) ∙ cause

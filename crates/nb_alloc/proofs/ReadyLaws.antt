@@ -1,6 +1,6 @@
 -- Where all that a new page needs of a place is of its kind, nothing is refused there, and the strokes are those of the draft.
-use Rattle.std.proofs.Common.{◌≡◌, ◌≢◌, ℕ, ◌+◌, ◌-◌, ◌/◌, ◌<◌, ◌≤◌, List, [], ◌∷◌, ◌++◌, length, replicate, refl, sym, ap, subst, ◌∙◌, arith, Bool, true, false, not, IsTrue, Some, None, nat_lt, Result, Ok, Err, IfErr}
-use Rattle.nb_alloc.proofs.Common.{true≢false, is_page_size, bits_in, entries_in, inventory_place, is_scn_place, is_system_place, size_of, scn_of, stamped, SizeFacts, size_facts, Fault, Refused, Device, Memory, NotDatabase, Page, Image, page_at, image_size, image_scn, Base, Stroke, page, base_after, HasItsEntry, Draft, drafted, first_not, old_page, is_kind, inventory_of, scn_page_of, has_entry, raised, put, written, wrote, system_kind, system_payload, system_page, Cause, when, not_kind, maps_up_to, free_from_is, div_rises, bits-least, scn_place-some, inventory_kind, IsNoRefusal, inventory_before, scn_page_there, IsShaped, IsReady, IsPutOn, put_on, kind_moves, scn_page_moves, map_entry_before, entry_cause, raise_strokes, mark_cause, need_cause, RefusedFor, GoesOn, page_strokes, system_strokes, system_cause, round, behind, first_next, no_cause}
+use Rattle.std.proofs.Common.{◌≡◌, ◌≢◌, ℕ, ◌+◌, ◌-◌, ◌/◌, ◌<◌, ◌≤◌, List, [], ◌∷◌, ◌++◌, length, replicate, refl, sym, ap, subst, ◌∙◌, arith, Bool, true, false, not, IsTrue, None, nat_lt, Result, Ok, Err, IfErr}
+use Rattle.nb_alloc.proofs.Common.{true≢false, is_page_size, bits_in, entries_in, inventory_place, is_scn_place, is_system_place, size_of, scn_of, stamped, SizeFacts, size_facts, Fault, Refused, Device, Memory, NotDatabase, Page, Image, page_at, image_size, image_scn, Base, Stroke, page, base_after, HasItsEntry, Draft, drafted, first_not, old_page, is_kind, inventory_of, scn_page_of, has_entry, raised, put, written, wrote, system_kind, system_payload, system_page, Cause, when, not_kind, maps_up_to, free_from_is, div_rises, bits-least, scn_place-some, inventory_kind, IsNoRefusal, inventory_before, scn_page_there, IsShaped, IsReady, IsPutOn, put_on, kind_moves, scn_page_moves, map_entry_before, entry_cause, raise_strokes, mark_cause, need_cause, RefusedFor, GoesOn, page_strokes, system_strokes, system_cause, round, behind, first_next, no_cause, none_some}
 use Rattle.nb_alloc.proofs.NeedReads.{all_found}
 use Rattle.nb_alloc.proofs.PutLaws.{Raises, draft_raised, raised_not, no_entry_cause, entry_cause-is, not_raised, scn_page-without}
 use Rattle.nb_alloc.proofs.MakeLaws.{RaisesAlone, raise_alone, system_there, system_put, system_made, system_unmade, system_free, system_asks, payload_whole}
@@ -127,9 +127,6 @@ module _ (image : Image) (p : ℕ) where
 -- a test without a cause refused nothing
 pub sure_refused : {T : Type 0} (result : Result T Fault) (cause : Cause) → cause ≡ None → RefusedFor result cause → IfErr result IsNoRefusal
 sure_refused (Ok value) cause none tested = tt
-sure_refused (Err (Refused r)) cause none tested = absurd (none_some (sym none ∙ tested))
-  where
-    none_some : None ≡ Some r → ⊥
-    none_some e = cc
+sure_refused (Err (Refused r)) cause none tested = absurd (none_some r (sym none ∙ tested))
 sure_refused (Err Device) cause none tested = tt
 sure_refused (Err Memory) cause none tested = tt

@@ -1,8 +1,8 @@
 -- The tests before new pages, and what is written after them.
 use Rattle.std.proofs.Common.{◌≡◌, ℕ, ◌+◌, ◌*◌, ◌<◌, ◌≤◌, List, [], ◌∷◌, ◌++◌, length, refl, sym, ap, subst, ◌∙◌, arith, drop, Bool, true, false, not, ◌||◌, nat_lt, min, Some, None, Result, Ok, Err, IfOk, OnOk, IsErr, IsErrAnd}
-use Rattle.nb_alloc.proofs.Common.{true≢false, append-nil, bytes_of, with_part, data_payload, most_pages, data_kind, scn_kind, Fault, Refused, Device, Memory, Refusal, NotDatabase, Full, passed_on, Image, page_at, image_scn, Draft, drafted, is_kind, other_kind, needs, wants, has_entry, scn_page_of, scn_entry, raised, entry_raised, entry_written, put, written, wrote, new_page, Cause, first_cause, when, lowest_of, lowest_broken, too_short, not_of_form, no_room, Chain, Slot, owner_of, last_of, put_slot, grown, joined, joined_new, join_new, draft_cause, joined_cause, IsClear, Tested, WhereEnded, where_ended, Behind, judged, entry_broken, behind_cause, page_if, IsKnown, Judges, EndsAlike, new_behind, second_data, unmade, unmade_behind, entry_cause, new_of, IsShort, Finds, EndsBy, lt_no, lt_yes, applies, first_here, first_next, append_none, when_false}
+use Rattle.nb_alloc.proofs.Common.{append-nil, bytes_of, with_part, data_payload, most_pages, data_kind, scn_kind, Fault, Refused, Device, Memory, Refusal, NotDatabase, Full, passed_on, Image, page_at, image_scn, Draft, drafted, is_kind, other_kind, needs, wants, has_entry, scn_page_of, scn_entry, raised, entry_raised, entry_written, put, written, wrote, new_page, Cause, first_cause, when, lowest_of, lowest_broken, too_short, not_of_form, no_room, Chain, Slot, owner_of, last_of, put_slot, grown, joined, joined_new, join_new, draft_cause, joined_cause, IsClear, Tested, WhereEnded, where_ended, Behind, judged, entry_broken, behind_cause, page_if, IsKnown, Judges, EndsAlike, new_behind, second_data, unmade, unmade_behind, entry_cause, new_of, IsShort, Finds, EndsBy, lt_no, lt_yes, applies, first_here, first_next, append_none, when_false, none_some, some_none, or_parts, one_cause}
 use Rattle.nb_alloc.proofs.BehindLaws.{other_page, lowest_min}
-use Rattle.nb_alloc.proofs.CauseLaws.{one_cause, none_behind}
+use Rattle.nb_alloc.proofs.CauseLaws.{none_behind}
 use Rattle.nb_alloc.proofs.FullLaws.{put_full}
 use Rattle.nb_alloc.proofs.PutLaws.{no_entry_cause, entry_cause-is}
 use Rattle.nb_model.proofs.RoomThere.{other_met}
@@ -41,14 +41,8 @@ judged_clear d none = by d.broken d.full refl refl none
   where
     by : (pages : List ℕ) (full : Bool) → d.broken ≡ pages → d.full ≡ full → judged pages full ≡ None → IsClear d
     by [] false a b e = (a, b)
-    by [] true a b e = absurd (full_none e)
-      where
-        full_none : Some (Full most_pages) ≡ None → ⊥
-        full_none h = cc
-    by (p ∷ ps) full a b e = absurd (page_none e)
-      where
-        page_none : Some (NotDatabase (lowest_of p ps)) ≡ None → ⊥
-        page_none h = cc
+    by [] true a b e = absurd (some_none (Full most_pages) e)
+    by (p ∷ ps) full a b e = absurd (some_none (NotDatabase (lowest_of p ps)) e)
 
 -- one that two searches in a row are refused for
 pub lowest_append : (p : ℕ) (ps : List ℕ) (q : ℕ) (qs : List ℕ) → lowest_of p (ps ++ q ∷ qs) ≡ min (lowest_of p ps) (lowest_of q qs)
@@ -58,10 +52,7 @@ lowest_append p (r ∷ ps) q qs = lowest_append (min p r) ps q qs
 pub judged_twice : (ps qs : List ℕ) (a b : Bool) (r : Refusal) → judged ps a ≡ Some r → judged qs b ≡ Some r → judged (ps ++ qs) (a || b) ≡ Some r
 unfolding first_cause lowest_broken
 judged_twice [] [] true b r e f = e
-judged_twice [] [] false b r e f = absurd (none_some e)
-  where
-    none_some : None ≡ Some r → ⊥
-    none_some h = cc
+judged_twice [] [] false b r e f = absurd (none_some r e)
 judged_twice [] (q ∷ qs) a b r e f = f
 judged_twice (p ∷ ps) [] a b r e f = ap (λ (xs : List ℕ). Some (NotDatabase (lowest_of p xs))) (append-nil ps) ∙ e
 judged_twice (p ∷ ps) (q ∷ qs) a b r e f =
@@ -172,14 +163,8 @@ pub record IsFreeBehind (d : Draft) (p : ℕ) : Type 0 where
 judged_empty : (pages : List ℕ) (full : Bool) → judged pages full ≡ None → (pages ≡ []) × (full ≡ false)
 unfolding first_cause lowest_broken
 judged_empty [] false none = (refl, refl)
-judged_empty [] true none = absurd (full_none none)
-  where
-    full_none : Some (Full most_pages) ≡ None → ⊥
-    full_none h = cc
-judged_empty (p ∷ ps) full none = absurd (page_none none)
-  where
-    page_none : Some (NotDatabase (lowest_of p ps)) ≡ None → ⊥
-    page_none h = cc
+judged_empty [] true none = absurd (some_none (Full most_pages) none)
+judged_empty (p ∷ ps) full none = absurd (some_none (NotDatabase (lowest_of p ps)) none)
 
 pub no_entry_broken : (x : Image) (p : ℕ) → entry_broken x p ≡ [] → entry_cause x p ≡ None
 no_entry_broken x p none = by (has_entry x p) refl none
@@ -241,12 +226,8 @@ pub joined_clear : (d e : Draft) → draft_cause (joined d e) ≡ None → (draf
 joined_clear d e none =
     let all = judged_empty (e.broken ++ d.broken) (e.full || d.full) none in
     let pages = append_none e.broken d.broken all.0 in
-    let full = neither e.full d.full all.1 in
+    let full = or_parts e.full d.full all.1 in
     (ap (λ (ps : List ℕ). judged ps d.full) pages.1 ∙ ap (judged []) full.1 ∙ nothing_judged, ap (λ (ps : List ℕ). judged ps e.full) pages.0 ∙ ap (judged []) full.0 ∙ nothing_judged)
-  where
-    neither : (a b : Bool) → (a || b) ≡ false → (a ≡ false) × (b ≡ false)
-    neither false b e = (refl, e)
-    neither true b e = absurd (true≢false e)
 
 -- A page alone is written.
 pub entry_lowest : (x : Image) (p : ℕ) → lowest_broken (entry_broken x p) ≡ entry_cause x p

@@ -1,6 +1,6 @@
 -- The search for new pages on a database that nothing was written to yet: it is refused as the draft of the new page is.
 use Rattle.std.proofs.Common.{◌≡◌, ◌≢◌, inl, inr, ℕ, zero, suc, ◌+◌, ◌-◌, ◌/◌, ◌<◌, ◌≤◌, List, [], ◌∷◌, length, refl, sym, ap, subst, ◌∙◌, arith, Bool, true, false, ◌==◌, IsTrue, Option, Some, None, Result, Ok, Err, IsErr, IsErrAnd}
-use Rattle.nb_alloc.proofs.Common.{Fault, Device, Memory, passed_on, Tested, true≢false, eqb-true, eqb_tells, leb_tells, is_page_size, bits_in, inventory_place, is_inventory_place, is_scn_place, is_system_place, most_pages, Refusal, NotDatabase, Full, Image, image_size, Draft, drafted, no_page, is_kind, is_free_page, inventory_of, put, take_page, lowest_free, free_from, system_kind, first_not, maps_from, needed_at, new_within, new_page, when, first_cause, lowest_broken, bits-least, inventory_kind, scn_kind, joined_new, plain_place, places_apart, eq_yes, IsLowestFree, free_from_is, lowest_is, div_rises, map_place_is, IsReady, Visits, system_visits, plain_visits, next_place, needed_on, IsMadeBehind, same_made, made_here, IsFreshBehind, same_fresh, fresh_here, IsOnTheWay, way_begins, way_further, inventory_place_some, first_behind, first_append, behind_none, first_none, maps_found, draft_cause, last_map, Met, met, round_at, try_stops, try_full, try_more, try_last, clear_cause, joined_cause, need_cause, way_cause, Behind, IsKnown, gone, IsSearchable, Searches, AtPlace, AtKnown, GoesTo, IsShort, Finds, Refuses, EndsBy, first_here, first_next, some_none, no_cause}
+use Rattle.nb_alloc.proofs.Common.{Fault, Device, Memory, passed_on, Tested, true≢false, eqb-true, eqb_tells, leb_tells, is_page_size, bits_in, inventory_place, is_inventory_place, is_scn_place, is_system_place, most_pages, Refusal, NotDatabase, Full, Image, image_size, Draft, drafted, no_page, is_kind, is_free_page, inventory_of, put, take_page, lowest_free, free_from, system_kind, first_not, maps_from, needed_at, new_within, new_page, when, first_cause, lowest_broken, bits-least, inventory_kind, scn_kind, joined_new, plain_place, places_apart, eq_yes, IsLowestFree, free_from_is, lowest_is, div_rises, map_place_is, IsReady, Visits, system_visits, plain_visits, next_place, needed_on, IsMadeBehind, same_made, made_here, IsFreshBehind, same_fresh, fresh_here, IsOnTheWay, way_begins, way_further, inventory_place_some, first_behind, first_append, behind_none, first_none, maps_found, draft_cause, last_map, Met, met, round_at, try_stops, try_full, try_more, try_last, clear_cause, joined_cause, need_cause, way_cause, Behind, IsKnown, gone, IsSearchable, Searches, AtPlace, AtKnown, GoesTo, IsShort, Finds, Refuses, EndsBy, first_here, first_next, some_none, no_cause, none_some}
 use Rattle.nb_host.specs.declared.faults.Fault.TheVariants.{Refused as RefusedFault}
 use Rattle.nb_model.proofs.OnwardTests.{next_is, needs_same}
 use Rattle.nb_alloc.proofs.BehindLaws.{known_plain, known_gone}
@@ -341,10 +341,7 @@ module _ (old start now : Image) (first from made fresh tries : ℕ) (s : Search
       by None true is end c =
           search_full old start now first from made fresh more.0 again most (next_place old from fresh) refl kind payload is (eqb-true (next_place old from fresh) most_pages end)
           ∙ sym (first_next None (Some (Full most_pages) ∷ []) refl ∙ first_here (Some (Full most_pages)) [] (Full most_pages) refl) ∙ c
-      by None false is end c = absurd (none_is (sym (first_next None (None ∷ []) refl ∙ first_next None [] refl ∙ no_cause) ∙ c))
-        where
-          none_is : None ≡ Some r → ⊥
-          none_is h = cc
+      by None false is end c = absurd (none_some r (sym (first_next None (None ∷ []) refl ∙ first_next None [] refl ∙ no_cause) ∙ c))
 
   pub refused_image : (r : Refusal) (kind : ℕ) (payload : ℕ → List ℕ) → way_cause old from made fresh ≡ Some r → (new_page kind payload (drafted start)).0.image ≡ now
   refused_image r kind payload e = by (first_not old (needed_on old from made fresh (next_place old from fresh))) (next_place old from fresh == most_pages) refl refl e
@@ -353,10 +350,7 @@ module _ (old start now : Image) (first from made fresh tries : ℕ) (s : Search
           → first_cause (need_cause o ∷ when t (Full most_pages) ∷ []) ≡ Some r → (new_page kind payload (drafted start)).0.image ≡ now
       by (Some q) t is end c = stops_image old start now first from made fresh more.0 again most (next_place old from fresh) refl q kind payload is
       by None true is end c = full_image old start now first from made fresh more.0 again most (next_place old from fresh) refl kind payload is (eqb-true (next_place old from fresh) most_pages end)
-      by None false is end c = absurd (none_is (sym (first_next None (None ∷ []) refl ∙ first_next None [] refl ∙ no_cause) ∙ c))
-        where
-          none_is : None ≡ Some r → ⊥
-          none_is h = cc
+      by None false is end c = absurd (none_some r (sym (first_next None (None ∷ []) refl ∙ first_next None [] refl ∙ no_cause) ∙ c))
 
 -- At a page that isn't the place of a system page the search ends.
 module _ (old start : Image) (first place made fresh : ℕ) (h : AtPlace old start first place made fresh) (most : length old ≤ most_pages) where

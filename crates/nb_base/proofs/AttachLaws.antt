@@ -1,6 +1,6 @@
 -- Why a file isn't opened, and what is held of one that is.
 use Rattle.std.proofs.Common.{◌≡◌, ◌≢◌, inl, inr, ℕ, zero, suc, ◌+◌, ◌-◌, ◌*◌, ◌/◌, ◌%◌, ◌<◌, ◌≤◌, List, [], ◌∷◌, ◌++◌, length, get_or, take, drop, refl, sym, ap, subst, ◌∙◌, arith, length-append, mul-le-mul_right, suc-mul, Bool, true, false, not, ◌==◌, ◌||◌, IsTrue, Option, Some, None, option_map, min, max, nat_lt, Result, Ok, Err, IsErr, IsErrAnd, IfOk, IfErr}
-use Rattle.nb_base.proofs.Common.{div-eq_of_lt, cases_Bool, leb_tells, eqb_tells, get_or-append_right, get_or_append_left, take-take, take_more, is_zeros, number_in, is_header, state_of, size_of, is_page_size, most_pages, number_in-take, size_facts, applying_state, File, Fault, Refused, Device, Memory, Refusal, NotDatabase, Unfinished, Image, page_at, first_page, image_size, image_in, Cause, first_cause, when, not_database, header-size, same-number, all_at, IsTrimmed, page-joined, length-joined, trimmed-drop, trimmed-zeros, IsLaid, laid, laid-front, laid-wide, some_page, Known, behind_entries, IsBlank, Tested, length_cause, start_cause, main_cause}
+use Rattle.nb_base.proofs.Common.{div-eq_of_lt, cases_Bool, leb_tells, eqb_tells, get_or-append_right, get_or_append_left, take-take, take_more, is_zeros, number_in, is_header, state_of, size_of, is_page_size, most_pages, number_in-take, size_facts, applying_state, File, Fault, Refused, Device, Memory, Refusal, NotDatabase, Unfinished, Image, page_at, first_page, image_size, image_in, Cause, first_cause, when, not_database, header-size, same-number, all_at, IsTrimmed, page-joined, length-joined, trimmed-drop, trimmed-zeros, IsLaid, laid, laid-front, laid-wide, some_page, Known, behind_entries, IsBlank, Tested, length_cause, start_cause, main_cause, unheaded, device_memory, nil_cons, none_some, ok_equal, some_same, true≢false, or_right}
 use Rattle.nb_fields.proofs.HeaderLaws.{is_header-take}
 use Rattle.nb_model.proofs.ReadLaws.{lt_no, lt_yes, eq_no, eq_yes}
 use Rattle.nb_base.proofs.OwnedLaws.{behind-added}
@@ -22,14 +22,7 @@ first_next c cs e = rw (e, first_cause) refl
 pub applies : (test : Bool) (r : Refusal) → test ≡ true → when test r ≡ Some r
 applies test r e = ap (λ (t : Bool). when t r) e
 
-true_false : true ≡ false → ⊥
-true_false h = cc
-
 -- by whether there is a header
-pub unheaded : (bytes : List ℕ) → is_header bytes ≡ false → not_database bytes ≡ Some (NotDatabase 0)
-unfolding not_database
-unheaded bytes e = rw (e, not_database) refl
-
 pub headed : (bytes : List ℕ) → is_header bytes ≡ true → not_database bytes ≡ length_cause (length bytes) (size_of bytes)
 unfolding not_database
 headed bytes e = rw (e, not_database) refl
@@ -40,11 +33,7 @@ module _ (len size : ℕ) where
   parted h = first_here _ _ _ (applies _ _ (ap (λ (t : Bool). not t || nat_lt (len / size) 5) (eq_no (len % size) 0 h)))
 
   pub too_few : len / size < 5 → length_cause len size ≡ Some (NotDatabase (min (len / size) most_pages))
-  too_few h = first_here _ _ _ (applies _ _ (last (len % size == 0) (lt_yes (len / size) 5 h)))
-    where
-      last : (t : Bool) {b : Bool} → b ≡ true → (not t || b) ≡ true
-      last true e = e
-      last false e = refl
+  too_few h = first_here _ _ _ (applies _ _ (or_right (not (len % size == 0)) _ (lt_yes (len / size) 5 h)))
 
   whole_test : len % size ≡ 0 → 5 ≤ len / size → (not (len % size == 0) || nat_lt (len / size) 5) ≡ false
   whole_test h k = ap (λ (t : Bool). not t || nat_lt (len / size) 5) (eq_yes (len % size) 0 h) ∙ lt_no (len / size) 5 k
@@ -69,15 +58,9 @@ module _ (bytes : List ℕ) where
   -- after a form the state decides
   pub start_rest : (r : Refusal) → not_database bytes ≡ None → start_cause bytes ≡ Some r → (state_of bytes ≡ applying_state) × (r ≡ Unfinished)
   start_rest r none e = elim (eqb_tells (state_of bytes) 3) [
-    | inl w ↦ (w.1, some_same (sym e ∙ start_unfinished none w.1))
-    | inr w ↦ absurd (none_some (sym (start_is none w.1) ∙ e))
+    | inl w ↦ (w.1, some_same r Unfinished (sym e ∙ start_unfinished none w.1))
+    | inr w ↦ absurd (none_some r (sym (start_is none w.1) ∙ e))
   ]
-    where
-      some_same : {a b : Refusal} → Some a ≡ Some b → a ≡ b
-      some_same h = cc
-
-      none_some : None ≡ Some r → ⊥
-      none_some h = cc
 
   -- a file that is shorter than a header has none
   pub start_short : length bytes < 64 → start_cause bytes ≡ Some (NotDatabase 0)
@@ -117,10 +100,7 @@ module _ (first bytes : List ℕ) (read : first ≡ take 64 bytes) (block : Head
 pub last_other : (n : ℕ) (image : Image) → IsTrimmed image → length image ≡ suc n → is_zeros (page_at image n) ≡ false
 last_other zero [] whole long = absurd (omega arith)
 last_other zero (p ∷ q ∷ qs) whole long = absurd (omega arith)
-last_other zero (p ∷ []) whole long = elim (cases_Bool (is_zeros p)) [ inl w ↦ absurd (none_some (sym (trimmed-zeros (p ∷ []) (w, tt)) ∙ whole)) | inr w ↦ w ]
-  where
-    none_some : [] ≡ p ∷ [] → ⊥
-    none_some h = cc
+last_other zero (p ∷ []) whole long = elim (cases_Bool (is_zeros p)) [ inl w ↦ absurd (nil_cons p [] (sym (trimmed-zeros (p ∷ []) (w, tt)) ∙ whole)) | inr w ↦ w ]
 last_other (suc n) [] whole long = absurd (omega arith)
 last_other (suc n) (p ∷ ps) whole long = last_other n ps (trimmed-drop 1 (p ∷ ps) whole) (omega arith)
 
@@ -158,7 +138,7 @@ module _ (bytes : List ℕ) (none : not_database bytes ≡ None) (size : ℕ) (s
     | inr w ↦
         let all : length image ≡ suc n = omega (arith, w.1, low) in
         let last : page_at (image ++ is_laid.rest) n ≡ page_at image n = get_or_append_left image is_laid.rest [] n (omega arith) in
-        absurd (true_false (sym zeros ∙ ap is_zeros (page_is ∙ last) ∙ last_other n image is_laid.whole all))
+        absurd (true≢false (sym zeros ∙ ap is_zeros (page_is ∙ last) ∙ last_other n image is_laid.whole all))
   ]
 
   -- and another one is, where the pages after it aren't counted
@@ -169,7 +149,7 @@ module _ (bytes : List ℕ) (none : not_database bytes ≡ None) (size : ℕ) (s
         let past : length image ≤ n = omega (arith, w.1) in
         let at : page_at (image ++ is_laid.rest) n ≡ page_at is_laid.rest (n - length image) = get_or-append_right image is_laid.rest (length image) n [] refl past in
         let low : n - length image < length is_laid.rest = omega (arith, past, below, length-append image is_laid.rest) in
-        absurd (true_false (sym (all_at (λ page. is_zeros page ≡ true) is_laid.rest is_laid.zeros (n - length image) low) ∙ sym (ap is_zeros (page_is ∙ at)) ∙ other))
+        absurd (true≢false (sym (all_at (λ page. is_zeros page ≡ true) is_laid.rest is_laid.zeros (n - length image) low) ∙ sym (ap is_zeros (page_is ∙ at)) ∙ other))
   ]
 
 -- pages that are left to look at
@@ -220,10 +200,7 @@ there name (Some bytes) e = record { bytes = bytes; is = refl }
 
 -- a file that has a length has so many bytes
 pub of_length : (file : File) (size : Option ℕ) (long : ℕ) (bytes : List ℕ) → size ≡ option_map length file → size ≡ Some long → file ≡ Some bytes → length bytes ≡ long
-of_length file size long bytes told is there = some_same (sym (ap (option_map length) there) ∙ sym told ∙ is)
-  where
-    some_same : {a b : ℕ} → Some a ≡ Some b → a ≡ b
-    some_same e = cc
+of_length file size long bytes told is there = some_same (length bytes) long (sym (ap (option_map length) there) ∙ sym told ∙ is)
 
 -- a callee's refusal is passed on
 pub refusal_passed : (S T : Type 0) (result : Result T Fault) (fault : Fault) (cause : Cause) → IsErr result × IsErrAnd result (λ f. f ≡ fault) → Tested {T = S} (Err fault) cause → Tested result cause
@@ -242,10 +219,7 @@ blank_for (Err (Refused r)) name size is only = absurd (other only)
   where
     other : Refused r ≡ Memory → ⊥
     other e = cc
-blank_for (Err Device) name size is only = absurd (other only)
-  where
-    other : Device ≡ Memory → ⊥
-    other e = cc
+blank_for (Err Device) name size is only = absurd (device_memory only)
 blank_for (Err Memory) name size is only = tt
 
 -- one entry more
@@ -255,8 +229,5 @@ behind-next entries k low = ap behind_entries (take_more entries k 0 low) ∙ be
 pub counted-next : {E : Type 0} (entries kept : List ℕ) (k page count main next : ℕ) → kept ≡ entries → ◌≡◌ {A = Result ℕ E} (Ok page) (Ok (get_or kept k 0)) → k < length entries → next ≡ max count (page + 1) → count ≡ max main (behind_entries (take k entries))
     → next ≡ max main (behind_entries (take (k + 1) entries))
 counted-next {E} entries kept k page count main next same told low is so_far =
-    let named : page ≡ get_or entries k 0 = ok_same told ∙ ap (λ (l : List ℕ). get_or l k 0) same in
+    let named : page ≡ get_or entries k 0 = ok_equal {E = E} page (get_or entries k 0) told ∙ ap (λ (l : List ℕ). get_or l k 0) same in
     omega (arith, named, is, so_far, behind-next entries k low)
-  where
-    ok_same : {a b : ℕ} → ◌≡◌ {A = Result ℕ E} (Ok a) (Ok b) → a ≡ b
-    ok_same e = cc

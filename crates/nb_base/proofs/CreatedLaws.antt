@@ -1,6 +1,6 @@
 -- What creating a database answers, and what it leaves after a test that changed nothing.
 use Rattle.std.proofs.Common.{◌≡◌, ◌≤◌, inr, inl, ⊎_elim, ℕ, List, [], sym, ◌∙◌, ap, subst, arith, Bool, IsTrue, true, false, Result, Ok, Err}
-use Rattle.nb_base.proofs.Common.{err_from_is_err_and, is_page_size, fresh, normal_state, Files, World, Fault, Device, Changes, Only, GaveNothing, left_before, rested, composed, Quiet, Image, base_of, delta_name, fresh_main, fresh_size, fresh_state, fresh_forced, main_facts, Held, CreateLeft, CreateReads, CreatesFile, Creates, IsSettled}
+use Rattle.nb_base.proofs.Common.{err_from_is_err_and, is_page_size, fresh, normal_state, Files, World, Fault, Device, Changes, Only, GaveNothing, left_before, rested, composed, Quiet, Image, base_of, delta_name, fresh_main, fresh_size, fresh_state, fresh_forced, main_facts, Held, CreateLeft, CreateReads, CreatesFile, Creates, IsSettled, true≢false}
 use Rattle.std.specs.Result.{IsErrAnd}
 use Rattle.nb_page.specs.Free.{is_free_name}
 use Rattle.nb_base.proofs.FirmLaws.{shows_firm}
@@ -21,10 +21,7 @@ quiet_then_reads old mid name image files quiet = ⊎_elim (λ same. inl (same �
 
 -- a name that is free isn't taken
 pub not_taken : (old new : World) (name : List ℕ) (free : Bool) → free ≡ true → free ≡ is_free_name old.files name → is_free_name old.files name ≡ false → Quiet old new
-not_taken old new name free told is taken = absurd (true_false (sym told ∙ is ∙ taken))
-  where
-    true_false : true ≡ false → ⊥
-    true_false h = cc
+not_taken old new name free told is taken = absurd (true≢false (sym told ∙ is ∙ taken))
 
 -- the device failed
 pub failed : (result : Result ℕ Fault) (old new : World) (name : List ℕ) (image : Image) → IsErrAnd result (λ fault. fault ≡ Device) → Changes old new (Only name) (CreateLeft old name image)

@@ -1,19 +1,13 @@
 -- Drafted entries come into the table, once their slots are written: what a crash leaves meanwhile, and that the files hold what is seen then.
 use Rattle.std.proofs.Common.{◌≡◌, inl, inr, ⊎_elim, ℕ, zero, suc, ◌<◌, ◌≤◌, List, [], ◌∷◌, ◌++◌, length, get_or, take, drop, refl, sym, ap, subst, ◌∙◌, arith, append_assoc, length-append, Bool, false, Option, Some, None, Ok, max}
-use Rattle.nb_base.proofs.Common.{eqb_tells, leb_tells, append-nil, state_of, size_of, page_in, slot_place, stalled_state, File, Files, bytes_of, with_file, World, Leaves, IsDurable, IsStill, IsTimely, Passes, Changes, Only, Moved, left_before, with_file-same, with_file-other, begun, moved_on, left_with, still_more, durable_is, AreEntries, HasTable, slot_page, Waits, Stays, Fronts, FrontStep, HasAll, Image, page_at, first_page, image_size, image_state, Base, delta_name, entry_for, behind_entries, owned, owner, Trail, StandsIn, IsOnTheWay, IsEntering, way_left, enter_left, named, itself_firm, same_pages, owned_length, owned_at, Held, IsOpen, StandsAs, HasPageIn, IsSlotted, GoesIn, none_there, for_here}
+use Rattle.nb_base.proofs.Common.{eqb_tells, leb_tells, append-nil, state_of, size_of, page_in, slot_place, stalled_state, File, Files, bytes_of, with_file, World, Leaves, IsDurable, IsStill, IsTimely, Passes, Changes, Only, Moved, left_before, with_file-same, with_file-other, begun, moved_on, left_with, still_more, durable_is, AreEntries, HasTable, slot_page, Waits, Stays, Fronts, FrontStep, HasAll, Image, page_at, first_page, image_size, image_state, Base, delta_name, entry_for, behind_entries, owned, owner, Trail, StandsIn, IsOnTheWay, IsEntering, way_left, enter_left, named, itself_firm, same_pages, owned_length, owned_at, Held, IsOpen, StandsAs, HasPageIn, IsSlotted, GoesIn, none_there, for_here, some_same, nil_from_length, get_or_past, owned-none}
 use Rattle.nb_model.specs.Owner.{slot_page as owned_slot}
 use Rattle.nb_base.proofs.MergingLaws.{entry_named}
-use Rattle.nb_base.proofs.OwnedLaws.{Holds, holds, shows, base-length, base-page, base-state, base-size, owned-entry, owned-none, entry-front, entry-behind, entry-later, later, slots_stay, some_same}
+use Rattle.nb_base.proofs.OwnedLaws.{Holds, holds, shows, base-length, base-page, base-state, base-size, owned-entry, entry-front, entry-behind, entry-later, later, slots_stay}
 use Rattle.nb_base.proofs.StateLaws.{same_main}
 use Rattle.nb_base.proofs.StepLaws.{delta_moved}
 use Rattle.nb_base.proofs.WriteLaws.{main_apart, delta_apart}
 use Rattle.nb_base.proofs.WrittenLaws.{HasMain}
-
--- no page stands past the end
-page_past : (image : Image) (p : ℕ) → length image ≤ p → page_at image p ≡ []
-page_past [] p past = refl
-page_past (x ∷ xs) zero past = absurd (omega (arith, past))
-page_past (x ∷ xs) (suc p) past = page_past xs p (omega (arith, past))
 
 -- The number after the greatest entry.
 entry_more : (p q : ℕ) (qs : List ℕ) (k : ℕ) → entry_for p qs ≡ Some k → (j : ℕ) × (entry_for p (q ∷ qs) ≡ Some j)
@@ -128,7 +122,7 @@ module _ (w : World) (reads : (n : List ℕ) → Leaves w n (w.files n)) (held :
     either p k e P old new = by (entry_for p table) refl
       where
         by : (x : Option ℕ) → entry_for p table ≡ x → P
-        by (Some j) is = old (is ∙ ap (λ n. Some n) (some_same (sym (entry-front p table front j is) ∙ e)))
+        by (Some j) is = old (is ∙ ap (λ n. Some n) (some_same {X = ℕ} _ _ (sym (entry-front p table front j is) ∙ e)))
         by None is = new (entry-behind p table front k is e)
 
     r_long : length goes.reads.base.image ≡ max (length h.main) (behind_entries f.base.diverted)
@@ -169,7 +163,7 @@ module _ (w : World) (reads : (n : List ℕ) → Leaves w n (w.files n)) (held :
           owned_at (image_size h.main) h.main (bytes_of c) all p (omega (arith, v.1, long)) ∙ owned-none (image_size h.main) h.main (bytes_of c) all p e
           ∙ sym (base-page r m d h p inside ∙ owned-none (image_size h.main) h.main (bytes_of d) r.diverted p (ap (entry_for p) is.diverted ∙ none_front))
           ∙ is.others p none_front
-      | inr v ↦ page_past entered.image p (omega (arith, v.1, long)) ∙ sym (page_past f.base.image p (omega (arith, v.1, goes.behind.long)))
+      | inr v ↦ get_or_past entered.image p [] (omega (arith, v.1, long)) ∙ sym (get_or_past f.base.image p [] (omega (arith, v.1, goes.behind.long)))
     ]
       where
         none_front : entry_for p f.base.diverted ≡ None
@@ -311,10 +305,6 @@ module _ (w : World) (reads : (n : List ℕ) → Leaves w n (w.files n)) (held :
         beside : new.files (delta_name held.name) ≡ w.files (delta_name held.name)
         beside = ap (λ (x : Files). x (delta_name name)) still.files
 
-        empty : (xs : List ℕ) → length xs ≡ 0 → xs ≡ []
-        empty [] e = refl
-        empty (x ∷ xs) e = absurd (omega (arith, e))
-
         no_more : t.base.diverted ≡ f.base.diverted
         no_more =
-            goes.behind.diverted.1 ∙ ap (λ (x : List ℕ). table ++ x) (empty drafts (omega (arith, goes.drafted, no_drafts, ap length goes.behind.diverted.1, length-append table drafts))) ∙ append-nil table
+            goes.behind.diverted.1 ∙ ap (λ (x : List ℕ). table ++ x) (nil_from_length drafts (omega (arith, goes.drafted, no_drafts, ap length goes.behind.diverted.1, length-append table drafts))) ∙ append-nil table

@@ -1,10 +1,10 @@
 -- How many pages a database has without those of zeros at its end.
 use Rattle.std.proofs.Common.{◌≡◌, inl, inr, ℕ, suc, ◌+◌, ◌-◌, ◌<◌, ◌≤◌, List, [], ◌∷◌, length, refl, sym, ap, subst, ◌∙◌, arith, true, false, Some, None, max}
-use Rattle.nb_base.proofs.Common.{true≢false, leb_tells, is_zeros, is_header, IsStill, Files, bytes_of, World, strokes_composed, Quiet, Image, page_at, first_page, image_size, trimmed, delta_name, entry_for, behind_entries, Stroke, Trail, after_stroke, trimming, some_page, main_here, trimmed_front, trimmed_length, trimmed_at, trimmed_zeros, StandsFirm, Held, OfFiles, IsOpen, IsMerged, AreMerged, StrikesFirm, none_there, for_here}
+use Rattle.nb_base.proofs.Common.{true≢false, leb_tells, is_zeros, is_header, IsStill, Files, bytes_of, World, strokes_composed, Quiet, Image, page_at, first_page, image_size, trimmed, delta_name, entry_for, behind_entries, Stroke, Trail, after_stroke, trimming, some_page, main_here, trimmed_front, trimmed_length, trimmed_at, trimmed_zeros, StandsFirm, Held, OfFiles, IsOpen, IsMerged, AreMerged, StrikesFirm, none_there, for_here, owned-none}
 use Rattle.nb_base.proofs.AgreeLaws.{open_seen, seen_open}
 use Rattle.nb_base.proofs.AttachLaws.{last_other}
 use Rattle.nb_base.proofs.MergingLaws.{seen_still, struck_quiet}
-use Rattle.nb_base.proofs.OwnedLaws.{Holds, owned-none, entry-later, later, main-some, base-length, base-page}
+use Rattle.nb_base.proofs.OwnedLaws.{Holds, entry-later, later, main-some, base-length, base-page}
 use Rattle.nb_base.proofs.StrokeLaws.{h0}
 
 -- The image has so many pages or fewer.

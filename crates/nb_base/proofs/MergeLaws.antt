@@ -1,9 +1,9 @@
 -- Once every entry is equal in both files, the main file alone has the image, but for pages of zeros at its end.
 use Rattle.std.proofs.Common.{◌≡◌, ◌≢◌, inl, inr, ℕ, zero, suc, ◌-◌, ◌*◌, ◌<◌, ◌≤◌, List, [], ◌++◌, length, get_or, take, drop, replicate, refl, sym, ap, ◌∙◌, arith, length-append, mul-le-mul_right, suc-mul, true, Option, Some, None}
-use Rattle.nb_base.proofs.Common.{leb_tells, take-append-le, take-append-drop, length-drop, get_or_append_left, get_or-append_right, is_zeros, page_in, slot_place, Files, bytes_of, Page, Image, page_at, image_size, image_in, trimmed, Base, delta_name, entry_for, main_page, owned_page, length-joined, page-joined, all-right, IsLaid, main_here, main_past, all_at, trimmed_alike, all_zeros, Held, IsMerged}
+use Rattle.nb_base.proofs.Common.{leb_tells, take-append-le, take-append-drop, length-drop, get_or_append_left, get_or-append_right, is_zeros, page_in, slot_place, Files, bytes_of, Page, Image, page_at, image_size, image_in, trimmed, Base, delta_name, entry_for, main_page, owned_page, length-joined, page-joined, all-right, IsLaid, main_here, main_past, all_at, trimmed_alike, all_zeros, Held, IsMerged, owned-none}
 use Rattle.nb_delta.proofs.GroupLaws.{page_past}
 use Rattle.nb_model.specs.Owner.{slot_page}
-use Rattle.nb_base.proofs.OwnedLaws.{Holds, owned-entry, owned-none, entry_at, main-some, base-length, base-page}
+use Rattle.nb_base.proofs.OwnedLaws.{Holds, owned-entry, entry_at, main-some, base-length, base-page}
 use Rattle.nb_base.proofs.WrittenLaws.{laid_image}
 
 -- A page of the main file, as its bytes have it.

@@ -1,10 +1,10 @@
 -- Entries that are equal in both files stay so, whatever page is written in the merge state.
 use Rattle.std.proofs.Common.{◌≡◌, ◌≢◌, inl, inr, ℕ, ◌+◌, ◌*◌, ◌<◌, ◌≤◌, List, length, drop, refl, sym, ap, subst, ◌∙◌, arith, IsTrue, nat_eq, Some, None, slice_index}
-use Rattle.nb_base.proofs.Common.{IsDistinct, eqb_tells, is_page_size, page_in, size_facts, merge_state, File, Files, bytes_of, with_file, World, HasTable, SlotPut, slot_page, put_here, table_read, Page, Image, page_at, image_size, image_state, image_in, written_at, delta_name, entry_for, Trail, itself_firm, some_page, main_here, other_page, written_length, Held, IsMerged, AreMerged, IsSeen, IsWrite, with_file-same, with_file-other, none_there}
+use Rattle.nb_base.proofs.Common.{IsDistinct, eqb_tells, is_page_size, page_in, size_facts, merge_state, File, Files, bytes_of, with_file, World, HasTable, SlotPut, slot_page, put_here, table_read, Page, Image, page_at, image_size, image_state, image_in, written_at, delta_name, entry_for, Trail, itself_firm, some_page, main_here, other_page, written_length, Held, IsMerged, AreMerged, IsSeen, IsWrite, with_file-same, with_file-other, none_there, some_same}
 use Rattle.nb_host.specs.Files.{with_page as with_page_at}
 use Rattle.nb_delta.proofs.PageLaws.{put_other}
 use Rattle.nb_base.proofs.WrittenLaws.{HasMain, MayWrite, main_put, laid_image, written_same}
-use Rattle.nb_base.proofs.OwnedLaws.{Holds, holds, base-state, base-size, later, some_same}
+use Rattle.nb_base.proofs.OwnedLaws.{Holds, holds, base-state, base-size, later}
 use Rattle.nb_base.proofs.StepLaws.{may}
 use Rattle.nb_base.proofs.WriteLaws.{delta_apart, main_apart}
 use Rattle.nb_base.proofs.MergingLaws.{entry_named}
@@ -85,7 +85,7 @@ module _ (old new : World) (held : Held) (t : Trail) (p : ℕ) (bytes : Page) (i
   pub both_merged : (i : ℕ) → entry_for p held.entries ≡ Some i → SlotPut held.page_size i bytes (old.files (delta_name held.name)) (new.files (delta_name held.name)) → (k : ℕ) → AreMerged old held k → AreMerged new held k
   both_merged i at slot k merged j low inside = elim (eqb_tells (slice_index held.entries j) p) [
     | inl w ↦
-        let same : j ≡ i = some_same (sym (entry_named held.entries j apart inside) ∙ ap (λ n. entry_for n held.entries) w.1 ∙ at) in
+        let same : j ≡ i = some_same {X = ℕ} _ _ (sym (entry_named held.entries j apart inside) ∙ ap (λ n. entry_for n held.entries) w.1 ∙ at) in
         own_merged held old.files new.files h.main p bytes h.has (may t p bytes is t.base (itself_firm t) (old.files held.name) (old.files (delta_name held.name)) h) size_is put j w.1
         (ap (slot_page held.page_size (new.files (delta_name held.name))) same ∙ slot.slot)
     | inr w ↦

@@ -1,6 +1,6 @@
 -- Opening a database: its two files are those that were read, or the refusal is the one of their owner.
 use Rattle.std.proofs.Common.{◌≡◌, ◌≢◌, inl, inr, ℕ, zero, suc, ◌<◌, List, [], length, refl, sym, ap, subst, ◌∙◌, arith, true, false, ◌==◌, Some, None, Result, Ok, Err, IsErr, IsErrAnd, max}
-use Rattle.nb_base.proofs.Common.{eqb_tells, state_of, size_of, table_of, normal_state, stalled_state, File, Files, bytes_of, World, LeavesAll, IsDurable, Fault, Refused, Device, Memory, Refusal, NoFile, BadDelta, durable_is, Known, HasTable, Image, image_size, image_state, image_in, is_forced, Base, Cause, not_database, delta_name, owned, behind_entries, owner_with, owner_in, owner, ShowsIn, settled, laid, owner-none, owner-formed, owner-refused, Start, Tested, main_cause, IsStart, AttachesFor, Held, Agrees, IsOpen, IsAttached, Attaches, first_of, some_page}
+use Rattle.nb_base.proofs.Common.{eqb_tells, state_of, size_of, table_of, normal_state, stalled_state, File, Files, bytes_of, World, LeavesAll, IsDurable, Fault, Refused, Device, Memory, Refusal, NoFile, BadDelta, durable_is, Known, HasTable, Image, image_size, image_state, image_in, is_forced, Base, Cause, not_database, delta_name, owned, behind_entries, owner_with, owner_in, owner, ShowsIn, settled, laid, owner-none, owner-formed, owner-refused, Start, Tested, main_cause, IsStart, AttachesFor, Held, Agrees, IsOpen, IsAttached, Attaches, first_of, some_page, some_same}
 use Rattle.nb_base.proofs.FirmLaws.{shows_firm}
 use Rattle.nb_base.proofs.AttachLaws.{start_broken, start_rest}
 use Rattle.nb_base.proofs.OwnedLaws.{Holds, owned-alone, frozen_in, bytes-state, bytes-size, shows, base-header, base-state, base-size, base-length}
@@ -19,15 +19,12 @@ holds_whatever b m d e h normal = record {
   frozen = h.frozen;
 }
 
-some_same : {a b : Refusal} → Some a ≡ Some b → a ≡ b
-some_same e = cc
-
 main_refused : (name : List ℕ) (m d : File) (r : Refusal) → main_cause name m ≡ Some r → owner name m d ≡ Err r
-main_refused name None d r e = owner-none name d ∙ ap (λ (x : Refusal). Err x) (some_same e)
+main_refused name None d r e = owner-none name d ∙ ap (λ (x : Refusal). Err x) (some_same {X = Refusal} _ _ e)
 main_refused name (Some bytes) d r e = by (not_database bytes) refl
   where
     by : (cause : Cause) → not_database bytes ≡ cause → owner name (Some bytes) d ≡ Err r
-    by (Some q) is = owner-refused name bytes d q is ∙ ap (λ (x : Refusal). Err x) (some_same (sym (start_broken bytes q is) ∙ e))
+    by (Some q) is = owner-refused name bytes d q is ∙ ap (λ (x : Refusal). Err x) (some_same {X = Refusal} _ _ (sym (start_broken bytes q is) ∙ e))
     by None is =
         let rest = start_rest bytes r is e in
         owner-formed name bytes d is ∙ ap (λ n. owner_in n name bytes d) rest.0 ∙ owner_applying name bytes d ∙ ap (λ (x : Refusal). Err x) (sym rest.1)

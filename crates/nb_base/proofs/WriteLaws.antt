@@ -1,10 +1,10 @@
 -- A page is written: what a crash leaves at each moment, and what is seen once the call has answered Ok.
 use Rattle.std.proofs.Common.{◌≡◌, ◌≢◌, ◌⊎◌, inl, inr, ⊎_elim, ℕ, zero, suc, ◌*◌, ◌<◌, ◌≤◌, List, [], ◌∷◌, length, refl, sym, ap, subst, ◌∙◌, arith, length-append, Bool, true, false, IsTrue, Some, None, Result, Ok, Err, IsErr, OnOk}
-use Rattle.nb_base.proofs.Common.{normal_state, stalled_state, merge_state, File, Files, with_file, World, Leaves, IsDurable, Untouched, WritesPage, IsStill, IsTimely, Passes, Only, Changes, Moved, Reached, left_before, with_file-same, with_file-other, all_before, begun, left_with, moved_on, page_more, durable_is, HasTable, SlotStep, SlotPut, Adds, AddStep, Page, image_size, image_state, Base, Stroke, page, delta_name, entry_for, owner, Trail, after_stroke, ShowsIn, must_sync, StandsFirmOn, StandsFirm, OfFiles, IsSeen, IsWrite, StrikesFirm, TakesFirm, place_of, trail_base, none_there, for_nothing}
+use Rattle.nb_base.proofs.Common.{normal_state, stalled_state, merge_state, File, Files, with_file, World, Leaves, IsDurable, Untouched, WritesPage, IsStill, IsTimely, Passes, Only, Changes, Moved, Reached, left_before, with_file-same, with_file-other, all_before, begun, left_with, moved_on, page_more, durable_is, HasTable, SlotStep, SlotPut, Adds, AddStep, Page, image_size, image_state, Base, Stroke, page, delta_name, entry_for, owner, Trail, after_stroke, ShowsIn, must_sync, StandsFirmOn, StandsFirm, OfFiles, IsSeen, IsWrite, StrikesFirm, TakesFirm, place_of, trail_base, none_there, for_nothing, no_err, stroke-diverted}
 use Rattle.nb_host.specs.Files.{with_page as with_page_at}
 use Rattle.nb_host.specs.Names.{delta_suffix}
 use Rattle.nb_base.proofs.OwnedLaws.{Holds, holds, base-state, base-size}
-use Rattle.nb_base.proofs.LeftLaws.{later_state, stroke-other}
+use Rattle.nb_base.proofs.LeftLaws.{later_state}
 use Rattle.nb_base.proofs.PlaceLaws.{place-entry}
 use Rattle.nb_base.proofs.OutcomeLaws.{stands_stays, stands_main, stands_main_put, shows_main_put, all_entries, stands_slot, stands_slot_put, shows_slot_put, stands_add, stands_added, shows_added}
 
@@ -14,9 +14,6 @@ delta_apart name same = absurd (omega (arith, length-append name delta_suffix, a
 
 pub main_apart : (name : List ℕ) → name ≢ delta_name name
 main_apart name same = delta_apart name (sym same)
-
-no_err : (T E : Type 0) (x : T) → IsErr {T = T} {E = E} (Ok x) → ⊥
-no_err T E x h = cc
 
 -- nothing is said of what stands at Ok where the answer is none
 pub not_done : {T E : Type 0} (result : Result T E) (X : Type 0) → IsErr result → OnOk result X
@@ -221,7 +218,7 @@ module _ (t : Trail) (p : ℕ) (bytes : Page) where
   merges_later is merges = later_state t p bytes is.fits ∙ merges
 
   pub entry_later : image_state t.base.image ≡ merge_state → (k : ℕ) → entry_for p t.base.diverted ≡ Some k → entry_for p (after_stroke (page p bytes) t).base.diverted ≡ Some k
-  entry_later merges k at = ap (λ (b : Base). entry_for p b.diverted) (trail_base (page p bytes) t) ∙ ap (entry_for p) (stroke-other t.base p bytes (λ e. absurd (omega (arith, e, merges)))) ∙ at
+  entry_later merges k at = ap (λ (b : Base). entry_for p b.diverted) (trail_base (page p bytes) t) ∙ ap (entry_for p) (stroke-diverted t.base p bytes (λ e. absurd (omega (arith, e, merges)))) ∙ at
 
 -- What a call took, passed on as a failure, and from a world that is the same.
 pub takes_passed : {T E U F : Type 0} (result : Result T E) (passed : Result U F) (old mid new : World) (name : List ℕ) (opened other : Trail → Type 0) (t : Trail) (strokes : List Stroke)

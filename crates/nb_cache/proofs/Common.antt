@@ -6,7 +6,7 @@ pub use Rattle.nb_cache.specs.Held.{GoesFirst, Held, IsNext, IsNoLater, NoneWait
 pub use Rattle.nb_cache.specs.Index.{Finds, IsIndexed, holder, left_in, places, room_of}
 pub use Rattle.nb_cache.specs.declared.frames.Frame.{Frame}
 pub use Rattle.nb_cache.specs.declared.index.Index.{Index}
-pub use Rattle.nb_host.proofs.PlainLaws.{some_same}
+pub use Rattle.nb_host.proofs.PlainLaws.{all_append, all_parts, some_same}
 pub use Rattle.std.proofs.Math.Seq.{take-append-add}
 pub use Rattle.std.proofs.lemmas.Bool.{cases_eq, cases_lt, eq-eqb, eqb-false, ne_eqb}
 pub use Rattle.std.proofs.lemmas.List.{append-nil, length-take-le, map-append, take-append-drop, take-append-le, take-map, take-take, take_all}

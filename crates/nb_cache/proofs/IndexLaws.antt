@@ -59,20 +59,14 @@ module _ (index : Index) (es : Frames) (held page : ℕ) (finds : Finds index (p
       let only : AllByRecursion (λ e. nat_eq key e.0 ≡ false) a.before = misses_before es a.before key a.frame (a.behind ++ rest) parts distinct in
       let size : length (take held es) ≡ length a.before + suc (length a.behind) = ap length a.parts ∙ length-append a.before (x ∷ a.behind) in
       let here : (y : ℕ × Frame) → Contains a.before y → Contains (take held es) y =
-      λ y c. subst (λ (l : Frames). Contains l y) (sym a.parts) (contains_left a.before (x ∷ a.behind) y c) in record {
+      λ y c. subst (λ (l : Frames). Contains l y) (sym a.parts) (Contains-append_left a.before (x ∷ a.behind) y c) in record {
         split = record { before = a.before; frame = a.frame; behind = a.behind ++ rest; parts = parts; only = only };
         inside = omega (arith, length-take-le held es within);
         holds = a.holds;
         first = all_from (λ e. nat_eq page e.1.page ≡ false) a.before (λ y c. ne_eqb page y.1.page (λ same.
             let again : holder index page ≡ Some y.0 = ap (holder index) same ∙ finds.each y.1.page y.0 (place_of (take held es) y (here y c)) in
             eqb-false key y.0 (all_at (λ e. nat_eq key e.0 ≡ false) a.before y only c) (some_same key y.0 (sym some ∙ again))));
-      } where
-        contains_left : (xs ys : Frames) (y : ℕ × Frame) → Contains xs y → Contains (xs ++ ys) y
-        contains_left [] ys y c = absurd (Contains-nil y c)
-        contains_left (z ∷ xs) ys y c = elim (Contains-cons z xs y c) [
-          | inl same ↦ subst (λ (w : ℕ × Frame). Contains (w ∷ (xs ++ ys)) y) (sym same) (Contains-head y (xs ++ ys))
-          | inr on ↦ Contains-tail z (xs ++ ys) y (contains_left xs ys y on)
-        ]
+      }
 
 -- no frame holds the page, so it has no place
 pub no-place : (page : ℕ) (es : Frames) → NoneHolds page es → (key : ℕ) → Contains (places es) (page, key) → ⊥

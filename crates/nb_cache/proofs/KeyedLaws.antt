@@ -47,15 +47,6 @@ module _ {K V : Type 0} (test : K → Bool) where
         let l : List (K × V) = before ++ x ∷ behind in
         ap (λ o. option_map_or (λ e. remove_entry test l ++ e ∷ []) o l) (lookup_entry-at before none) ∙ ap (λ r. r ++ x ∷ []) (remove_entry-at before none)
 
--- two lists, and both as one
-pub All-parts : {X : Type 0} (P : X → Type 0) (xs ys : List X) → AllByRecursion P (xs ++ ys) → AllByRecursion P xs × AllByRecursion P ys
-All-parts P [] ys all = (tt, all)
-All-parts P (x ∷ xs) ys all = let rest = All-parts P xs ys all.1 in ((all.0, rest.0), rest.1)
-
-pub All-join : {X : Type 0} (P : X → Type 0) (xs ys : List X) → AllByRecursion P xs → AllByRecursion P ys → AllByRecursion P (xs ++ ys)
-All-join P [] ys front back = back
-All-join P (x ∷ xs) ys front back = (front.0, All-join P xs ys front.1 back)
-
 -- one more at the end
 pub All-snoc : {X : Type 0} (P : X → Type 0) (xs : List X) (x : X) → AllByRecursion P xs → P x → AllByRecursion P (xs ++ x ∷ [])
 All-snoc P [] x all one = (one, tt)

@@ -14,9 +14,9 @@ pub use Rattle.nb_catalog.specs.Reads.{all_reads}
 unfoldable pub use Rattle.nb_catalog.specs.Turns.{planned}
 pub use Rattle.nb_catalog.specs.Turns.{names_in}
 pub use Rattle.nb_catalog.specs.declared.entry.Entry.{Entry}
-pub use Rattle.nb_chain.proofs.AnswerLaws.{passed}
 pub use Rattle.nb_chain.specs.Level.{IsWhole, WholeSays}
-pub use Rattle.nb_host.proofs.PlainLaws.{not_true, or_false, or_true}
+pub use Rattle.nb_host.proofs.FileLaws.{passed}
+pub use Rattle.nb_host.proofs.PlainLaws.{err_not_ok, err_ok, not_true, ok_equal, or_false, or_true, some_same}
 pub use Rattle.nb_host.specs.Files.{File, Files, bytes_of}
 pub use Rattle.nb_host.specs.Names.{same_name}
 pub use Rattle.nb_host.specs.declared.faults.Fault.{Fault}
@@ -35,7 +35,7 @@ pub use Rattle.nb_script.specs.Lines.{left}
 pub use Rattle.nb_script.specs.Scripts.{Numbered}
 pub use Rattle.nb_script.specs.Words.{Bytes}
 pub use Rattle.std.proofs.lemmas.Bool.{and_parts, cases_Bool, cases_lt, cond-false, cond-true, eqb-true, leb-true, true≢false}
-pub use Rattle.std.proofs.lemmas.List.{append-nil, at_drop_all, at_drop_more, get_or-map, get_or_append_left, length-map, map-append, take-take, take_more}
+pub use Rattle.std.proofs.lemmas.List.{append-nil, at_drop_all, at_drop_more, get_or-map, get_or_append_left, length-map, map-append, take-take}
 pub use Rattle.std.proofs.lemmas.List.Quantifiers.{position-Some}
 pub use Rattle.std.proofs.lemmas.List.Sums.{sum_by-cons, sum_by-drop_more}
 pub use Rattle.std.specs.List.{AllByRecursion, list_any, slice_index_or}

@@ -1,15 +1,10 @@
 -- What the answers of the calls below say of a file of a chain.
-use Rattle.std.proofs.Common.{◌≡◌, inl, inr, ℕ, ◌+◌, ◌*◌, ◌≤◌, List, [], length, refl, sym, ap, subst, ◌∙◌, arith, true, false, ◌==◌, Some, None, Result, Ok, Err, IsErr, IsErrAnd, IfOk}
+use Rattle.std.proofs.Common.{◌≡◌, inl, inr, ℕ, ◌+◌, ◌*◌, ◌≤◌, List, [], length, refl, sym, ap, subst, ◌∙◌, arith, true, false, ◌==◌, Some, None, Result, Ok, Err, IfOk}
 use Rattle.nb_chain.proofs.Common.{cases_Bool, number_in, signature, File, Fault, Refused, Device, Memory, Refusal, BadLevel, ChainLevel, header_in, Head, Contents, begins_level, read_level, not_whole, not_behind, level_link, first_link, First, Mark, Tip, FirstSays, FirstRefused, IsRefused, Tested, WholeSays, LevelSays, LevelRefused, IsRead, NextSays, NextRefused, IsNext, tip_link}
 use Rattle.nb_level.specs.Heads.{head_of}
 use Rattle.nb_level.specs.declared.head.LevelHead.{LevelHead}
 use Rattle.nb_chain.proofs.StartLaws.{first_whole, first_parted, first_unread, first_level, next_signed, next_other, next_unread, next_refused, next_accepted}
 use Rattle.nb_host.proofs.PlainLaws.{some_same}
-
--- a fault that is passed on
-pub passed : (T : Type 0) (P : Result T Fault → Type 0) (result : Result T Fault) (fault : Fault) → IsErr result × IsErrAnd result (λ f. f ≡ fault) → P (Err fault) → P result
-passed T P (Ok value) fault is here = absurd is.1
-passed T P (Err e) fault is here = subst (λ (f : Fault). P (Err f)) (sym is.1) here
 
 pub whatever : (T : Type 0) (P : Type 0) (result : Result T Fault) → P → IfOk result (λ value. P)
 whatever T P (Ok value) here = here

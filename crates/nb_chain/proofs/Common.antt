@@ -15,6 +15,7 @@ pub use Rattle.nb_fields.specs.Bytes.{is_zeros, part}
 unfoldable pub use Rattle.nb_fields.specs.Header.{is_header}
 pub use Rattle.nb_fields.specs.Header.{guid_of, scn_of, signature, size_of, state_of}
 pub use Rattle.nb_fields.specs.Places.{is_page_size, most_pages}
+pub use Rattle.nb_host.proofs.FileLaws.{passed}
 pub use Rattle.nb_host.specs.Files.{File, Files, bytes_of}
 pub use Rattle.nb_host.specs.declared.faults.Fault.{Fault}
 pub use Rattle.nb_host.specs.declared.faults.Fault.TheVariants.{Device, Memory, Refused}

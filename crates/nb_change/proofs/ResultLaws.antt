@@ -7,10 +7,6 @@ pub whole_on_ok : {T E X : Type 0} (result : Result T E) (before done after : X)
 whole_on_ok (Ok x) before done after is = is
 whole_on_ok (Err e) before done after is = tt
 
-pub on_ok : {T E P : Type 0} (result : Result T E) → P → OnOk result P
-on_ok (Ok x) p = p
-on_ok (Err e) p = tt
-
 pub on_ok_then : {T E P Q : Type 0} (result : Result T E) → (P → Q) → OnOk result P → OnOk result Q
 on_ok_then (Ok x) f p = f p
 on_ok_then (Err e) f p = tt

@@ -18,7 +18,7 @@ pub use Rattle.nb_fields.specs.Page.{kind_of, stamp_of}
 pub use Rattle.nb_fields.specs.Payloads.{bit_of, entry_of}
 unfoldable pub use Rattle.nb_fields.specs.Places.{is_inventory_place, is_scn_place, is_system_place}
 pub use Rattle.nb_fields.specs.Places.{bits_in, entries_in, inventory_place, is_page_size, most_pages, scn_place}
-pub use Rattle.nb_host.proofs.PlainLaws.{le_yes, never, none_some, not_false, some_none}
+pub use Rattle.nb_host.proofs.PlainLaws.{all_both, all_go, first_twice, head_same, le_yes, never, nil_cons, none_some, not_both, not_false, or_assoc, or_false, or_true, some_none, tail_same}
 pub use Rattle.nb_host.specs.World.{World}
 pub use Rattle.nb_host.specs.declared.faults.Fault.{Fault}
 pub use Rattle.nb_host.specs.declared.faults.Fault.TheVariants.{Memory}
@@ -27,10 +27,11 @@ pub use Rattle.nb_host.specs.declared.refusals.Refusal.TheVariants.{Access, Unso
 pub use Rattle.nb_model.proofs.Along.{Along, along_append, along_front, put_along}
 pub use Rattle.nb_model.proofs.BitSound.{bit_put}
 pub use Rattle.nb_model.proofs.DraftLaws.{drafted_is, drafts_are, set_bit_keeps}
+pub use Rattle.nb_model.proofs.DropTurns.{given_none}
 pub use Rattle.nb_model.proofs.FitLaws.{Fits, IsWhole, fits_first}
 pub use Rattle.nb_model.proofs.LeakTurns.{given_first, leaked_plain, leaked_two}
 pub use Rattle.nb_model.proofs.PutSound.{IsPlace, Raises, header_whole, is_raised, no_first}
-pub use Rattle.nb_model.proofs.ReadLaws.{and_no_right, eq_no, eq_yes, le_no, lt_no, lt_yes}
+pub use Rattle.nb_model.proofs.ReadLaws.{eq_no, eq_yes, le_no, lt_no, lt_yes}
 pub use Rattle.nb_model.proofs.RoomLaws.{first_found, in_chain, old_there, pages_found}
 pub use Rattle.nb_model.proofs.RoundLaws.{AnyPage, bit_by, kind_found, no_place, put_here, put_inventory, put_long, raises}
 pub use Rattle.nb_model.proofs.SoundLaws.{all_at, all_from, inventory_place_some, inventory_there, scn_page_there}
@@ -63,6 +64,7 @@ pub use Rattle.nb_model.specs.declared.fact.Fact.{Fact}
 pub use Rattle.nb_model.specs.declared.fact.Fact.TheVariants.{BlankPage, HeaderStamp, LateStamp, SystemPlace, TakenPast, WrongEntry}
 pub use Rattle.nb_model.specs.declared.reply.Reply.TheVariants.{Freed, Leaked, Refused}
 pub use Rattle.nb_page.proofs.QuietLaws.{quiet_begun, quiet_joined}
+pub use Rattle.nb_page.proofs.StampLaws.{stamp_in}
 unfoldable pub use Rattle.nb_page.specs.Head.{head_in}
 pub use Rattle.nb_page.specs.Quiet.{Quiet}
 pub use Rattle.nb_page.specs.declared.page.PageHead.{PageHead}
@@ -75,7 +77,7 @@ pub use Rattle.nb_walk.proofs.SlotLaws.{slot_inside, slots_step}
 pub use Rattle.nb_walk.proofs.WalkLaws.{Walks, so, walks_all, walks_broken, walks_first, walks_length, walks_next, walks_none, walks_over, walks_split}
 pub use Rattle.nb_walk.specs.Walks.{chain_by, not_linked}
 pub use Rattle.std.proofs.Math.Nat.{lt-div-mul-add, mod-lt, mul_assoc}
-pub use Rattle.std.proofs.lemmas.Bool.{and_from, and_left, and_parts, cases_Bool, cases_eq, cases_lt, eqb-true, false_from_ne_true, leb-false, leb-true, ltb-false, ltb-true, not_from_false, or_cases, or_parts, or_right, true≢false}
+pub use Rattle.std.proofs.lemmas.Bool.{and_from, and_left, and_parts, and_right, cases_Bool, cases_eq, cases_lt, eqb-true, false_from_ne_true, leb-false, leb-true, ltb-false, ltb-true, not_from_false, or_cases, or_parts, or_right, true≢false}
 pub use Rattle.std.proofs.lemmas.Bool.Decides.{eqb_tells}
 pub use Rattle.std.proofs.lemmas.List.{append-nil, get_or-replicate, get_or-set_other, get_or-set_same, get_or_past, length-replicate}
 pub use Rattle.std.proofs.lemmas.List.Folds.{list_any-append}

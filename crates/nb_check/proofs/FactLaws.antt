@@ -144,10 +144,6 @@ pub kind_in : (page : Page) → (head_in page).kind ≡ kind_of page
 unfolding head_in
 kind_in page = refl
 
-pub stamp_in : (page : Page) → (head_in page).scn ≡ stamp_of page
-unfolding head_in
-stamp_in page = refl
-
 pub used_is : (image : Image) (size p : ℕ) (map : Page) → size ≡ image_size image → map ≡ page_at image (inventory_of image p) → length map ≡ size → p % bits_in size < bits_in size
     → (used : Bool) → (IsTrue used ↔ (get_or (bits map) (p % bits_in size) 0 ≡ 0)) → used ≡ not (is_free_page image p)
 unfolding is_free_page

@@ -1,6 +1,6 @@
 -- Leaked pages are given back one after the other, in rising order.
 use Rattle.std.proofs.Common.{◌≡◌, ℕ, zero, suc, ◌+◌, ◌-◌, ◌*◌, ◌<◌, ◌≤◌, List, [], ◌∷◌, ◌++◌, length, refl, sym, ap, subst, append_assoc, ◌∙◌, arith, Bool, true, false, cond, None, Result, Ok, Err, IfErr}
-use Rattle.nb_check.proofs.Common.{filter, range_with_len, append-nil, is_system_place, World, Fault, Quiet, base_of, Draft, drafted, give_page, Image, image_size, HasHeader, IsSoundImage, Stroke, all_given, Trail, after_stroke, drafted_is, drafts_are, set_bit_keeps, IsWhole, fits_first, leaked_plain, leaked_two, given_first, bit_put, header_whole, AnyPage, bit_inventory, bit_longer, bit_size, after_strokes, IsNoRefusal, Held, IsOpen, Makes, Tested, makes_none, makes_then, makes_front, mark_cause, Tries, sure_of, tries_made, is_leaked, leaked}
+use Rattle.nb_check.proofs.Common.{filter, range_with_len, append-nil, is_system_place, World, Fault, Quiet, base_of, Draft, drafted, give_page, Image, image_size, HasHeader, IsSoundImage, Stroke, all_given, Trail, after_stroke, drafted_is, drafts_are, set_bit_keeps, IsWhole, fits_first, leaked_plain, leaked_two, given_first, bit_put, header_whole, AnyPage, bit_inventory, bit_longer, bit_size, after_strokes, IsNoRefusal, Held, IsOpen, Makes, Tested, makes_none, makes_then, makes_front, mark_cause, Tries, sure_of, tries_made, is_leaked, leaked, given_none}
 use Rattle.nb_change.proofs.ReachedLaws.{after_all-joined}
 use Rattle.nb_model.proofs.DraftLaws.{IsOf}
 use Rattle.nb_alloc.proofs.MakeLaws.{mark_none}
@@ -39,10 +39,6 @@ passed_reads image n now all low fails so_far =
     let same : leaked_from image n ≡ leaked_from image (n + 1) = leaked_step image n low ∙ ap (λ (t : Bool). cond t (n ∷ leaked_from image (n + 1)) (leaked_from image (n + 1))) fails in
     let many : length (leaked_from image n) ≡ length (leaked_from image (n + 1)) = ap length same in
     omega (arith, so_far, many)
-
-pub given_none : (z : Image) → (all_given [] (drafted z)).strokes ≡ []
-unfolding all_given
-given_none z = refl
 
 -- The leaked pages below a number were given back, those from it on are still to come.
 pub record IsGiving (old now : World) (a b : Held) (t : Trail) (number : ℕ) : Type 0 where

@@ -1,6 +1,6 @@
 -- The chains of the tables that the catalogue names, slot by slot and page by page.
 use Rattle.std.proofs.Common.{◌≡◌, ℕ, ◌+◌, ◌-◌, ◌*◌, ◌/◌, ◌<◌, ◌≤◌, List, [], ◌∷◌, ◌++◌, length, refl, sym, ap, subst, ◌∙◌, arith, append_assoc, length-append, Bool, true, false, Some, None}
-use Rattle.nb_check.proofs.Common.{append-nil, part, Refusal, Page, Image, page_at, Cause, first_cause, broken_at, Chain, Catalogue, History, RowsFrom, Slot, Spot, is_used, first_in, slots_from, slots_in, spots_on, spots_of, spots, pages_of, found_pages, used, table_chains, chains, pages_of_all, reached, slots_step, IsWithout, chains_cause, chains_on, none_some}
+use Rattle.nb_check.proofs.Common.{append-nil, part, Refusal, Page, Image, page_at, Cause, first_cause, broken_at, Chain, Catalogue, History, RowsFrom, Slot, Spot, is_used, first_in, slots_from, slots_in, spots_on, spots_of, spots, pages_of, found_pages, used, table_chains, chains, pages_of_all, reached, slots_step, IsWithout, chains_cause, chains_on, none_some, some_none}
 use Rattle.nb_check.proofs.SetLaws.{without_none, without_both}
 use Rattle.nb_model.proofs.GrowthTurns.{spots_both}
 
@@ -78,9 +78,6 @@ pub cause_behind : (image : Image) (cs ds : List Chain) → chains_cause image c
 cause_behind image [] ds none = refl
 cause_behind image (c ∷ cs) ds none = by (broken_at (pages_of c image)) refl (cause_behind image cs ds)
   where
-    some_none : (r : Refusal) → ◌≡◌ {A = Cause} (Some r) None → ⊥
-    some_none r e = cc
-
     by : (o : Cause) → broken_at (pages_of c image) ≡ o → (chains_cause image cs ≡ None → chains_cause image (cs ++ ds) ≡ chains_cause image ds) → chains_cause image ((c ∷ cs) ++ ds) ≡ chains_cause image ds
     by (Some r) e rest = absurd (some_none r (sym (cause_first image c cs ∙ ap (λ (o : Cause). or_else o (chains_cause image cs)) e) ∙ none))
     by None e rest =

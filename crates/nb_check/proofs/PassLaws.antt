@@ -1,5 +1,5 @@
 -- A pass goes on by one page.
-use Rattle.std.proofs.Common.{◌≡◌, inl, inr, ℕ, zero, suc, ◌+◌, ◌-◌, ◌*◌, ◌/◌, ◌%◌, ◌<◌, ◌≤◌, refl, sym, ap, subst, ◌∙◌, arith, IsTrue, Bool, true, false, Option, Some, None, ◌⊎◌, ◌==◌, min}
+use Rattle.std.proofs.Common.{◌≡◌, inl, inr, ℕ, zero, suc, ◌+◌, ◌-◌, ◌*◌, ◌/◌, ◌%◌, ◌<◌, ◌≤◌, refl, sym, ap, subst, ◌∙◌, arith, IsTrue, Bool, true, false, Option, Some, None, ◌⊎◌, ◌==◌}
 use Rattle.nb_check.proofs.Common.{mod-lt, div-mul-add, mod-mul-add, div-add-mod', and_parts, or_cases, or_parts, or_right, and_from, true≢false, cases_lt, ltb-true, eqb-true, is_page_size, bits_in, entries_in, inventory_place, scn_place, is_inventory_place, is_scn_place, entries-least, bits-least, Page, Image, page_at, image_size, eq_yes, lt_yes, Fact, Broken, breaks, number_of, IsLowestAt, IsFirstBelow, IsMapOf, HasEntryOf}
 
 pub below_more : (p n : ℕ) → p < n + 1 → (p < n) ⊎ (p ≡ n)
@@ -204,8 +204,3 @@ first_map_is size valid = ap (inventory_place size) (zero_group (bits_in size) (
 
 pub first_entries_are : (size : ℕ) → IsTrue (is_page_size size) → scn_place size (0 / entries_in size) ≡ 2
 first_entries_are size valid = ap (scn_place size) (zero_group (entries_in size) (let least = entries-least size valid in omega (arith, least)))
-
--- Each page took one read at most, page 0 two.
-pub page_read : (old loop new number : ℕ) → (0 < number → new ≤ loop + 1) → new ≤ loop + 2 → loop ≤ old + number + min number 1 → new ≤ old + (number + 1) + min (number + 1) 1
-page_read old loop new zero once twice so_far = omega (arith, twice, so_far)
-page_read old loop new (suc n) once twice so_far = (let one : new ≤ loop + 1 = once (omega arith) in omega (arith, one, so_far))

@@ -1,6 +1,6 @@
 -- The turns of a backup: the file alone is touched, and then the two files of the database.
 use Rattle.std.proofs.Common.{◌≡◌, ◌≢◌, ◌<◌, ◌⊎◌, inl, inr, ⊎_elim, ℕ, List, [], ◌∷◌, ◌++◌, length, drop, refl, sym, ap, subst, ◌∙◌, arith, length-append, drop_at, None, Some, Result, Ok, Err, OnOk, Option}
-use Rattle.nb_copy.proofs.Common.{stalled_state, File, Files, with_file, World, Leaves, LeavesAll, IsStill, IsTimely, Passes, Fault, Device, Changes, Only, Reached, Remade, GaveNothing, left_before, still_alone, with_file-other, left_with, weakened, composed_within, on_ok, Base, close_backup, backup_slot, put_slot, drafted, HasItsEntry, Image, file_of, count_in, Backing, Seen, next_time, delta_name, Stroke, Trail, StandsIn, StandsOn, after_stroke, OfFiles, Strikes, after_strokes, Held, IsOpen, name_of, open_beside, WhereEnded, unless_by, still_struck, struck_front, unless_none, write_cause, Tries, sure_of, IsKept, IsUnfinishedOr, FileCopy, Pages, file_name, file_count, file_next, file_written, whole_file, whole_count, IsFileCopying, IsSameFile, Backed, IsBackingUp, OfBackup, GaveTimeAtMost, CloseLeft, Closes, BackupTurn, asked_scn, earlier_scn, page_reads}
+use Rattle.nb_copy.proofs.Common.{stalled_state, File, Files, with_file, World, Leaves, LeavesAll, IsStill, IsTimely, Passes, Fault, Device, Changes, Only, Reached, Remade, GaveNothing, left_before, still_alone, with_file-other, left_with, weakened, composed_within, Base, close_backup, backup_slot, put_slot, drafted, HasItsEntry, Image, file_of, count_in, Backing, Seen, next_time, delta_name, Stroke, Trail, StandsIn, StandsOn, after_stroke, OfFiles, Strikes, after_strokes, Held, IsOpen, name_of, open_beside, WhereEnded, unless_by, still_struck, struck_front, unless_none, write_cause, Tries, sure_of, IsKept, IsUnfinishedOr, FileCopy, Pages, file_name, file_count, file_next, file_written, whole_file, whole_count, IsFileCopying, IsSameFile, Backed, IsBackingUp, OfBackup, GaveTimeAtMost, CloseLeft, Closes, BackupTurn, asked_scn, earlier_scn, page_reads, on_ok}
 use Rattle.nb_change.proofs.SettledLaws.{durable_is, durable_other}
 use Rattle.nb_state.specs.declared.turns.Progress.TheVariants.{More, Finished}
 use Rattle.nb_engine.proofs.LinkLaws.{write_low}

@@ -1,5 +1,5 @@
 -- The definitions that the proofs of this crate speak in, and the laws of other crates that they cite, passed on from one place. Declares nothing.
-pub use Rattle.nb_alloc.proofs.CauseLaws.{one_cause, told_some, unless_allowed, unless_refused}
+pub use Rattle.nb_alloc.proofs.CauseLaws.{told_some, unless_allowed, unless_refused}
 pub use Rattle.nb_alloc.proofs.DoesLaws.{sure_of, tested_on, tries_after, tries_opened, tries_passed, unless_some}
 pub use Rattle.nb_alloc.proofs.PutLaws.{other-with}
 pub use Rattle.nb_alloc.proofs.RaiseLaws.{entry-is, scn_page-is}
@@ -15,7 +15,7 @@ pub use Rattle.nb_change.proofs.MomentLaws.{left_before}
 pub use Rattle.nb_change.proofs.MovedLaws.{remade_begun, remade_weaker}
 pub use Rattle.nb_change.proofs.NameLaws.{with_file-other, with_file-same}
 pub use Rattle.nb_change.proofs.ReachedLaws.{after_all-joined, reached_back, reached_first, reached_front}
-pub use Rattle.nb_change.proofs.ResultLaws.{on_ok, passed_on}
+pub use Rattle.nb_change.proofs.ResultLaws.{passed_on}
 pub use Rattle.nb_change.specs.Changes.{Changes, Names, Only, Other, Reached, Remade}
 pub use Rattle.nb_change.specs.Gave.{GaveNothing}
 pub use Rattle.nb_copy.specs.Closing.{BackupTurn, CloseLeft, Closes, GaveTimeAtMost, OfBackup}
@@ -39,6 +39,7 @@ pub use Rattle.nb_engine.specs.Tries.{Tries}
 pub use Rattle.nb_engine.specs.Turns.{Starts, starting_cause}
 pub use Rattle.nb_engine.specs.declared.rows.HistoryRow.{HistoryRow}
 pub use Rattle.nb_fields.proofs.SizeLaws.{size_facts}
+pub use Rattle.nb_fields.proofs.ZeroLaws.{zeros-behind, zeros-take}
 unfoldable pub use Rattle.nb_fields.specs.Bytes.{number_in}
 pub use Rattle.nb_fields.specs.Bytes.{is_zeros}
 unfoldable pub use Rattle.nb_fields.specs.Header.{is_header}
@@ -47,12 +48,12 @@ pub use Rattle.nb_fields.specs.Page.{kind_of, stamp_of}
 unfoldable pub use Rattle.nb_fields.specs.Places.{is_scn_place, is_system_place}
 pub use Rattle.nb_fields.specs.Places.{bits_in, entries_in, is_page_size, most_pages, scn_place}
 pub use Rattle.nb_fields.specs.States.{normal_state, stalled_state}
-pub use Rattle.nb_gather.proofs.BlankLaws.{blank_empty, blank_free, blank_left, zeros-grown, zeros-take}
-pub use Rattle.nb_gather.proofs.QuietLaws.{is_made, made_quiet, named, quiet_alone, quiet_gave, quiet_then, remade_twice, renamed, sync_kept, sync_then}
+pub use Rattle.nb_gather.proofs.QuietLaws.{blank_empty, is_made, made_quiet, quiet_alone, quiet_gave, quiet_then, remade_twice, renamed, sync_kept, sync_then, taken_quiet}
 pub use Rattle.nb_gather.proofs.TouchLaws.{touches_named, touches_page, touches_quiet, touches_still, touches_then}
 pub use Rattle.nb_gather.specs.Gathering.{HasTaken, IsHeaded, LevelWriting, MayHave}
 pub use Rattle.nb_gather.specs.Making.{IsBlank, IsEmpty, IsFreeOr, IsKept, IsMade, IsUnfinished, IsUnfinishedOr}
-pub use Rattle.nb_host.proofs.PlainLaws.{lt_holds, true_or_false}
+pub use Rattle.nb_host.proofs.NameLaws.{with_file-named}
+pub use Rattle.nb_host.proofs.PlainLaws.{all_front, far_behind, lt_holds, none_some, on_ok, true_or_false}
 pub use Rattle.nb_host.specs.Calls.{IsStill, Remakes, Syncs, WritesPage}
 pub use Rattle.nb_host.specs.Crash.{IsDurable, Leaves, LeavesAll, PageLeft}
 unfoldable pub use Rattle.nb_host.specs.Files.{padded, put_at, with_file}
@@ -66,13 +67,14 @@ pub use Rattle.nb_host.specs.declared.refusals.Refusal.{Refusal}
 pub use Rattle.nb_host.specs.declared.refusals.Refusal.TheVariants.{Access, BackupRunning, FileExists, NoGuid, NoHistory, ScnExhausted, WrongState}
 pub use Rattle.nb_level.specs.Heads.{head_of}
 pub use Rattle.nb_level.specs.declared.head.LevelHead.{LevelHead}
-pub use Rattle.nb_model.proofs.DraftLaws.{drafted_is, drafts_are, either, grown_keeps, needs_keeps}
+pub use Rattle.nb_model.proofs.DraftLaws.{drafted_is, drafts_are, either, either_need, either_page, grown_keeps, needs_keeps}
 pub use Rattle.nb_model.proofs.HeaderLaws.{header-long, header-size}
 pub use Rattle.nb_model.proofs.ImageLaws.{all-take}
 pub use Rattle.nb_model.proofs.MainLaws.{IsLaid, some_page}
 pub use Rattle.nb_model.proofs.PutSound.{needs_image, no_first}
+pub use Rattle.nb_model.proofs.RoomThere.{taken_keeps}
 pub use Rattle.nb_model.proofs.SoundLaws.{inventory_place_some, kind_of_header, scn_place_of}
-pub use Rattle.nb_model.proofs.TurnCases.{no_cause}
+pub use Rattle.nb_model.proofs.TurnCases.{no_cause, one_cause}
 pub use Rattle.nb_model.specs.Account.{Ask, Base}
 unfoldable pub use Rattle.nb_model.specs.Backups.{ask_of, backup_turn, close_backup, copy_turn, level_behind, needs_taken, room_in, since_turn, starts}
 pub use Rattle.nb_model.specs.Backups.{Room}
@@ -96,6 +98,7 @@ pub use Rattle.nb_model.specs.Strokes.{Stroke, begin}
 unfoldable pub use Rattle.nb_model.specs.Trail.{after_stroke}
 pub use Rattle.nb_model.specs.Trail.{ShowsIn, StandsIn, StandsOn, Trail}
 pub use Rattle.nb_model.specs.declared.reply.Reply.TheVariants.{Refused}
+pub use Rattle.nb_page.proofs.BlankLaws.{blank_free, blank_left}
 pub use Rattle.nb_page.specs.Quiet.{Quiet}
 unfoldable pub use Rattle.nb_scn.specs.Entries.{entries}
 pub use Rattle.nb_state.proofs.MakesLaws.{after_base, goes_nowhere, goes_on, open_quiet, open_running, open_still, still_open}

@@ -1,6 +1,6 @@
 -- The file of a copy: made, with a page more, and made whole by page 0.
-use Rattle.std.proofs.Common.{◌≡◌, inl, inr, ℕ, ◌+◌, ◌*◌, ◌<◌, ◌≤◌, List, [], length, sym, ap, subst, ◌∙◌, arith, mul-le-mul_right, Bool, IsTrue, Some, Result, Ok, OnOk}
-use Rattle.nb_copy.proofs.Common.{File, Files, World, PageLeft, IsDurable, Remakes, WritesPage, Syncs, IsTimely, Passes, Changes, Only, Remade, page_others, remade_alone, remade_step, remade_begun, Quiet, Page, Image, page_at, first_page, joined, IsBlank, IsFreeOr, IsKept, IsMade, Copying, front_pages, IsOf, IsBegun, quiet_then, sync_then, sync_kept, named, zeros-grown, blank_empty, blank_free, blank_left}
+use Rattle.std.proofs.Common.{◌≡◌, inl, inr, ℕ, ◌+◌, ◌*◌, ◌<◌, ◌≤◌, List, [], length, sym, ap, subst, ◌∙◌, arith, Bool, IsTrue, Some, Result, Ok, OnOk}
+use Rattle.nb_copy.proofs.Common.{File, Files, World, PageLeft, IsDurable, Remakes, WritesPage, Syncs, IsTimely, Passes, Changes, Only, Remade, page_others, remade_alone, remade_step, remade_begun, Quiet, Page, Image, page_at, first_page, joined, IsBlank, IsFreeOr, IsKept, IsMade, Copying, front_pages, IsOf, IsBegun, quiet_then, sync_then, sync_kept, zeros-behind, with_file-named, far_behind, blank_free, blank_left, blank_empty}
 use Rattle.nb_host.specs.Files.{with_page}
 use Rattle.nb_copy.proofs.FrontLaws.{front_next, front_whole, front_blank}
 
@@ -11,10 +11,6 @@ quiet_keeps old new copy frozen quiet begun = record {
   reads = ap (λ (f : Files). f copy.name) quiet.still.files ∙ begun.reads;
   blank = λ c now. begun.blank c (quiet.still.left.now copy.name c tt now);
 }
-
--- a page after page 0 lies after the first 64 bytes
-far_behind : (n size : ℕ) → 1 ≤ n → 1024 ≤ size → 64 ≤ n * size
-far_behind n size some wide = let low : 1 * size ≤ n * size = mul-le-mul_right size some in omega (arith, low, wide)
 
 module _ (name : List ℕ) where
   -- the file is made, also where that fails
@@ -88,7 +84,7 @@ module _ (w : World) (copy : Copying) (frozen : Image) (of : IsOf copy frozen) (
     pub whole_left : (c : File) → PageLeft (0 * length copy.first) copy.first (Some before_whole) c → IsFreeOr (joined frozen) c
     whole_left c (inl same) = inl (blank_free c (subst IsBlank (sym same) before_blank))
     whole_left c (inr (inl put)) = inr (put ∙ whole_put)
-    whole_left c (inr (inr (k, fits, grown))) = inl (blank_free c (subst IsBlank (sym grown) (zeros-grown 64 (k * length copy.first) before_whole before_blank)))
+    whole_left c (inr (inr (k, fits, grown))) = inl (blank_free c (subst IsBlank (sym grown) (zeros-behind 64 (k * length copy.first) before_whole before_blank)))
 
 -- the same page
 pub page_is : {T E : Type 0} (tells : Bool) (result : Result T E) (old new : World) (name p q : List ℕ) → p ≡ q → WritesPage tells result old new name (0 * length p) p → WritesPage tells result old new name (0 * length q) q
@@ -114,6 +110,6 @@ module _ (old : World) (copy : Copying) (frozen : Image) (of : IsOf copy frozen)
   close_kept tells value written result mid there new told first writes last =
       let before : mid.files copy.name ≡ Some (before_whole old copy frozen of begun all) = ap (λ (f : Files). f copy.name) first.still.files ∙ begun.reads in
       let reads : there.files copy.name ≡ Some (joined frozen) =
-      named mid.files there.files copy.name (with_page (mid.files copy.name) (0 * length copy.first) copy.first) (writes.files told)
+      with_file-named mid.files there.files copy.name (with_page (mid.files copy.name) (0 * length copy.first) copy.first) (writes.files told)
       ∙ ap (λ (f : File). with_page f (0 * length copy.first) copy.first) before ∙ whole_put old copy frozen of begun all in
       sync_kept tells result there new copy.name (joined frozen) told reads last

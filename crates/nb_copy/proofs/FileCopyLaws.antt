@@ -1,14 +1,10 @@
 -- A copy of the frozen file begins, and its turns.
 use Rattle.std.proofs.Common.{◌≡◌, ⊎_elim, inl, inr, ℕ, ◌≤◌, List, [], ◌∷◌, ◌++◌, length, replicate, refl, sym, ap, subst, ◌∙◌, arith, length-append, Result, Ok, Err, Some, None}
-use Rattle.nb_copy.proofs.Common.{size_of, state_of, most_pages, stalled_state, File, World, Leaves, Fault, Device, Memory, HostFault, Refusal, Changes, Only, Remade, GaveNothing, remade_weaker, Quiet, Base, copy_turn, Cause, Page, Image, image_size, image_state, joined, Copies, ClosesCopy, Outcome, Seen, unless, delta_name, IsOfSize, Trail, IsLaid, some_page, OfFiles, Tested, Held, IsOpen, name_of, Progress, Copying, CopiesFile, StartsCopy, copy_cause, IsBlank, IsFreeOr, IsUnfinishedOr, CopyTurn, blank_free, remade_twice}
+use Rattle.nb_copy.proofs.Common.{size_of, state_of, most_pages, stalled_state, File, World, Leaves, Fault, Device, Memory, HostFault, Refusal, Changes, Only, Remade, GaveNothing, remade_weaker, Quiet, Base, copy_turn, Cause, Page, Image, image_size, image_state, joined, Copies, ClosesCopy, Outcome, Seen, unless, delta_name, IsOfSize, Trail, IsLaid, some_page, OfFiles, Tested, Held, IsOpen, name_of, Progress, Copying, CopiesFile, StartsCopy, copy_cause, IsBlank, IsFreeOr, IsUnfinishedOr, CopyTurn, remade_twice, blank_free, all_front}
 use Rattle.nb_host.specs.declared.faults.Fault.TheVariants.{Refused}
 use Rattle.nb_model.specs.declared.reply.Reply.TheVariants.{Refused as RefusedBy}
 use Rattle.nb_base.proofs.OwnedLaws.{Holds, holds, base-state, base-size}
 use Rattle.nb_copy.proofs.ClosingLaws.{open_other}
-
-all_front : {A : Type 0} (P : A → Type 0) (xs ys : List A) → Rattle.std.specs.List.AllByRecursion P (xs ++ ys) → Rattle.std.specs.List.AllByRecursion P xs
-all_front P [] ys all = tt
-all_front P (x ∷ xs) ys all = (all.0, all_front P xs ys all.1)
 
 -- what is frozen of a database that is open has a page at least, and no more than a database, each of the size of a page
 pub record IsFrozenOf (size : ℕ) (frozen : Image) : Type 0 where

@@ -1,6 +1,6 @@
 -- What a level takes of a frozen image, one page after another.
 use Rattle.std.proofs.Common.{◌≡◌, inl, inr, ℕ, zero, suc, ◌+◌, ◌-◌, ◌<◌, ◌≤◌, List, [], ◌∷◌, ◌++◌, length, take, refl, sym, ap, subst, ◌∙◌, arith, Bool, true, false, ◌&&◌, nat_lt}
-use Rattle.nb_copy.proofs.Common.{append-nil, take_all, length-take-le, stamp_of, most_pages, Page, Image, Numbered, page_at, AreRising, AreOfSize, taken_from, may_have_changed, changed_from, changed, level_bytes, IsOfSize, all-take, Files, World, Quiet, LevelWriting, HasTaken, MayHave, scn_page_of, LevelCopying, IsLevelOf, IsLevelCopying, taken_below, whole_level, Changes, Only, Remade, IsKept, IsUnfinishedOr, LevelHead, head_of, true_or_false}
+use Rattle.nb_copy.proofs.Common.{append-nil, take_all, length-take-le, stamp_of, most_pages, Page, Image, Numbered, page_at, AreRising, AreOfSize, taken_from, may_have_changed, changed_from, changed, level_bytes, IsOfSize, all-take, World, LevelWriting, HasTaken, MayHave, scn_page_of, LevelCopying, IsLevelOf, IsLevelCopying, taken_below, whole_level, Changes, Only, Remade, IsKept, IsUnfinishedOr, LevelHead, head_of, true_or_false}
 use Rattle.nb_model.proofs.ChainLaws.{weaker}
 
 changed_rise : (may : ℕ → Bool) (n scn : ℕ) (ps : Image) → n + length ps ≤ most_pages → AreRising n (changed_from may n scn ps)
@@ -99,14 +99,6 @@ next_passed copy frozen of k low may =
     sym (append-nil (taken_below k copy frozen))
     ∙ ap (λ (rs : List Numbered). taken_below k copy frozen ++ rs) (sym (changed_none (may_have_changed frozen copy.file.head.previous_scn) k copy.file.head.previous_scn (page_at frozen k) may))
     ∙ sym (below_next copy frozen of k low)
-
--- calls that change nothing keep what was taken
-pub taken_quiet : (old new : World) (file : LevelWriting) (rs : List Numbered) → Quiet old new → HasTaken old file rs → HasTaken new file rs
-taken_quiet old new file rs quiet has = record {
-  stands = record { reads = ap (λ (f : Files). f file.name) quiet.still.files ∙ has.stands.reads; torn = λ c now. has.stands.torn c (quiet.still.left.now file.name c tt now) };
-  waits = has.waits;
-  counted = has.counted;
-}
 
 -- one page more was dealt with
 pub level_next : (w : World) (before after : LevelCopying) (frozen : Image) → IsLevelOf before frozen

@@ -1,6 +1,6 @@
 -- The start of a backup after its tests: room in the history, the file, and the begin.
 use Rattle.std.proofs.Common.{◌≡◌, ◌≢◌, inl, inr, ℕ, ◌<◌, ◌≤◌, List, [], ◌∷◌, ◌++◌, length, replicate, refl, sym, ap, subst, ◌∙◌, arith, true≢false, not, ◌==◌, nat_lt, IsTrue, Some, None, Result, Ok, Err}
-use Rattle.nb_copy.proofs.Common.{number_in, state_of, scn_of, size_of, is_page_size, normal_state, stalled_state, World, Leaves, Fault, Device, Memory, Access, WrongState, ScnExhausted, Changes, Only, Remade, GaveNothing, after_all-joined, OfFiles, Strikes, after_strokes, LevelHead, Refused, Ask, Base, room_in, Cause, first_cause, when, read_only, not_state, not_free, no_scn, no_room, not_of_form, broken_at, short_for, History, pages_of, spots, free_spot, Page, Image, first_page, image_scn, image_size, Backing, Outcome, Copies, ClosesBackup, Seen, next_guid, says, HasHeader, Stroke, begin, base_after, Trail, after_stroke, no_first, Held, IsOpen, name_of, after_base, room_cause, IsRoomIn, Tries, starting_cause, unless_some, tries_opened, history_least, Backed, StartMakes, HasNotBegun, StartsBackup, IsStarted, BeginsFor, earlier_cause, file_cause, ask_in, ask_by, turn_since, Since, FileCopy, IsNewFile, IsStartedFile, file_count, IsEmpty, IsMade, first_next, no_cause, unless_none}
+use Rattle.nb_copy.proofs.Common.{number_in, state_of, scn_of, size_of, is_page_size, normal_state, stalled_state, World, Leaves, Fault, Device, Memory, Access, WrongState, ScnExhausted, Changes, Only, Remade, GaveNothing, after_all-joined, OfFiles, Strikes, after_strokes, LevelHead, Refused, Ask, Base, room_in, Cause, first_cause, when, read_only, not_state, not_free, no_scn, no_room, not_of_form, broken_at, short_for, History, pages_of, spots, free_spot, Page, Image, first_page, image_scn, image_size, Backing, Outcome, Copies, ClosesBackup, Seen, next_guid, says, HasHeader, Stroke, begin, base_after, Trail, after_stroke, no_first, Held, IsOpen, name_of, after_base, room_cause, IsRoomIn, Tries, starting_cause, unless_some, tries_opened, history_least, Backed, StartMakes, HasNotBegun, StartsBackup, IsStarted, BeginsFor, earlier_cause, file_cause, ask_in, ask_by, turn_since, Since, FileCopy, IsNewFile, IsStartedFile, file_count, IsEmpty, IsMade, first_next, no_cause, unless_none, none_some}
 use Rattle.nb_host.specs.declared.faults.Fault.TheVariants.{Refused as RefusedFault}
 use Rattle.nb_model.proofs.PagesOnly.{WritesPages, drafts_write_pages, pages_stay}
 use Rattle.nb_model.proofs.RoomThere.{room_keeps}
@@ -185,10 +185,7 @@ module _ (old mid : World) (a b : Held) (t : Trail) (s : Seen) (session : ℕ) (
         still_made result begins = made_kept there new (OfFiles (name_of a)) _ name (begin_struck result begins) apart made
 
         pub start_unbegun : (fault : Fault) → fault ≢ Memory → BeginsFor (Err fault) there new b d u guid (Some ask) session bare → StartsBackup (Err fault) old new a d t name guid outcome
-        start_unbegun (RefusedFault r) sure begins = absurd (none_some (sym starts_there ∙ begins.test))
-          where
-            none_some : None ≡ Some r → ⊥
-            none_some e = cc
+        start_unbegun (RefusedFault r) sure begins = absurd (none_some r (sym starts_there ∙ begins.test))
         start_unbegun Device sure begins =
             subst (λ (x : Outcome). StartsBackup (Err Device) old new a d t name guid x) (sym (turn_started s session since name none tries.test)) (record {
               says = tt;

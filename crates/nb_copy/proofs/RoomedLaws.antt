@@ -1,8 +1,8 @@
 -- A database after the strokes that make room in the history.
 use Rattle.std.proofs.Common.{◌≡◌, ℕ, zero, suc, ◌+◌, ◌≤◌, List, [], length, refl, sym, ap, subst, ◌∙◌, arith, Option, Some, None}
-use Rattle.nb_copy.proofs.Common.{kind_of, Base, Image, page_at, first_page, Trail, Draft, drafted, needs, put, inventory_of, scn_page_of, is_free_page, broken_at, History, Spot, pages_of, found_pages, spots, free_spot, last_of, grown, Room, room_in, needs_taken, HasHeader, either, drafts_are, drafted_is, needs_keeps, grown_keeps, header-size, some_page, needs_image, kind_of_header, after_strokes, after_base, no_rows, linked_payload, IsData, last_data}
+use Rattle.nb_copy.proofs.Common.{kind_of, Base, Image, page_at, first_page, Trail, Draft, drafted, needs, put, inventory_of, scn_page_of, broken_at, History, Spot, pages_of, found_pages, spots, free_spot, last_of, grown, Room, room_in, needs_taken, HasHeader, drafts_are, drafted_is, needs_keeps, grown_keeps, header-size, some_page, needs_image, kind_of_header, after_strokes, after_base, no_rows, linked_payload, IsData, last_data, taken_keeps}
 use Rattle.nb_fields.specs.Kinds.{data_kind}
-use Rattle.nb_model.proofs.DraftLaws.{IsKept, IsOf}
+use Rattle.nb_model.proofs.DraftLaws.{IsOf}
 use Rattle.nb_model.proofs.DraftJoin.{join_put}
 use Rattle.nb_engine.specs.Make.{new_of}
 use Rattle.nb_alloc.proofs.NewLaws.{told}
@@ -31,10 +31,6 @@ unfolding room_in
 room_is image = refl
 
 -- its draft is of the image
-taken_keeps : (P : Draft → Type 0) → IsKept P → (p : ℕ) (d : Draft) → P d → P (needs_taken p d)
-unfolding needs_taken
-taken_keeps P kept p d h = either P (is_free_page d.image p) _ _ (kept.reads _ d h) h
-
 room_keeps : (b : Base) (o : Option Spot) → IsOf b (room_by b.image o).draft
 room_keeps b (Some s) = taken_keeps (IsOf b) (drafts_are b) s.page _ (needs_keeps (IsOf b) (drafts_are b) 10 _ _ (needs_keeps (IsOf b) (drafts_are b) 2 _ _ (drafted_is b)))
 room_keeps b None = grown_keeps (IsOf b) (drafts_are b) History (found_pages History b.image) [] (drafted b.image) (drafted_is b)

@@ -1,6 +1,6 @@
 -- Why no backup may begin, test by test.
 use Rattle.std.proofs.Common.{◌≡◌, ◌+◌, ℕ, zero, suc, List, [], ◌∷◌, replicate, refl, sym, ap, subst, ◌∙◌, arith, Bool, true, false, min, Option, Some, None, is_none, not, nat_eq}
-use Rattle.nb_copy.proofs.Common.{normal_state, Refusal, Access, FileExists, NoHistory, Ask, Image, is_read_only, ask_of, level_behind, Cause, first_cause, when, read_only, not_state, not_free, is_free_entry, broken_at, History, Spot, pages_of, backup_spot, level_in, guid_in, Seen, HistoryRow, ask_in, earlier_row, row_cause, earlier_cause, file_cause, Level, one_cause, first_here, first_next, no_cause}
+use Rattle.nb_copy.proofs.Common.{normal_state, Refusal, Access, FileExists, NoHistory, Ask, Image, is_read_only, ask_of, level_behind, Cause, first_cause, when, read_only, not_state, not_free, is_free_entry, broken_at, History, Spot, pages_of, backup_spot, level_in, guid_in, Seen, HistoryRow, ask_in, earlier_row, row_cause, earlier_cause, file_cause, Level, first_here, first_next, no_cause, one_cause}
 use Rattle.nb_host.specs.Names.{same_name}
 use Rattle.nb_engine.specs.History.{row_at}
 use Rattle.nb_engine.proofs.FreeLaws.{closed_cause, open_cause}

@@ -1,6 +1,6 @@
 -- Entries, one more of them, and their index.
 use Rattle.std.proofs.Common.{◌≡◌, ◌≢◌, ℕ, zero, suc, ◌+◌, ◌<◌, ◌≤◌, Bool, true, false, cond, List, [], ◌∷◌, ◌++◌, length, get_or, Option, Some, None, refl, sym, ap, ◌∙◌, subst, arith, inl, inr, ⊎_elim, length-append, BTreeMap, nat_cmp, nat_eq, ◌||◌, Result, Ok, Err, OnOk, is_ok, is_some, IfSome}
-use Rattle.nb_delta.proofs.Common.{list_any, position_from, IsDistinct, AllByRecursion, cases_eq, cases_lt, eq-eqb, ne_eqb, eqb-true, or_cases, or_left, or_right, cond-true, cond-false, list_any-append, most_pages, place_of, AreEntries, IsIndex, false_true}
+use Rattle.nb_delta.proofs.Common.{list_any, position_from, IsDistinct, AllByRecursion, cases_eq, cases_lt, eq-eqb, ne_eqb, eqb-true, or_cases, or_left, or_right, cond-true, cond-false, list_any-append, most_pages, place_of, AreEntries, IsIndex, false_true, some_none}
 use Rattle.std.specs.Ordering.{is_eq}
 use Rattle.std.specs.Cmp.{nat_cmp_is}
 use Rattle.std.specs.BTreeMap.{get, Updates, IsEmpty}
@@ -13,9 +13,6 @@ use Rattle.std.proofs.lemmas.Map.Steps.{length-le_from_distinct_below}
 pub no_entries : AreEntries []
 unfolding IsDistinct
 no_entries = record { below = λ page is. cc; once = tt }
-
-some_none : (n : ℕ) → Some n ≡ None → ⊥
-some_none n e = cc
 
 -- a page without a place is none of the entries
 not_named : (page i : ℕ) (xs : List ℕ) → position_from (nat_eq page) i xs ≡ None → list_any (nat_eq page) xs ≡ false

@@ -1,6 +1,6 @@
 -- The definitions that the proofs of this crate speak in, and the laws of other crates that they cite, passed on from one place. Declares nothing.
 pub use Rattle.nb_alloc.proofs.BehindLaws.{entry_by, lacking_cause, other_by, other_none, other_page, page_alone}
-pub use Rattle.nb_alloc.proofs.CauseLaws.{judged_by, one_cause, refused_by, told_some, unless_allowed, unless_refused, unless_these}
+pub use Rattle.nb_alloc.proofs.CauseLaws.{judged_by, refused_by, told_some, unless_allowed, unless_refused, unless_these}
 pub use Rattle.nb_alloc.proofs.ContentLaws.{data_short, new_named, payload_filled}
 pub use Rattle.nb_alloc.proofs.DoesLaws.{if_err, if_ok, refused_does, seeing, tested_by_name, tested_does, tested_on, tries_after, tries_does, tries_early, tries_failed, tries_front, tries_made, tries_next, tries_opened, tries_other, tries_passed, tries_these, tries_valued, valued_does}
 pub use Rattle.nb_alloc.proofs.MakeLaws.{tries_fault, tries_named}
@@ -14,7 +14,7 @@ pub use Rattle.nb_alloc.proofs.TestLaws.{at_ok, inventory_place_is, le_from, lt_
 pub use Rattle.nb_alloc.proofs.WantLaws.{stops_after, stops_first, stops_then, strikes_after}
 pub use Rattle.nb_alloc.specs.Behind.{behind_cause, entry_broken, give_broken, page_in}
 pub use Rattle.nb_alloc.specs.Data.{data_cause, new_behind, new_data, owner_by, put_data, second_data, unmade}
-pub use Rattle.nb_alloc.specs.Make.{IsWell, new_of, new_raw, page_strokes}
+pub use Rattle.nb_alloc.specs.Make.{new_of, new_raw, page_strokes}
 pub use Rattle.nb_alloc.specs.Mark.{mark_cause, mark_strokes}
 pub use Rattle.nb_alloc.specs.Put.{Reads, entry_cause, raise_strokes, raw_stroke}
 pub use Rattle.nb_alloc.specs.Search.{IsSearchable, IsShort}
@@ -45,7 +45,7 @@ pub use Rattle.nb_fields.specs.Payloads.{text_length, text_of}
 unfoldable pub use Rattle.nb_fields.specs.Places.{is_scn_place}
 pub use Rattle.nb_fields.specs.Places.{bits_in, entries_in, inventory_place, is_page_size, most_pages, scn_place}
 pub use Rattle.nb_fields.specs.States.{normal_state}
-pub use Rattle.nb_host.proofs.PlainLaws.{append_none, le_yes}
+pub use Rattle.nb_host.proofs.PlainLaws.{append_none, le_yes, none_some, not_false}
 pub use Rattle.nb_host.specs.Faults.{as_fault}
 pub use Rattle.nb_host.specs.World.{World}
 pub use Rattle.nb_host.specs.declared.faults.Fault.{Fault}
@@ -59,7 +59,7 @@ pub use Rattle.nb_model.proofs.RoundLaws.{kind_found, needs_found}
 pub use Rattle.nb_model.proofs.SearchLaws.{draft_cause}
 pub use Rattle.nb_model.proofs.SoundLaws.{all_at, inventory_place_some, scn_place_before}
 pub use Rattle.nb_model.proofs.StepLaws.{IsShaped, IsWritten, Puts, form_written, inventory_has, kind_parts, put_on, written_shaped, written_size}
-pub use Rattle.nb_model.proofs.TurnCases.{is_so, no_cause}
+pub use Rattle.nb_model.proofs.TurnCases.{is_so, no_cause, one_cause}
 pub use Rattle.nb_model.proofs.WholeLaws.{when_false}
 pub use Rattle.nb_model.specs.Account.{Ask, Base}
 unfoldable pub use Rattle.nb_model.specs.Backups.{needs_taken, room_in}

@@ -1,6 +1,6 @@
 -- A data page is there, and what it then is written as.
 use Rattle.std.proofs.Common.{◌≡◌, ℕ, ◌-◌, ◌<◌, List, [], ◌∷◌, ◌++◌, length, take, drop, refl, sym, ap, subst, ◌∙◌, arith, length-drop, Some, None, Result, IsTrue}
-use Rattle.nb_engine.proofs.Common.{append-nil, drop_all, padded_whole, with_payload, is_page_size, data_kind, World, Fault, Refusal, NotDatabase, Quiet, Page, Image, is_kind, not_kind, Trail, kind_parts, Held, IsOpen, but_pages, data_cause, put_data, page_strokes, entry_cause, Tries, one_cause, tries_after, tries_these, tries_named, page_strokes_are, first_here, first_next, is_so}
+use Rattle.nb_engine.proofs.Common.{append-nil, drop_all, padded_whole, with_payload, is_page_size, data_kind, World, Fault, Refusal, NotDatabase, Quiet, Page, Image, is_kind, not_kind, Trail, kind_parts, Held, IsOpen, but_pages, data_cause, put_data, page_strokes, entry_cause, Tries, tries_after, tries_these, tries_named, page_strokes_are, first_here, first_next, is_so, one_cause}
 
 -- a data page is below the length
 pub data_there : (image : Image) (p : ℕ) → not_kind image data_kind p ≡ None → p < length image

@@ -1,6 +1,6 @@
 -- Where a slot is kept for a row of the history, and why none is.
 use Rattle.std.proofs.Common.{◌≡◌, ℕ, ◌<◌, List, [], ◌∷◌, length, refl, sym, ap, ◌∙◌, arith, Bool, true, false, Option, Some, None}
-use Rattle.nb_engine.proofs.Common.{most_pages, Full, lt_no, Image, Draft, drafted, needs, is_kind, is_free_page, inventory_of, scn_page_of, Cause, first_cause, when, broken_at, not_of_form, no_room, no_scn, too_short, short_for, History, Spot, pages_of, found_pages, spots, free_spot, grown, room_in, needs_taken, needs_image, Room, room_at, room_cause, IsRoomIn, taken_draft, grow_cause, first_next, when_false}
+use Rattle.nb_engine.proofs.Common.{most_pages, Full, lt_no, Image, Draft, drafted, needs, is_kind, is_free_page, inventory_of, scn_page_of, Cause, first_cause, when, broken_at, not_of_form, no_room, no_scn, too_short, short_for, History, Spot, pages_of, found_pages, spots, free_spot, grown, room_in, needs_taken, needs_image, Room, room_at, room_cause, IsRoomIn, taken_draft, grow_cause, first_next, when_false, none_some}
 use Rattle.nb_model.specs.Backups.{Room as Kept}
 use Rattle.nb_engine.proofs.WalkLaws.{IsData, history_least}
 use Rattle.nb_model.proofs.HeldRoom.{needs_image_same}
@@ -120,10 +120,7 @@ pub record IsSpot (o : Option Spot) (room : Room) : Type 0 where
   pub slot : room.slot ≡ spot.slot
 
 pub room_some : (o : Option Spot) (room : Room) → room_at o ≡ Some room → IsSpot o room
-room_some None room e = absurd (none_some e)
-  where
-    none_some : None ≡ Some room → ⊥
-    none_some d = cc
+room_some None room e = absurd (none_some room e)
 room_some (Some s) room e =
     let same : room ≡ record { page = s.page; slot = s.slot } = sym (ap (λ (x : Option Room). elim x as (λ z. Room) [ Some r ↦ r | None ↦ room ]) e) in
     record { spot = s; is = refl; page = ap (λ (r : Room). r.page) same; slot = ap (λ (r : Room). r.slot) same }

@@ -1,6 +1,6 @@
 -- A page of a chain is written, in any database.
 use Rattle.std.proofs.Common.{◌≡◌, ℕ, ◌+◌, ◌-◌, ◌*◌, ◌<◌, ◌≤◌, List, [], ◌∷◌, ◌++◌, length, take, drop, sym, ap, ◌∙◌, arith, length-drop, Some, None, nat_le, IsTrue}
-use Rattle.nb_engine.proofs.Common.{NotDatabase, take-append-drop, with_part, with_payload, is_page_size, part-with_part_before, padded_whole, Image, page_at, image_size, Base, drafted, Slot, put_slot, when, le_no, entry_cause, page_strokes, write_cause, one_cause, page_strokes_are, applies, first_here, first_next, le_yes, when_false}
+use Rattle.nb_engine.proofs.Common.{NotDatabase, take-append-drop, with_part, with_payload, is_page_size, part-with_part_before, padded_whole, Image, page_at, image_size, Base, drafted, Slot, put_slot, when, le_no, entry_cause, page_strokes, write_cause, page_strokes_are, applies, first_here, first_next, le_yes, when_false, one_cause}
 
 -- bytes after the head of a page were written
 module _ (at : ℕ) (bytes old : List ℕ) (low : 16 ≤ at) (before : at ≤ length old) (long : length (with_part at bytes old) ≡ length old) where

@@ -1,8 +1,8 @@
 -- What making a new page does of its turn.
 use Rattle.std.proofs.Common.{◌≡◌, ◌<◌, ◌≤◌, ℕ, List, [], ◌∷◌, length, refl, sym, ap, subst, ◌∙◌, arith, true, false, IsTrue, Some, None, Result, IfOk}
-use Rattle.nb_engine.proofs.Common.{IfOk-weaker, bytes_of, is_page_size, text_payload, World, Fault, Refusal, Access, NotDatabase, Refused, PageMade, Image, image_scn, is_read_only, Stroke, Trail, Draft, first_cause, read_only, too_short, Seen, says, new_turn, lt_no, lt_yes, draft_cause, IsShaped, Held, IsOpen, Does, IsWell, new_raw, page_made, IsSearchable, Tries, unless_refused, unless_allowed, refused_by, judged_by, seeing, tries_does, applies, first_here, first_next, no_cause, when_false}
+use Rattle.nb_engine.proofs.Common.{IfOk-weaker, bytes_of, is_page_size, text_payload, World, Fault, Refusal, Access, NotDatabase, Refused, PageMade, Image, image_scn, is_read_only, Stroke, Trail, Draft, first_cause, read_only, too_short, Seen, says, new_turn, lt_no, lt_yes, draft_cause, IsShaped, Held, IsOpen, Does, new_raw, page_made, IsSearchable, Tries, unless_refused, unless_allowed, refused_by, judged_by, seeing, tries_does, applies, first_here, first_next, no_cause, when_false}
 use Rattle.nb_model.specs.declared.reply.Reply.{Reply}
-use Rattle.nb_model.specs.Sound.{IsSoundImage, HasHeader}
+use Rattle.nb_model.specs.Sound.{HasHeader}
 use Rattle.nb_state.proofs.SizeLaws.{open_sized}
 
 -- the bytes of the empty text
@@ -13,9 +13,6 @@ empty_is = refl
 -- the facts of an open database that the laws of images ask for
 pub header_of : (w : World) (held : Held) (t : Trail) → IsOpen w held t → image_scn t.base.image < 4294967296 → HasHeader t.base.image
 header_of w held t is scn = record { header = is.files.agrees.header; scn = scn }
-
-pub well_of : (w : World) (held : Held) (t : Trail) → IsOpen w held t → IsTrue (is_page_size held.files.page_size) → image_scn t.base.image < 4294967296 → IsSoundImage t.base.image → IsWell t.base.image
-well_of w held t is size scn sound = record { sound = sound; size = subst (λ (n : ℕ). IsTrue (is_page_size n)) is.files.agrees.page_size size; scn = scn }
 
 pub shaped_of : (w : World) (held : Held) (t : Trail) → IsOpen w held t → IsTrue (is_page_size held.files.page_size) → 3 ≤ length t.base.image → IsShaped t.base.image
 shaped_of w held t is size least = record { size = subst (λ (n : ℕ). IsTrue (is_page_size n)) is.files.agrees.page_size size; least = least; sizes = open_sized w held t is }

@@ -1,6 +1,6 @@
 -- Why a free slot of the history is not kept: the lowest of the pages that aren't of the form.
 use Rattle.std.proofs.Common.{◌≡◌, ◌≢◌, ℕ, zero, suc, ◌*◌, ◌/◌, ◌<◌, ◌≤◌, List, [], ◌∷◌, refl, sym, ap, ◌∙◌, arith, mul-le-mul_right, Bool, true, false, not, Some, None, min, IsTrue}
-use Rattle.nb_engine.proofs.Common.{kind_of, is_page_size, entries_in, bits_in, inventory_place, scn_place, entries-least, scn_place-some, inventory_kind, data_kind, scn_kind, Refusal, NotDatabase, Image, page_at, image_size, Draft, drafted, needs, is_kind, inventory_of, scn_page_of, is_free_page, Cause, first_cause, when, not_kind, lowest_broken, not_of_form, no_scn, needs_taken, inventory_place_some, needs_image, kind_parts, taken_draft, one_cause, inventory_most, page_alone, none_broken, first_here, first_next, is_so}
+use Rattle.nb_engine.proofs.Common.{kind_of, is_page_size, entries_in, bits_in, inventory_place, scn_place, entries-least, scn_place-some, inventory_kind, data_kind, scn_kind, Refusal, NotDatabase, Image, page_at, image_size, Draft, drafted, needs, is_kind, inventory_of, scn_page_of, is_free_page, Cause, first_cause, when, not_kind, lowest_broken, not_of_form, no_scn, needs_taken, inventory_place_some, needs_image, kind_parts, taken_draft, inventory_most, page_alone, none_broken, first_here, first_next, is_so, none_some, one_cause}
 use Rattle.std.proofs.Math.Nat.{div-mul-le_self, le-div_iff_mul-le}
 
 -- the inventory page of a page stands before its SCN page
@@ -111,10 +111,7 @@ module _ (image : Image) (p : ℕ) where
   refused r e = first_here (not_of_form (taken_draft image p)) (no_scn image ∷ []) r e
 
   not_none : (t : Bool) (q : ℕ) (r : Refusal) → when (not t) (NotDatabase q) ≡ Some r → (t ≡ false) × (Some (NotDatabase q) ≡ Some r)
-  not_none true q r e = absurd (none_some e)
-    where
-      none_some : None ≡ Some r → ⊥
-      none_some d = cc
+  not_none true q r e = absurd (none_some r e)
   not_none false q r e = (refl, e)
 
   module _ (size : IsTrue (is_page_size (image_size image))) (some : 1 ≤ p) (kind : kind_of (page_at image p) ≡ data_kind) where

@@ -1,6 +1,6 @@
 -- Why a raw page isn't written, and the turn that writes it.
-use Rattle.std.proofs.Common.{◌≡◌, ◌≢◌, inl, inr, ℕ, ◌<◌, List, [], ◌∷◌, ◌++◌, length, refl, sym, ap, ◌∙◌, arith, Bool, true, false, not, ◌==◌, nat_le, Some, None, Result, Ok, IfErr}
-use Rattle.nb_engine.proofs.Common.{eqb-true, leb_tells, is_header, entries_in, kind_of, text_payload, inventory_kind, raw_kind, scn_kind, World, Fault, Refusal, SystemPage, Refused, Done, Page, Image, first_page, page_at, image_size, Base, Draft, drafted, put, inventory_of, Cause, first_cause, when, past_end, read_only, not_kind, not_raw, too_long, not_of_form, no_room, Seen, says, unless, write_turn, Trail, header-kind, no_first, not_when, IsNoRefusal, Held, IsOpen, Makes, Does, entry_cause, raise_strokes, raw_stroke, Tries, refused_by, judged_by, unless_these, seeing, tries_does, if_ok, put_stroke-after, put_strokes, put_form, put_room, put_refused, done, first_here, first_next, no_cause}
+use Rattle.std.proofs.Common.{◌≡◌, ◌≢◌, inl, inr, ℕ, ◌<◌, List, [], ◌∷◌, ◌++◌, length, refl, sym, ap, ◌∙◌, arith, true, false, not, ◌==◌, nat_le, Some, None, Result, Ok, IfErr}
+use Rattle.nb_engine.proofs.Common.{eqb-true, leb_tells, is_header, entries_in, kind_of, text_payload, inventory_kind, raw_kind, scn_kind, World, Fault, Refusal, SystemPage, Refused, Done, Page, Image, first_page, page_at, image_size, Base, Draft, drafted, put, inventory_of, Cause, first_cause, when, past_end, read_only, not_kind, not_raw, too_long, not_of_form, no_room, Seen, says, unless, write_turn, Trail, header-kind, no_first, not_when, IsNoRefusal, Held, IsOpen, Makes, Does, entry_cause, raise_strokes, raw_stroke, Tries, refused_by, judged_by, unless_these, seeing, tries_does, if_ok, put_stroke-after, put_strokes, put_form, put_room, put_refused, done, first_here, first_next, no_cause, true≢false, not_false}
 use Rattle.nb_alloc.proofs.PageLaws.{then_page}
 
 -- what a taken raw page is
@@ -24,18 +24,11 @@ is_raw image p none =
       plain = λ e. absurd (omega (arith, e, is_eight fourth.0));
     }
   where
-    true_false : true ≡ false → ⊥
-    true_false h = cc
-
     below : nat_le (length image) p ≡ false → p < length image
-    below over = elim (leb_tells (length image) p) [ inl w ↦ absurd (true_false (sym w.0 ∙ over)) | inr w ↦ w.1 ]
-
-    is_true : (t : Bool) → not t ≡ false → t ≡ true
-    is_true true e = refl
-    is_true false e = absurd (true_false e)
+    below over = elim (leb_tells (length image) p) [ inl w ↦ absurd (true≢false (sym w.0 ∙ over)) | inr w ↦ w.1 ]
 
     is_eight : when (not (kind_of (page_at image p) == raw_kind)) (SystemPage p) ≡ None → kind_of (page_at image p) ≡ raw_kind
-    is_eight none = eqb-true (kind_of (page_at image p)) 8 (is_true (kind_of (page_at image p) == raw_kind) (not_when _ (SystemPage p) none))
+    is_eight none = eqb-true (kind_of (page_at image p)) 8 (not_false (kind_of (page_at image p) == raw_kind) (not_when _ (SystemPage p) none))
 
 -- page 0 of an open database is none, so no call goes on with it
 pub no_header : (image : Image) (p : ℕ) → is_header (first_page image) ≡ true → not_raw image p ≡ None → p ≡ 0 → ⊥

@@ -1,4 +1,5 @@
 pub mod NumberLaws
+pub mod ZeroLaws
 pub mod PartLaws
 pub mod PageLaws
 pub mod SizeLaws

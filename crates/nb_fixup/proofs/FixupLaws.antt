@@ -1,6 +1,6 @@
 -- What a fixup changes and leaves.
 use Rattle.std.proofs.Common.{◌≡◌, inl, inr, ⊎_elim, ℕ, ◌*◌, List, length, take, sym, refl, ap, subst, ◌∙◌, Some, None, Result, Ok, Err}
-use Rattle.nb_fixup.proofs.Common.{size_of, File, Files, with_page, Leaves, LeavesAll, PageLeft, Fault, Refused, Device, Memory, NoFile, not_database, Page, image_in, not_fixable, HoldsMain, delta_name, fixed, owner_main, normal_page, fixup_cause, fixed_bytes, IsFixable, IsFixed, FixLeft, FixAnswers, Fixes, Tested}
+use Rattle.nb_fixup.proofs.Common.{size_of, File, Files, with_page, Leaves, LeavesAll, PageLeft, Fault, Refused, Device, Memory, NoFile, not_database, Page, image_in, not_fixable, HoldsMain, delta_name, fixed, owner_main, normal_page, fixup_cause, fixed_bytes, IsFixable, IsFixed, FixLeft, FixAnswers, Fixes, Tested, some_none}
 use Rattle.nb_host.specs.World.{World}
 use Rattle.nb_change.specs.Changes.{Changes, Only, NoNames, Remade}
 use Rattle.nb_change.specs.Gave.{GaveNothing}
@@ -22,10 +22,7 @@ pub copy_there : (files : Files) (name : List ℕ) → fixup_cause files name �
 copy_there files name fit = by (files name) refl
   where
     by : (file : File) → files name ≡ file → (bytes : List ℕ) × IsFixable files name bytes
-    by None is = absurd (none_there (sym (not_there name (files (delta_name name))) ∙ ap (λ (f : File). not_fixable name f (files (delta_name name))) (sym is) ∙ fit))
-      where
-        none_there : Some (NoFile name) ≡ None → ⊥
-        none_there e = cc
+    by None is = absurd (some_none (NoFile name) (sym (not_there name (files (delta_name name))) ∙ ap (λ (f : File). not_fixable name f (files (delta_name name))) (sym is) ∙ fit))
     by (Some bytes) is = (bytes, record { there = is; fit = fit })
 
 -- nothing was changed, whatever the device did

@@ -30,10 +30,7 @@ part_put size at part bytes fits long =
 
 -- an image and pages of zeros after it, with page 0 in the normal state over its page 0
 laid_fixed : (image : Image) (bytes : List ℕ) (page : Page) → (l : IsLaid image bytes) → page ≡ normal_page (take (image_size image) bytes) → HoldsMain (fixed image) (with_page (Some bytes) (0 * length page) page)
-laid_fixed [] bytes page l e = absurd (none (some_page [] l.header))
-  where
-    none : 1 ≤ 0 → ⊥
-    none k = omega arith
+laid_fixed [] bytes page l e = absurd (let few : 1 ≤ 0 = some_page [] l.header in omega (arith, few))
 laid_fixed (p ∷ ps) bytes page l e =
     let size : ℕ = image_size (p ∷ ps) in
     let pages : List Page = p ∷ (ps ++ l.rest) in

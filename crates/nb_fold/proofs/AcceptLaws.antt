@@ -1,6 +1,6 @@
 -- A fold is a level file, and a chain that ends with it is accepted exactly where one is that ends with the files it was made of.
 use Rattle.std.proofs.Common.{◌≡◌, ◌≢◌, inl, inr, ℕ, ◌+◌, ◌^◌, ◌<◌, ◌≤◌, List, [], ◌∷◌, ◌++◌, length, refl, sym, ap, subst, ◌∙◌, arith, true, ◌&&◌, ◌==◌, Option, Some, None, Result, Ok, Err}
-use Rattle.nb_fold.proofs.Common.{AllByRecursion, and_parts, eqb-true, eqb_tells, is_header, state_of, size_of, scn_of, guid_of, most_pages, stalled_state, File, Files, Refusal, NoFile, ChainLevel, Cause, Image, Page, Numbered, AreOfSize, AreRising, Contents, Head, begins_level, is_first_page, level_bytes, read_level, Link, applied, first_link, level_link, linked, next_link, next_links, not_behind, verdict, header-room, eq_yes, err_ok, ok_same, GoesBehind, goes_behind, bytes_for, folded, folded_head, folded_pages, last_head, last_page, or_before, page_of, pages_of_each, AllOfSize, GiveTheSame, Gives, IsFoldOf, links_of, chained, files_after, HasPages, level_pages, some_none, some_same}
+use Rattle.nb_fold.proofs.Common.{AllByRecursion, and_parts, eqb-true, eqb_tells, is_header, state_of, size_of, scn_of, guid_of, most_pages, stalled_state, File, Files, Refusal, NoFile, ChainLevel, Cause, Image, Page, Numbered, AreOfSize, AreRising, Contents, Head, begins_level, is_first_page, level_bytes, read_level, Link, applied, first_link, level_link, linked, next_link, next_links, not_behind, verdict, header-room, eq_yes, GoesBehind, goes_behind, bytes_for, folded, folded_head, folded_pages, last_head, last_page, or_before, page_of, pages_of_each, AllOfSize, GiveTheSame, Gives, IsFoldOf, links_of, chained, files_after, HasPages, level_pages, some_none, some_same, ok_same, err_not_ok, none_and_some}
 use Rattle.nb_host.specs.Names.{same_name}
 use Rattle.nb_model.proofs.ChainLaws.{when_not, accepts, four_none, none_left}
 use Rattle.nb_model.proofs.LevelLaws.{level_read}
@@ -275,13 +275,10 @@ module _ (files : Files) (name : List ℕ) (names : List (List ℕ)) (out : List
           is_behind k last name are.first
           (record { level = sym same_level ∙ goes.level; previous = sym same_previous ∙ goes.previous; size = sym same_size ∙ goes.size; previous_scn = sym same_scn ∙ goes.previous_scn })
 
-      both : (x : Cause) (r : Refusal) → x ≡ None → x ≡ Some r → ⊥
-      both x r e f = cc
-
       by : (a b : Cause) → not_behind k last name are.first ≡ a → not_behind k last out (folded cs) ≡ b → Alike cs (next_links files k last (name ∷ names)) (next_links files k last (out ∷ []))
       by None None e f = alike_are cs _ _ (Ok (links_of cs)) (Ok (level_link (folded cs) ∷ [])) (many_go e) (one_goes f) ([], refl, refl)
-      by None (Some r) e f = absurd (both (not_behind k last out (folded cs)) r (one_if_many e) f)
-      by (Some r) None e f = absurd (both (not_behind k last name are.first) r (many_if_one f) e)
+      by None (Some r) e f = absurd (none_and_some (not_behind k last out (folded cs)) r (one_if_many e) f)
+      by (Some r) None e f = absurd (none_and_some (not_behind k last name are.first) r (many_if_one f) e)
       by (Some r) (Some q) e f = alike_are cs _ _ (Err r) (Err q) (many_stop r e) (one_stops q f) tt
 
   links_alike : (before : List (List ℕ)) (k : ℕ) (last : Link) → Alike cs (next_links files k last (before ++ name ∷ names)) (next_links files k last (before ++ out ∷ []))
@@ -334,10 +331,10 @@ module _ (files : Files) (name : List ℕ) (names : List (List ℕ)) (out : List
       to_one (Ok ls) (Ok ms) e f is image gives =
           record { links = ms; accepted = f; image_is = sym (same ls ms is) ∙ ap applied (ok_same ls gives.links (verdict files many) e gives.accepted) ∙ gives.image_is }
       to_one (Ok ls) (Err r) e f is image gives = absurd is
-      to_one (Err r) y e f is image gives = absurd (err_ok r gives.links (verdict files many) e gives.accepted)
+      to_one (Err r) y e f is image gives = absurd (err_not_ok r gives.links (verdict files many) e gives.accepted)
 
       to_many : (x y : Result (List Link) Refusal) → verdict files many ≡ x → verdict files one ≡ y → Alike cs x y → (image : Image) → Gives files one image → Gives files many image
       to_many (Ok ls) (Ok ms) e f is image gives =
           record { links = ls; accepted = e; image_is = same ls ms is ∙ ap applied (ok_same ms gives.links (verdict files one) f gives.accepted) ∙ gives.image_is }
       to_many (Err r) (Ok ms) e f is image gives = absurd is
-      to_many x (Err r) e f is image gives = absurd (err_ok r gives.links (verdict files one) f gives.accepted)
+      to_many x (Err r) e f is image gives = absurd (err_not_ok r gives.links (verdict files one) f gives.accepted)

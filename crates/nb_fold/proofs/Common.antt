@@ -1,5 +1,4 @@
 -- The definitions that the proofs of this crate speak in, and the laws of other crates that they cite, passed on from one place. Declares nothing.
-pub use Rattle.nb_chain.proofs.AnswerLaws.{passed}
 pub use Rattle.nb_chain.specs.First.{Tested}
 pub use Rattle.nb_change.proofs.ChangesLaws.{kept_on, kept_then, rested}
 pub use Rattle.nb_change.proofs.GaveLaws.{gave_begun, nothing_joined}
@@ -18,10 +17,12 @@ pub use Rattle.nb_fold.specs.Same.{GiveTheSame, Gives, IsFoldOf, IsMergedInto, l
 pub use Rattle.nb_fold.specs.Sources.{AllWait, AreAtEnd, AreOfPages, AreOpened, Held, IsGiven, IsLeast, IsOpened, IsTaken, Waits, WaitsBy, count_at, counts_at, due, due_by, rest_after, rests, waiting_page, waits_at}
 unfoldable pub use Rattle.nb_fold.specs.Verdict.{file_after, files_after}
 pub use Rattle.nb_fold.specs.Verdict.{chained, fold_verdict, not_after, with_files}
-pub use Rattle.nb_gather.proofs.QuietLaws.{is_made, named, remade_twice}
+pub use Rattle.nb_gather.proofs.QuietLaws.{is_made, remade_twice, taken_quiet, unfinished_empty}
 pub use Rattle.nb_gather.specs.Gathering.{HasTaken, LevelWriting, MayHave}
 pub use Rattle.nb_gather.specs.Making.{IsKept, IsMade, IsUnfinished, IsUnfinishedOr}
-pub use Rattle.nb_host.proofs.PlainLaws.{some_none, some_same}
+pub use Rattle.nb_host.proofs.FileLaws.{passed}
+pub use Rattle.nb_host.proofs.NameLaws.{with_file-named}
+pub use Rattle.nb_host.proofs.PlainLaws.{err_not_ok, head_same, none_and_some, none_some, ok_same, some_none, some_same}
 pub use Rattle.nb_host.specs.Crash.{Leaves, LeavesAll}
 pub use Rattle.nb_host.specs.Files.{File, Files, bytes_of}
 pub use Rattle.nb_host.specs.World.{World}
@@ -46,7 +47,6 @@ unfoldable pub use Rattle.nb_model.specs.Restoring.{all_over, applied, first_lin
 pub use Rattle.nb_model.specs.Restoring.{Link, level_link, linked}
 pub use Rattle.nb_page.proofs.QuietLaws.{quiet_begun, quiet_joined}
 pub use Rattle.nb_page.specs.Quiet.{Quiet}
-pub use Rattle.nb_restore.proofs.AnswerLaws.{err_ok, ok_same}
 pub use Rattle.nb_restore.proofs.ChainLaws.{GoesBehind, goes_behind}
 pub use Rattle.nb_restore.proofs.CopiedLaws.{all_over-append, written-sizes}
 pub use Rattle.std.proofs.lemmas.Bool.{and_parts, eqb-true, true≢false}

@@ -1,6 +1,6 @@
 -- A level file takes a page.
 use Rattle.std.proofs.Common.{◌≡◌, ◌≢◌, ◌⊎◌, inl, inr, ℕ, ◌+◌, ◌<◌, List, [], ◌∷◌, ◌++◌, length, refl, sym, ap, subst, ◌∙◌, arith, Bool, true, false, ◌&&◌, ◌||◌, ◌==◌, nat_lt, Result, Ok}
-use Rattle.nb_gather.proofs.Common.{and_parts, eqb-true, eqb_tells, bytes_of, World, IsTimely, Changes, Only, Remade, LevelHead, AddsTwo, Numbered, Stretch, runs_of, total, eq_yes, LevelWriting, Waiting, Holds, HoldsAll, Reads, HasTaken, MayHave, complete, incomplete, level_front, IsUnfinished, lt_holds, not_both}
+use Rattle.nb_gather.proofs.Common.{and_parts, eqb-true, eqb_tells, bytes_of, World, IsTimely, Changes, Only, Remade, LevelHead, AddsTwo, Numbered, Stretch, runs_of, total, eq_yes, LevelWriting, Waiting, Holds, HoldsAll, Reads, HasTaken, MayHave, complete, incomplete, level_front, IsUnfinished, lt_holds, not_both, or_parts}
 use Rattle.nb_gather.proofs.AppendLaws.{run_read, run_reads, run_left}
 use Rattle.nb_gather.proofs.FitLaws.{RunsFit, runs_fit, may_front}
 use Rattle.nb_gather.proofs.QuietLaws.{renamed}
@@ -30,10 +30,6 @@ pub record Completes (run : Waiting) (rs : List Numbered) (r : Numbered) (waits 
 or_right : (a b : Bool) → (a || b) ≡ true → a ≡ false → b ≡ true
 or_right true b is none = absurd (not_both true refl none)
 or_right false b is none = is
-
-or_none : (a b : Bool) → (a || b) ≡ false → (a ≡ false) × (b ≡ false)
-or_none true b is = absurd (not_both true refl is)
-or_none false b is = (refl, is)
 
 module _ (head : LevelHead) (rs : List Numbered) (r : Numbered) (may : MayHave head (rs ++ r ∷ [])) (old : Waiting) (waits : HoldsAll old (incomplete (runs_of rs))) where
   before : RunsFit head rs
@@ -101,7 +97,7 @@ module _ (head : LevelHead) (rs : List Numbered) (r : Numbered) (may : MayHave h
   -- the page doesn't go into it
   pub other_run : may_join old r ≡ false → Completes old rs r (one_run r ∷ [])
   other_run not_ =
-      let both = or_none (old.count == 0) _ not_ in
+      let both = or_parts (old.count == 0) _ not_ in
       let some : old.count ≢ 0 = λ e. absurd (not_both (old.count == 0) (eq_yes old.count 0 e) both.0) in
       let w = one_waits old head rs before waits some in
       record { s = w.0; holds = w.2; grows = grown_other r (runs_of rs) w.0 w.1 (sym (goes_as old w.0 r w.2) ∙ both.1) }

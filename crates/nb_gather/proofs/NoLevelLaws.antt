@@ -1,6 +1,6 @@
 -- What is left of a level file before its end is whole is no backup.
 use Rattle.std.proofs.Common.{◌≡◌, ◌⊎◌, inl, inr, ⊎_elim, ℕ, suc, ◌+◌, ◌/◌, ◌%◌, ◌<◌, List, [], ◌∷◌, ◌++◌, length, take, drop, refl, sym, ap, subst, ◌∙◌, arith, length-append, append_assoc, true, false, ◌||◌, ◌==◌, nat_le, IsTrue, Some, Ok}
-use Rattle.nb_gather.proofs.Common.{eqb-true, or_cases, drop_at, drop_all, drop-drop, number_of, bytes_of, number_in, is_page_size, size_facts, decide, Head, Stretch, Contents, head_then, run_bytes, end_bytes, end_mark, read_level, read_pages, read_runs, and_no_right, total, IsHeaded, IsNoBackup, not_both}
+use Rattle.nb_gather.proofs.Common.{eqb-true, or_cases, drop_at, drop_all, drop-drop, number_of, bytes_of, number_in, is_page_size, size_facts, decide, Head, Stretch, Contents, head_then, run_bytes, end_bytes, end_mark, read_level, read_pages, read_runs, total, IsHeaded, IsNoBackup, not_both, and_right}
 use Rattle.nb_fields.specs.Header.{is_header, is_marked}
 use Rattle.nb_model.specs.Levels.{head_in}
 use Rattle.nb_level.proofs.ToldLaws.{level_told}
@@ -36,7 +36,7 @@ size_torn size (t ∷ ts) is torn =
 no_header : (bs ts : List ℕ) → Torn (78 ∷ bs) ts → is_header ts ≡ false
 unfolding is_header is_marked number_in number_of
 no_header bs [] torn = refl
-no_header bs (t ∷ ts) torn = ⊎_elim (λ e. subst (λ x. is_header (x ∷ ts) ≡ false) (sym e) (and_no_right (nat_le 64 (suc (length ts))) false refl)) (λ e. subst (λ x. is_header (x ∷ ts) ≡ false) (sym e) (and_no_right (nat_le 64 (suc (length ts))) false refl)) torn.0
+no_header bs (t ∷ ts) torn = ⊎_elim (λ e. subst (λ x. is_header (x ∷ ts) ≡ false) (sym e) (and_right (nat_le 64 (suc (length ts))) false refl)) (λ e. subst (λ x. is_header (x ∷ ts) ≡ false) (sym e) (and_right (nat_le 64 (suc (length ts))) false refl)) torn.0
 
 module _ (bytes : List ℕ) where
   runs_read : (version : ℕ) → version ≡ 102 → read_pages version (head_in bytes) bytes ≡ read_runs (length bytes) (head_in bytes) 52 0 0 end_mark (drop 52 bytes)

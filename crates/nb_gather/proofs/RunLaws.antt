@@ -1,6 +1,6 @@
 -- How the runs of the pages that were taken go on by one page more.
 use Rattle.std.proofs.Common.{◌≡◌, ◌⊎◌, inl, inr, ℕ, suc, ◌+◌, ◌<◌, ◌≤◌, List, [], ◌∷◌, ◌++◌, length, refl, sym, ap, subst, ◌∙◌, arith, length-append, Bool, true, false, ◌&&◌, ◌==◌, nat_lt}
-use Rattle.nb_gather.proofs.Common.{leb_tells, append-nil, Page, Numbered, Stretch, runs_behind, runs_of, and_no_right, complete, incomplete, not_both, true_or_false}
+use Rattle.nb_gather.proofs.Common.{leb_tells, append-nil, Page, Numbered, Stretch, runs_behind, runs_of, complete, incomplete, not_both, true_or_false, and_right}
 
 -- a run of one page
 abbrev pub one_run : Numbered → Stretch
@@ -112,7 +112,7 @@ module _ (r : Numbered) where
   grown_none (s ∷ []) none = elim (full_or_not s) [
     | inl is ↦ absurd (no_run s (sym none ∙ is.2))
     | inr is ↦
-        let other : goes_on s r ≡ false = and_no_right (r.0 == s.first + length s.pages) (nat_lt (length s.pages) 16) is.0 in
+        let other : goes_on s r ≡ false = and_right (r.0 == s.first + length s.pages) (nat_lt (length s.pages) 16) is.0 in
         let more : added r (s ∷ []) ≡ s ∷ one_run r ∷ [] = rw (other, added) refl in
         let two = two_runs s (one_run r) refl in
         (ap complete more ∙ two.0 ∙ sym (append-nil (complete (s ∷ [])) ∙ is.1), ap incomplete more ∙ two.1)

@@ -73,3 +73,7 @@ with_file-keep files n = fun_ext (λ m. by_test m (same_name m n) refl)
     by_test : (m : List ℕ) (b : Bool) → b ≡ same_name m n → (if b then files n else files m) ≡ files m
     by_test m true is = ap files (sym (told_text m n true is))
     by_test m false is = refl
+
+-- the file under a name that was just given to it
+pub with_file-named : (old new : Files) (name : List ℕ) (file : File) → new ≡ with_file old name file → new name ≡ file
+with_file-named old new name file is = ap (λ (f : Files). f name) is ∙ with_file-same old name file

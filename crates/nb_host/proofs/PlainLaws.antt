@@ -1,6 +1,7 @@
 -- What holds of truth values, options, results, numbers and lists, for all crates.
-use Rattle.std.proofs.Common.{◌≡◌, ◌≢◌, ◌⊎◌, inl, inr, ℕ, ◌+◌, ◌<◌, ◌≤◌, List, [], ◌∷◌, ◌++◌, length, take, refl, sym, ap, ◌∙◌, arith, suc, zero, true≢false, Bool, true, false, not, ◌&&◌, ◌||◌, Option, Some, None, Ok, Err, IsTrue, is_some, nat_eq, nat_lt, nat_le}
+use Rattle.std.proofs.Common.{◌≡◌, ◌≢◌, ◌⊎◌, inl, inr, ℕ, ◌+◌, ◌*◌, ◌<◌, ◌≤◌, List, [], ◌∷◌, ◌++◌, length, take, refl, sym, ap, ◌∙◌, arith, mul-le-mul_right, suc, zero, true≢false, Bool, true, false, not, ◌&&◌, ◌||◌, Option, Some, None, Ok, Err, IsTrue, is_some, nat_eq, nat_lt, nat_le, Contains, min, Result, IsErr, OnOk}
 use Rattle.std.proofs.lemmas.Bool.Decides.{eqb_tells, leb_tells}
+use Rattle.std.specs.List.{AllByRecursion}
 
 -- what is there and what isn't
 pub some_same : {X : Type 0} (x y : X) → Some x ≡ Some y → x ≡ y
@@ -19,8 +20,27 @@ pub not_some : {X : Type 0} (o : Option X) → not (is_some o) ≡ true → o �
 not_some None h = refl
 not_some (Some x) h = cc
 
+pub not_there : {X : Type 0} (o : Option X) → is_some o ≡ false → o ≡ None
+not_there None h = refl
+not_there (Some x) h = absurd (true≢false h)
+
+pub none_and_some : {X : Type 0} (o : Option X) (x : X) → o ≡ None → o ≡ Some x → ⊥
+none_and_some o x e f = cc
+
 pub err_ok : {E T : Type 0} (e : E) (x : T) → Err e ≡ Ok x → ⊥
 err_ok e x is = cc
+
+pub ok_equal : {T E : Type 0} (x y : T) → ◌≡◌ {A = Result T E} (Ok x) (Ok y) → x ≡ y
+ok_equal x y e = cc
+
+pub ok_same : {X E : Type 0} (x y : X) (answer : Result X E) → answer ≡ Ok x → answer ≡ Ok y → x ≡ y
+ok_same x y answer e f = cc
+
+pub err_not_ok : {X E : Type 0} (error : E) (x : X) (answer : Result X E) → answer ≡ Err error → answer ≡ Ok x → ⊥
+err_not_ok error x answer e f = cc
+
+pub no_err : (T E : Type 0) (x : T) → IsErr {T = T} {E = E} (Ok x) → ⊥
+no_err T E x h = cc
 
 -- truth values
 pub false_true : false ≡ true → ⊥
@@ -80,14 +100,61 @@ pub not_lt : (m n : ℕ) → nat_lt n m ≡ false → m ≤ n
 not_lt m n h = elim (leb_tells (suc n) m) [ inl w ↦ absurd (true≢false (sym w.0 ∙ h)) | inr w ↦ omega (arith, w.1) ]
 
 -- lists
+pub nil_cons : {X : Type 0} (x : X) (xs : List X) → [] ≡ x ∷ xs → ⊥
+nil_cons x xs e = cc
+
+pub cons_nil : {X : Type 0} (x : X) (xs : List X) → x ∷ xs ≡ [] → ⊥
+cons_nil x xs e = cc
+
+pub head_same : {X : Type 0} (x y : X) (xs ys : List X) → x ∷ xs ≡ y ∷ ys → x ≡ y
+head_same x y xs ys e = cc
+
+pub tail_same : {X : Type 0} (x y : X) (xs ys : List X) → x ∷ xs ≡ y ∷ ys → xs ≡ ys
+tail_same x y xs ys e = cc
+
+pub none_in : {X : Type 0} (x : X) → Contains [] x → ⊥
+none_in x h = absurd (omega (arith, h.1))
+
 pub append_none : (xs ys : List ℕ) → xs ++ ys ≡ [] → (xs ≡ []) × (ys ≡ [])
 append_none [] ys e = (refl, e)
-append_none (x ∷ xs) ys e = absurd (cons_none e)
-  where
-    cons_none : x ∷ (xs ++ ys) ≡ [] → ⊥
-    cons_none h = cc
+append_none (x ∷ xs) ys e = absurd (cons_nil x (xs ++ ys) e)
 
 pub take_self : (n : ℕ) (l : List ℕ) → take n l ≡ take (length (take n l)) l
 take_self zero l = refl
 take_self (suc n) [] = refl
 take_self (suc n) (x ∷ l) = ap (λ (k : List ℕ). x ∷ k) (take_self n l)
+
+-- what lies behind the first 64 bytes
+pub far_behind : (n size : ℕ) → 1 ≤ n → 1024 ≤ size → 64 ≤ n * size
+far_behind n size some wide = let low : 1 * size ≤ n * size = mul-le-mul_right size some in omega (arith, low, wide)
+
+-- what holds of each of two lists, and of both as one
+pub all_append : {A : Type 0} (P : A → Type 0) (xs ys : List A) → AllByRecursion P xs → AllByRecursion P ys → AllByRecursion P (xs ++ ys)
+all_append P [] ys first second = second
+all_append P (x ∷ xs) ys first second = (first.0, all_append P xs ys first.1 second)
+
+pub all_parts : {X : Type 0} (P : X → Type 0) (xs ys : List X) → AllByRecursion P (xs ++ ys) → AllByRecursion P xs × AllByRecursion P ys
+all_parts P [] ys all = (tt, all)
+all_parts P (x ∷ xs) ys all = let rest = all_parts P xs ys all.1 in ((all.0, rest.0), rest.1)
+
+pub all_front : {A : Type 0} (P : A → Type 0) (xs ys : List A) → AllByRecursion P (xs ++ ys) → AllByRecursion P xs
+all_front P [] ys all = tt
+all_front P (x ∷ xs) ys all = (all.0, all_front P xs ys all.1)
+
+pub all_go : {X : Type 0} (P R : X → Type 0) (xs : List X) → ((x : X) → P x → R x) → AllByRecursion P xs → AllByRecursion R xs
+all_go P R [] goes all = tt
+all_go P R (x ∷ xs) goes all = (goes x all.0, all_go P R xs goes all.1)
+
+pub all_both : {X : Type 0} (P R : X → Type 0) (xs : List X) → AllByRecursion P xs → AllByRecursion R xs → AllByRecursion (λ x. P x × R x) xs
+all_both P R [] a b = tt
+all_both P R (x ∷ xs) a b = ((a.0, b.0), all_both P R xs a.1 b.1)
+
+-- each page took one read at most, page 0 two
+pub first_twice : (old loop new number : ℕ) → (0 < number → new ≤ loop + 1) → new ≤ loop + 2 → loop ≤ old + number + min number 1 → new ≤ old + (number + 1) + min (number + 1) 1
+first_twice old loop new zero once twice so_far = omega (arith, twice, so_far)
+first_twice old loop new (suc n) once twice so_far = (let one : new ≤ loop + 1 = once (omega arith) in omega (arith, one, so_far))
+
+-- what holds anyway holds at Ok
+pub on_ok : {T E : Type 0} {P : Type 0} (r : Result T E) → P → OnOk r P
+on_ok (Ok x) p = p
+on_ok (Err e) p = tt

@@ -1,6 +1,6 @@
 -- What a merge changes and leaves, from the tests on.
 use Rattle.std.proofs.Common.{◌/◌, take, ◌≡◌, ◌≢◌, ◌⊎◌, inl, inr, ⊎_elim, ℕ, ◌*◌, ◌<◌, ◌≤◌, List, [], ◌∷◌, ◌++◌, length, refl, sym, ap, subst, ◌∙◌, arith, true, Some, None, Result, Ok, Err, Contains}
-use Rattle.nb_inplace.proofs.Common.{mul-div_cancel, eqb-true, take-append-le, is_header, state_of, size_of, size_facts, File, Files, bytes_of, World, Leaves, LeavesAll, IsDurable, Fault, Refused, Device, Memory, Refusal, Changes, Only, NoNames, Remade, GaveNothing, rested, kept_then, nothing_joined, header_in, Header, Quiet, Page, Image, Numbered, first_page, image_size, image_in, trimmed, overwritten, in_place, Head, Contents, joined, read_level, HoldsMain, delta_name, main_page, IsOfSize, as_standby, merged, formed, no_cause, header-long, header-other, same-header, same-number, trimmed-append_zeros, trimmed-other, length-joined, IsLaid, laid, image_in-is, owner_main, header_no_level, trimmed_alike, trimmed_page, Reading, still_to_come, err_ok, level-headed, Standby, IsFitFor, AcceptSays, base_with, IsHalfIn, ApplyLeft, ApplyAnswers, Applies, applying_page, IsBetween, IsHalf, IsDoneBy, IsHalfFile, merged_pages, IsHalfOr, KeepsMerged, IsPlan, ReadySays, IsWholeStandby, stamp_cause, IsMergeable, level_pages, some_same}
+use Rattle.nb_inplace.proofs.Common.{mul-div_cancel, eqb-true, take-append-le, is_header, state_of, size_of, size_facts, File, Files, bytes_of, World, Leaves, LeavesAll, IsDurable, Fault, Refused, Device, Memory, Refusal, Changes, Only, NoNames, Remade, GaveNothing, rested, kept_then, nothing_joined, header_in, Header, Quiet, Page, Image, Numbered, first_page, image_size, image_in, trimmed, overwritten, in_place, Head, Contents, joined, read_level, HoldsMain, delta_name, main_page, IsOfSize, as_standby, merged, formed, no_cause, header-long, header-other, same-header, same-number, trimmed-append_zeros, trimmed-other, length-joined, IsLaid, laid, image_in-is, owner_main, header_no_level, trimmed_alike, trimmed_page, Reading, still_to_come, level-headed, Standby, IsFitFor, AcceptSays, base_with, IsHalfIn, ApplyLeft, ApplyAnswers, Applies, applying_page, IsBetween, IsHalf, IsDoneBy, IsHalfFile, merged_pages, IsHalfOr, KeepsMerged, IsPlan, ReadySays, IsWholeStandby, stamp_cause, IsMergeable, level_pages, some_same, err_not_ok}
 use Rattle.nb_change.proofs.MomentLaws.{left_before}
 use Rattle.nb_change.proofs.SettledLaws.{durable_is}
 use Rattle.nb_model.specs.Trail.{ShowsIn}
@@ -237,7 +237,7 @@ module _ (old : World) (standby name : List ℕ) (s : Standby) (reader : Reading
         left = left_all left.left;
         reads = reads_all left;
         gave = nothing_joined old mid new (record { guids = quiet.guids; times = quiet.times }) gave;
-        refused = λ refusal is. absurd (err_ok refusal c (in_place files standby name) is m.accepted);
+        refused = λ refusal is. absurd (err_not_ok refusal c (in_place files standby name) is m.accepted);
       }
 
       -- The device failed,

@@ -17,11 +17,12 @@ pub use Rattle.nb_fields.specs.Header.{guid_of, is_sound, pending_of, scn_of, si
 pub use Rattle.nb_fields.specs.Page.{stamp_of}
 pub use Rattle.nb_fields.specs.Places.{is_page_size, most_pages}
 pub use Rattle.nb_fields.specs.States.{applying_state, merge_state, normal_state, stalled_state}
-pub use Rattle.nb_fixup.proofs.AnswerLaws.{IsLong, long_file, passed, refused, tested_by}
-pub use Rattle.nb_fixup.proofs.CauseLaws.{fits, no_page, parted, too_few, too_many, unheaded}
+pub use Rattle.nb_fixup.proofs.AnswerLaws.{refused, tested_by}
+pub use Rattle.nb_fixup.proofs.CauseLaws.{fits, no_page, parted, too_few, too_many}
 pub use Rattle.nb_fixup.specs.Tests.{Tested}
-pub use Rattle.nb_host.proofs.NameLaws.{same_other, same_self}
-pub use Rattle.nb_host.proofs.PlainLaws.{not_false, some_none, some_same}
+pub use Rattle.nb_host.proofs.FileLaws.{IsLong, long_file, passed}
+pub use Rattle.nb_host.proofs.NameLaws.{same_other, same_self, with_file-named}
+pub use Rattle.nb_host.proofs.PlainLaws.{err_not_ok, head_same, none_some, not_false, ok_same, some_none, some_same}
 pub use Rattle.nb_host.specs.Calls.{IsStill, ReadsPage, WritesPage}
 pub use Rattle.nb_host.specs.Crash.{IsDurable, Leaves, LeavesAll, PageLeft}
 unfoldable pub use Rattle.nb_host.specs.Files.{put_at}
@@ -49,10 +50,11 @@ pub use Rattle.nb_level.specs.Heads.{head_of}
 unfoldable pub use Rattle.nb_level.specs.Reading.{still_to_come}
 pub use Rattle.nb_level.specs.Reading.{Reading}
 pub use Rattle.nb_level.specs.declared.head.LevelHead.{LevelHead}
-pub use Rattle.nb_model.proofs.FormLaws.{Formed, formed, no_cause}
+pub use Rattle.nb_model.proofs.FormLaws.{Formed, formed, no_cause, unheaded}
+pub use Rattle.nb_model.proofs.FrontLaws.{plain_base}
 pub use Rattle.nb_model.proofs.HeadSound.{all_zeros}
 pub use Rattle.nb_model.proofs.HeaderLaws.{form, header-long, header-other, header-room, header-scn, header-size, header-state, same-header, same-number}
-pub use Rattle.nb_model.proofs.ImageLaws.{AreZeros, Trimming, all-append, all-drop, all-replicate, all-right, all-take, drop-joined, joined-append, joined-zeros, length-joined, page-joined, take-joined, trimmed-append_zeros, trimmed-before, trimmed-no_zeros, trimmed-other, trimming, zeros-are}
+pub use Rattle.nb_model.proofs.ImageLaws.{AreZeros, Trimming, all-append, all-drop, all-replicate, all-right, all-take, drop-joined, first_and_rest, joined-append, joined-zeros, length-joined, page-joined, take-joined, trimmed-append_zeros, trimmed-before, trimmed-no_zeros, trimmed-other, trimming, zeros-are}
 pub use Rattle.nb_model.proofs.MainLaws.{IsLaid, image_in-is, laid, laid-front, laid-wide, main_laid, owner-formed, owner_main, some_page}
 pub use Rattle.nb_model.proofs.OwnerLaws.{main_here, main_past, other_page}
 pub use Rattle.nb_model.proofs.PutLaws.{put-first}
@@ -83,12 +85,11 @@ pub use Rattle.nb_page.proofs.QuietLaws.{quiet_begun, quiet_joined}
 unfoldable pub use Rattle.nb_page.specs.Header.{header_in}
 pub use Rattle.nb_page.specs.Quiet.{Quiet}
 pub use Rattle.nb_page.specs.declared.header.Header.{Header}
-pub use Rattle.nb_restore.proofs.AnswerLaws.{err_ok, ok_same}
 pub use Rattle.nb_restore.proofs.CopiedLaws.{all_over-one, first-written, overwrites_first, overwrites_joined, overwrites_none, overwrites_page, put-written, written-sizes}
-pub use Rattle.nb_restore.proofs.FrontLaws.{named, put_on_ok}
+pub use Rattle.nb_restore.proofs.FrontLaws.{put_on_ok}
 pub use Rattle.nb_restore.proofs.HeadLaws.{HasHead, head_all, level-headed}
 pub use Rattle.nb_restore.specs.Copied.{Holds, IsDone, Overwrites}
 pub use Rattle.nb_restore.specs.Target.{IsKept}
 pub use Rattle.std.proofs.Math.Nat.{mul-div_cancel}
-pub use Rattle.std.proofs.lemmas.Bool.{and_from, and_parts, cases_eq, cases_lt, eq-eqb, eqb-false, eqb-true, or_from, or_parts, true≢false}
+pub use Rattle.std.proofs.lemmas.Bool.{and_from, and_parts, cases_eq, cases_lt, eq-eqb, eqb-false, eqb-true, or_from, or_parts, or_right, true≢false}
 pub use Rattle.std.proofs.lemmas.List.{append-nil, drop-drop, drop-replicate, drop_all, get_or-append_right, get_or-drop, get_or-set_same, length-replicate, length-take, length-take-le, replicate-append-replicate, take-append-drop, take-append-le, take-replicate, take-take, take_all, take_at, with_items_is}

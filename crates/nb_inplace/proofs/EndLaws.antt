@@ -35,10 +35,7 @@ pub merged_whole : (size : ℕ) (start first : Page) (image : Image) (file : Fil
 merged_whole size start first image file is holds head last last_is = by image holds head
   where
     by : (i : Image) → Holds size start first i file → HasHead size 5 i → HoldsMain (as_standby (trimmed i)) (with_page file (0 * length last) last)
-    by [] h k = absurd (none h.some)
-      where
-        none : 1 ≤ 0 → ⊥
-        none j = omega arith
+    by [] h k = absurd (let few : 1 ≤ 0 = h.some in omega (arith, few))
     by (p ∷ ps) h k =
         let wide = (size_facts size is).at_least in
         let page : last ≡ standby_page p = last_is ∙ ap standby_page h.page_0 in

@@ -1,6 +1,6 @@
 -- A merge of a kept backup: it gives the image that the begin of the backup kept, and what is half merged can be gone on with.
 use Rattle.std.proofs.Common.{◌≡◌, ◌≢◌, inr, ℕ, ◌<◌, ◌≤◌, List, length, refl, sym, ap, subst, ◌∙◌, arith, Some, Ok, Contains}
-use Rattle.nb_inplace.proofs.Common.{stamp_of, state_of, size_of, guid_of, pending_of, normal_state, applying_state, File, Files, Kept, Base, base_of, Plain, IsBase, Account, with_entry, Image, Numbered, first_page, image_guid, image_in, trimmed, overwritten, written_since, other_pages, Contents, delta_name, owner, entry_of_files, IsSoundImage, nil, IsKeptAs, to_base, to_record, IsBegun, GoesOn, NamesItsPast, HoldsItsRecord, IsStopped, Stands, as_standby, merged, owner_main, header_no_level, opened_entry, StandsUnder, stands_with_both, IsBetween, IsHalf, formed, some_same}
+use Rattle.nb_inplace.proofs.Common.{stamp_of, state_of, size_of, guid_of, pending_of, normal_state, applying_state, File, Files, Kept, base_of, Plain, IsBase, Account, with_entry, Image, Numbered, first_page, image_guid, image_in, trimmed, overwritten, written_since, other_pages, Contents, delta_name, owner, entry_of_files, IsSoundImage, nil, IsKeptAs, to_base, to_record, IsBegun, GoesOn, NamesItsPast, HoldsItsRecord, IsStopped, Stands, as_standby, merged, owner_main, header_no_level, opened_entry, StandsUnder, stands_with_both, IsBetween, IsHalf, formed, some_same, plain_base}
 use Rattle.nb_inplace.specs.Kept.{MergesBackup}
 use Rattle.nb_inplace.proofs.ClosedLaws.{closed_entry, is_applying_so, half_header, half_applying, half_closed}
 use Rattle.nb_inplace.proofs.HalfLaws.{front_size, front_guid, half_state, half_pending, half_size, half_previous}
@@ -119,9 +119,6 @@ module _ (files : Files) (account : Account) (stands : Stands files account) (st
     abbrev beside : File
     beside = new (delta_name standby)
 
-    no_base : (b : Base) → Plain half beside ≡ IsBase b → ⊥
-    no_base b e = cc
-
     is_it : (x : List ℕ) → new standby ≡ Some x → half ≡ x
     is_it x there = some_same half x (sym here ∙ there)
 
@@ -139,10 +136,10 @@ module _ (files : Files) (account : Account) (stands : Stands files account) (st
     half_under : StandsUnder new then.kept standby (Plain half beside)
     half_under = record {
       same = sym (ap (λ (f : File). entry_of_files standby f beside) here ∙ closed_entry standby half beside _ (half_closed files standby name bytes c merges.mergeable half h beside));
-      frozen = λ b e stalled. absurd (no_base b e);
-      sound = λ b e. absurd (no_base b e);
-      stalled = λ b e stalled. absurd (no_base b e);
-      past = λ b e. absurd (no_base b e);
+      frozen = λ b e stalled. absurd (plain_base half beside b e);
+      sound = λ b e. absurd (plain_base half beside b e);
+      stalled = λ b e stalled. absurd (plain_base half beside b e);
+      past = λ b e. absurd (plain_base half beside b e);
       holds = λ x there. subst (HoldsItsRecord then.kept) (is_it x there) holds_none;
       no_stray = λ some. inr (half, here, half_applying files standby name bytes c merges.mergeable half h);
       standby = λ x r there applying named. subst (λ (y : List ℕ). IsKeptAs then.kept (pending_of y) r → IsStopped then.kept y r) (is_it x there) (waits r) named;

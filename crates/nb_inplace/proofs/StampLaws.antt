@@ -1,6 +1,6 @@
 -- Stamps above an SCN, one piece of pages after another.
 use Rattle.std.proofs.Common.{◌≡◌, inl, inr, ℕ, zero, suc, ◌+◌, ◌-◌, ◌*◌, ◌/◌, ◌<◌, ◌≤◌, List, [], ◌∷◌, ◌++◌, length, take, drop, replicate, refl, sym, ap, ◌∙◌, arith, length-drop, mul-le-mul_right, div-add-mod', true, false, Some, None, Err}
-use Rattle.nb_inplace.proofs.Common.{cases_lt, take-append-le, take-replicate, drop-replicate, length-replicate, drop-drop, drop_all, take-append-drop, take_all, mul-div_cancel, number_of, number_in, is_zeros, is_header, size_of, stamp_of, number_in-take, size_facts, Fault, Refused, Device, Memory, Refusal, ChainScn, Cause, not_database, Page, Image, page_at, image_in, trimmed, written_since, other_pages, joined, IsOfSize, Formed, formed, all_zeros, header-long, header-other, same-header, image_in-is, AreZeros, trimming, trimmed-other, all-drop, length-joined, drop-joined, take-joined, page-joined, lt_no, lt_yes, IsDone, Tested}
+use Rattle.nb_inplace.proofs.Common.{cases_lt, take-append-le, take-replicate, drop-replicate, length-replicate, drop-drop, drop_all, take-append-drop, take_all, mul-div_cancel, number_of, number_in, is_zeros, is_header, size_of, stamp_of, number_in-take, size_facts, Fault, Refused, Device, Memory, Refusal, ChainScn, Cause, not_database, Page, Image, page_at, image_in, trimmed, written_since, other_pages, joined, IsOfSize, Formed, formed, all_zeros, header-long, header-other, same-header, image_in-is, AreZeros, trimming, trimmed-other, all-drop, length-joined, drop-joined, take-joined, page-joined, lt_no, lt_yes, IsDone, Tested, none_some, some_none}
 use Rattle.nb_fields.proofs.NumberLaws.{number_of-zeros}
 
 module _ (name : List ℕ) (scn : ℕ) where
@@ -20,18 +20,12 @@ module _ (name : List ℕ) (scn : ℕ) where
   since_on : (xs ys : List Page) → written_since name scn xs ≡ None → written_since name scn (xs ++ ys) ≡ written_since name scn ys
   since_on [] ys e = refl
   since_on (x ∷ xs) ys e = elim (cases_lt scn (stamp_of x)) [
-    | inl late ↦ absurd (some_none (sym (since_first x xs late) ∙ e))
+    | inl late ↦ absurd (some_none (ChainScn name (stamp_of x) scn) (sym (since_first x xs late) ∙ e))
     | inr early ↦ since_behind x (xs ++ ys) early ∙ since_on xs ys (sym (since_behind x xs early) ∙ e)
   ]
-    where
-      some_none : Some (ChainScn name (stamp_of x) scn) ≡ None → ⊥
-      some_none h = cc
 
   since_found : (xs ys : List Page) (r : Refusal) → written_since name scn xs ≡ Some r → written_since name scn (xs ++ ys) ≡ Some r
-  since_found [] ys r e = absurd (none_some (sym none_since ∙ e))
-    where
-      none_some : None ≡ Some r → ⊥
-      none_some h = cc
+  since_found [] ys r e = absurd (none_some r (sym none_since ∙ e))
   since_found (x ∷ xs) ys r e = elim (cases_lt scn (stamp_of x)) [
     | inl late ↦ since_first x (xs ++ ys) late ∙ sym (since_first x xs late) ∙ e
     | inr early ↦ since_behind x (xs ++ ys) early ∙ since_found xs ys r (sym (since_behind x xs early) ∙ e)

@@ -1,6 +1,6 @@
 -- What an accepted merge is: a standby in the normal or the applying state, and the level file that goes on from it.
 use Rattle.std.proofs.Common.{◌≡◌, ◌⊎◌, inl, inr, ℕ, zero, suc, ◌-◌, ◌≤◌, List, refl, sym, ap, ◌∙◌, arith, Bool, true, false, not, ◌==◌, Some, None, Result, Ok, Err}
-use Rattle.nb_inplace.proofs.Common.{eqb-true, eqb-false, or_parts, state_of, size_of, scn_of, guid_of, pending_of, normal_state, stalled_state, merge_state, applying_state, File, Files, same_name, Refusal, NoFile, WrongState, BadLevel, Unfinished, ChainGuid, ChainSize, ChainScn, Access, Cause, not_database, image_in, is_read_only, written_since, other_pages, not_next, not_finishing, not_mergeable, in_place_of, not_standby, bytes_in, in_place, Contents, read_level, formed, header-state, ok_same, err_ok, IsMergeable, not_false}
+use Rattle.nb_inplace.proofs.Common.{eqb-true, eqb-false, or_parts, state_of, size_of, scn_of, guid_of, pending_of, normal_state, stalled_state, merge_state, applying_state, File, Files, same_name, Refusal, NoFile, WrongState, BadLevel, Unfinished, ChainGuid, ChainSize, ChainScn, Access, Cause, not_database, image_in, is_read_only, written_since, other_pages, not_next, not_finishing, not_mergeable, in_place_of, not_standby, bytes_in, in_place, Contents, read_level, formed, header-state, IsMergeable, not_false, ok_same, err_not_ok}
 use Rattle.std.specs.Cmp.Lexicographic.{told_text}
 use Rattle.nb_model.proofs.PutSound.{no_first, not_when}
 use Rattle.nb_model.proofs.TurnCases.{is_so}
@@ -100,7 +100,7 @@ in_place_parts bytes name level c e = by (read_level level) refl e
   where
     clear : (d : Contents) → read_level level ≡ Ok d → (cause : Cause) → not_mergeable bytes name d ≡ cause
         → elim cause as (λ x. Result Contents Refusal) [ Some refusal ↦ Err refusal | None ↦ Ok d ] ≡ Ok c → (read_level level ≡ Ok c) × (not_mergeable bytes name c ≡ None)
-    clear d is (Some r) found h = absurd (err_ok r c (Err r) refl h)
+    clear d is (Some r) found h = absurd (err_not_ok r c (Err r) refl h)
     clear d is None found h = let same : d ≡ c = ok_same d c (Ok d) refl h in (is ∙ ap Ok same, ap (not_mergeable bytes name) (sym same) ∙ found)
 
     by : (r : Result Contents ℕ) → read_level level ≡ r
@@ -108,7 +108,7 @@ in_place_parts bytes name level c e = by (read_level level) refl e
           | Err at ↦ Err (BadLevel name at)
           | Ok d ↦ elim (not_mergeable bytes name d) as (λ x. Result Contents Refusal) [ Some refusal ↦ Err refusal | None ↦ Ok d ]
         ] ≡ Ok c → (read_level level ≡ Ok c) × (not_mergeable bytes name c ≡ None)
-    by (Err at) is h = absurd (err_ok (BadLevel name at) c (Err (BadLevel name at)) refl h)
+    by (Err at) is h = absurd (err_not_ok (BadLevel name at) c (Err (BadLevel name at)) refl h)
     by (Ok d) is h = clear d is (not_mergeable bytes name d) refl h
 
 -- of the model's verdict
@@ -127,8 +127,8 @@ in_place_is files standby name bytes c there e = by (not_standby standby (files 
           | Some refusal ↦ Err refusal
           | None ↦ elim level as (λ x. Result Contents Refusal) [ None ↦ Err (NoFile name) | Some bytes ↦ in_place_of (bytes_in (files standby)) name bytes ]
         ] ≡ Ok c → IsInPlace files standby name bytes c
-    by (Some r) is level found h = absurd (err_ok r c (Err r) refl h)
-    by None is None found h = absurd (err_ok (NoFile name) c (Err (NoFile name)) refl h)
+    by (Some r) is level found h = absurd (err_not_ok r c (Err r) refl h)
+    by None is None found h = absurd (err_not_ok (NoFile name) c (Err (NoFile name)) refl h)
     by None is (Some level) found h = record {
       stands = ap (not_standby standby) (sym there) ∙ is;
       level = level;

@@ -1,6 +1,6 @@
 -- What stands in a file that is read as a level file.
 use Rattle.std.proofs.Common.{◌≡◌, ℕ, ◌<◌, ◌≤◌, List, length, refl, sym, ap, subst, true, ◌&&◌, ◌||◌, ◌==◌, nat_le, nat_lt, Option, Some, None, Result, Ok, Err}
-use Rattle.nb_level.proofs.Common.{number_in, is_page_size, Numbered, Head, Contents, first_fault, head_in, read_level, read_pages, with_head, none_clear, not_long, AreClear}
+use Rattle.nb_level.proofs.Common.{number_in, is_page_size, Numbered, Head, Contents, first_fault, head_in, read_level, read_pages, with_head, none_clear, not_long, AreClear, err_ok}
 use Rattle.nb_model.proofs.LevelLaws.{head_tests}
 use Rattle.nb_host.proofs.PlainLaws.{lt_holds, not_false}
 
@@ -8,10 +8,7 @@ pub with_head-is : (version : ℕ) (h : Head) (r : Result (List Numbered) ℕ) (
 with_head-is version h (Ok rs) c e =
     let same : record { version = version; head = h; pages = rs } ≡ c = cc in
     (ap (λ (x : Contents). Ok x.pages) same, ap (λ (x : Contents). x.head) (sym same))
-with_head-is version h (Err at) c e = absurd (no_value at (Err at) refl e)
-  where
-    no_value : (at : ℕ) (x : Result Contents ℕ) → x ≡ Err at → x ≡ Ok c → ⊥
-    no_value at x f g = cc
+with_head-is version h (Err at) c e = absurd (err_ok at c e)
 
 -- the head and the pages that are told are those of the bytes, and no test of the head fails
 pub record IsTold (bytes : List ℕ) (c : Contents) : Type 0 where
@@ -34,11 +31,8 @@ level_told bytes c e = by (first_fault (head_tests bytes version h)) refl e
     h : Head
     h = head_in bytes
 
-    no_value : (at : ℕ) (x : Result Contents ℕ) → x ≡ Err at → x ≡ Ok c → ⊥
-    no_value at x f g = cc
-
     of_pages : AreClear (head_tests bytes version h) → (pages : Result (List Numbered) ℕ) → read_pages version h bytes ≡ pages → with_head version h pages ≡ Ok c → IsTold bytes c
-    of_pages clear (Err at) is f = absurd (no_value at (Err at) refl f)
+    of_pages clear (Err at) is f = absurd (err_ok at c f)
     of_pages clear (Ok all) is f =
         let same : record { version = version; head = h; pages = all } ≡ c = cc in
         subst (λ (x : Contents). IsTold bytes x) same (record {
@@ -53,5 +47,5 @@ level_told bytes c e = by (first_fault (head_tests bytes version h)) refl e
         })
 
     by : (x : Option ℕ) → first_fault (head_tests bytes version h) ≡ x → elim x as (λ z. Result Contents ℕ) [ Some place ↦ Err place | None ↦ with_head version h (read_pages version h bytes) ] ≡ Ok c → IsTold bytes c
-    by (Some place) is f = absurd (no_value place (Err place) refl f)
+    by (Some place) is f = absurd (err_ok place c f)
     by None is f = of_pages (none_clear (head_tests bytes version h) is) (read_pages version h bytes) refl f

@@ -1,4 +1,5 @@
 -- The definitions that the proofs of this crate speak in, and the laws of other crates that they cite, passed on from one place. Declares nothing.
+pub use Rattle.nb_host.proofs.FileLaws.{padded-short}
 pub use Rattle.nb_host.proofs.NameLaws.{at_other, at_same, decide, same_other, same_self, to_other, to_same, with_file-again, with_file-keep, with_file-other, with_file-same, with_file-swap}
 pub use Rattle.nb_host.specs.Calls.{IsSilent, IsStill, Syncs}
 pub use Rattle.nb_host.specs.Crash.{AppendLeft, IsDurable, IsTornFrom, Leaves, PageLeft}

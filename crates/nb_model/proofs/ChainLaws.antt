@@ -1,6 +1,6 @@
 -- The files of kept backups that go on from one another are accepted as a chain.
-use Rattle.std.proofs.Common.{◌≡◌, inl, inr, ℕ, suc, ◌+◌, ◌<◌, ◌≤◌, List, [], ◌∷◌, length, refl, sym, ap, subst, ◌∙◌, arith, Bool, true, false, not, ◌&&◌, ◌||◌, ◌==◌, Some, None, Ok}
-use Rattle.nb_model.proofs.Common.{leb_tells, eqb_tells, stamp_of, most_pages, Files, same_name, Refusal, Page, Image, Numbered, image_size, first_page, Ask, Kept, Cause, first_cause, when, Head, IsHead, IsLevel, Contents, AreRising, AreOfSize, taken_from, taken, changed, head_for, file_for, file_of, level_bytes, begins_level, read_level, is_first_page, Link, level_link, not_behind, next_link, next_links, IsOfSize, IsSoundImage, IsBegun, IsLine, IsKeptNext, HoldsNext, HoldLine, next_files, same_self}
+use Rattle.std.proofs.Common.{◌≡◌, inl, inr, ℕ, suc, ◌+◌, ◌<◌, ◌≤◌, List, [], ◌∷◌, length, refl, sym, ap, subst, ◌∙◌, arith, Bool, true, false, not, ◌||◌, ◌==◌, Some, None, Ok}
+use Rattle.nb_model.proofs.Common.{leb_tells, eqb_tells, stamp_of, most_pages, Files, same_name, Refusal, Page, Image, Numbered, image_size, first_page, Ask, Kept, Cause, first_cause, when, Head, IsHead, IsLevel, Contents, AreRising, AreOfSize, taken_from, taken, changed, head_for, file_for, file_of, level_bytes, begins_level, read_level, is_first_page, Link, level_link, not_behind, next_link, next_links, IsOfSize, IsSoundImage, IsBegun, IsLine, IsKeptNext, HoldsNext, HoldLine, next_files, same_self, and_from}
 use Rattle.nb_model.specs.Restoring.{linked}
 use Rattle.nb_model.proofs.ChangedLaws.{sound_changed}
 use Rattle.nb_model.proofs.ReadLaws.{eq_yes}
@@ -47,15 +47,12 @@ file_is version q ask asked level whole =
     let spelled : file_of version q ≡ level_bytes version (head_for q ask) (changed ask.previous_scn q.image) = rw (asked, file_for) (rw (level, file_for) refl) in
     spelled ∙ ap (level_bytes version (head_for q ask)) (sound_changed ask.previous_scn q.image whole)
 
-and_both : (a b : Bool) → a ≡ true → b ≡ true → (a && b) ≡ true
-and_both a b e f = rw (e, f) refl
-
 -- page 0 of an image that a begin left
 first_is : (q : Kept) (ask : Ask) → IsBegun q → is_first_page (head_for q ask) (first_page q.image) ≡ true
 unfolding is_first_page
 first_is q ask begun =
-    and_both _ _ begun.header (and_both _ _ (eq_yes _ _ begun.state) (and_both _ _ (eq_yes _ _ refl)
-    (and_both _ _ (ap (λ (g : List ℕ). same_name g q.guid) begun.guid ∙ same_self q.guid) (eq_yes _ _ begun.scn))))
+    and_from _ _ begun.header (and_from _ _ (eq_yes _ _ begun.state) (and_from _ _ (eq_yes _ _ refl)
+    (and_from _ _ (ap (λ (g : List ℕ). same_name g q.guid) begun.guid ∙ same_self q.guid) (eq_yes _ _ begun.scn))))
 
 -- the file is in the grammar
 file_in_grammar : (version : ℕ) (q : Kept) (ask : Ask) (p : Page) (ps : Image) → q.image ≡ p ∷ ps → (version == 101 || version == 102) ≡ true → IsHead (head_for q ask)

@@ -2,7 +2,7 @@
 pub use Rattle.nb_fields.proofs.FreshLaws.{bit_of-inventory, entry_of-scn, fresh_shows, length-taken_bits, taken_bits-free}
 pub use Rattle.nb_fields.proofs.HeaderLaws.{is_header-long, is_header-short, is_header-take}
 pub use Rattle.nb_fields.proofs.LengthLaws.{fresh_count-most}
-pub use Rattle.nb_fields.proofs.NumberLaws.{length-bytes_of, number_of-bytes_of}
+pub use Rattle.nb_fields.proofs.NumberLaws.{bit_at-most, length-bytes_of, number_of-bytes_of}
 pub use Rattle.nb_fields.proofs.PageLaws.{drop-page_of, kind_of-page_of, length-head_of, length-padded, length-page_of, padded_whole, part-append, stamp_of-page_of}
 pub use Rattle.nb_fields.proofs.PartLaws.{drop-with_part, length-part, length-with_part, number_in-take, number_in-with_part, number_in-with_part_other, part-take, part-with_part, part-with_part_other}
 pub use Rattle.nb_fields.proofs.PlaceLaws.{bits-least, entries-least, fresh_kind-scn, inventory_index, scn_place-some}
@@ -27,7 +27,7 @@ unfoldable pub use Rattle.nb_fields.specs.Table.{page_in, slot_place}
 pub use Rattle.nb_fields.specs.declared.kinds.PageKind.{PageKind}
 pub use Rattle.nb_fields.specs.declared.kinds.PageKind.TheVariants.{Data, Header, Inventory, Raw, ScnInventory}
 pub use Rattle.nb_host.proofs.NameLaws.{decide, same_self}
-pub use Rattle.nb_host.proofs.PlainLaws.{append_none, eq_other, eq_self, err_ok, false_true, lt_holds, none_some, not_false, not_le, not_lt, some_same}
+pub use Rattle.nb_host.proofs.PlainLaws.{all_append, all_both, all_front, all_go, all_parts, append_none, cons_nil, eq_other, eq_self, err_not_ok, err_ok, false_true, head_same, lt_holds, nil_cons, none_and_some, none_in, none_some, not_false, not_le, not_lt, not_there, not_true, ok_same, or_false, or_true, some_none, some_same, tail_same}
 unfoldable pub use Rattle.nb_host.specs.Files.{put_at, with_file}
 pub use Rattle.nb_host.specs.Files.{File, Files}
 pub use Rattle.nb_host.specs.Names.{delta_suffix, is_delta, is_name, same_name}
@@ -103,7 +103,7 @@ pub use Rattle.std.proofs.Math.Nat.{div-eq_of_lt, div-mul-le_self, mod-eq_of_lt,
 pub use Rattle.std.proofs.Math.Seq.{get_or-append_seam, set-append_seam, take-append-add}
 pub use Rattle.std.proofs.lemmas.Bool.{and_from, and_left, and_parts, and_right, cases_Bool, cases_lt, cond-false, cond-true, cond_both, eq-eqb, eqb-false, eqb-true, false_from_ne_true, le-leb, leb-true, lt-leb, lt-ltb, ltb-false, ltb-true, ne_eqb, or_cases, or_from, or_parts, or_right, true≢false}
 pub use Rattle.std.proofs.lemmas.Bool.Decides.{eqb_tells, leb_tells}
-pub use Rattle.std.proofs.lemmas.List.{append-nil, drop-append-le, drop-drop, drop-replicate, drop_all, drop_at, get_or-append_right, get_or-drop, get_or-set_other, get_or-set_same, get_or_append_left, get_or_past, length-drop, length-replicate, length-set, length-take-le, map-append, replicate-append-replicate, set_split, take-append-drop, take-append-le, take_all, take_at}
-pub use Rattle.std.proofs.lemmas.List.Elements.{Contains-append_cases, Contains-append_left, Contains-append_right}
+pub use Rattle.std.proofs.lemmas.List.{append-nil, drop-append-le, drop-drop, drop-replicate, drop_all, drop_at, get_or-append_right, get_or-drop, get_or-set_other, get_or-set_same, get_or_append_left, get_or_past, length-drop, length-replicate, length-set, length-take-le, map-append, nil_from_length, replicate-append-replicate, set_split, take-append-drop, take-append-le, take_all, take_at}
+pub use Rattle.std.proofs.lemmas.List.Elements.{Contains-append_cases, Contains-append_left, Contains-append_right, Contains-push}
 pub use Rattle.std.specs.Cmp.Lexicographic.{pointwise, told_text}
 pub use Rattle.std.specs.List.{AllByRecursion, filter, flat_map, list_all, list_any, range_with_len, slice_index_or, sum_by}

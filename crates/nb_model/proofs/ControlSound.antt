@@ -83,9 +83,6 @@ module _ (state scn : ℕ) (guid : List ℕ) (image : Image) (h : HasHeader imag
   rest : (q : ℕ) → 1 ≤ q → page_at new q ≡ page_at image q
   rest = control_rest state scn guid image
 
-  same_length : length new ≡ length image
-  same_length = control_long state scn guid image
-
   pub new_size : image_size new ≡ image_size image
   new_size = size_then state scn guid image h may
 

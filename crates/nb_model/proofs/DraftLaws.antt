@@ -14,11 +14,11 @@ pub either : (P : Draft → Type 0) (t : Bool) (x y : Draft) → P x → P y →
 either P true x y px py = px
 either P false x y px py = py
 
-either_page : (P : Draft → Type 0) (t : Bool) (x y : Draft × ℕ) → P x.0 → P y.0 → P (elim t as (λ z. Draft × ℕ) [ true ↦ x | false ↦ y ]).0
+pub either_page : (P : Draft → Type 0) (t : Bool) (x y : Draft × ℕ) → P x.0 → P y.0 → P (elim t as (λ z. Draft × ℕ) [ true ↦ x | false ↦ y ]).0
 either_page P true x y px py = px
 either_page P false x y px py = py
 
-either_need : (P : Draft → Type 0) (o : Option ℕ) (stop : ℕ → Draft × ℕ) (go : Draft × ℕ) → ((q : ℕ) → P (stop q).0) → P go.0 → P (elim o as (λ z. Draft × ℕ) [ Some q ↦ stop q | None ↦ go ]).0
+pub either_need : (P : Draft → Type 0) (o : Option ℕ) (stop : ℕ → Draft × ℕ) (go : Draft × ℕ) → ((q : ℕ) → P (stop q).0) → P go.0 → P (elim o as (λ z. Draft × ℕ) [ Some q ↦ stop q | None ↦ go ]).0
 either_need P None stop go ps pg = pg
 either_need P (Some q) stop go ps pg = ps q
 
@@ -89,7 +89,7 @@ pub drafted_is : (b : Base) → IsOf b (drafted b.image)
 unfolding base_after
 drafted_is b = record { is = refl }
 
-page_image : (b : Base) (p : ℕ) (bytes : Page) → (base_after b (page p bytes ∷ [])).image ≡ with_page p (merged_page p bytes b.image) b.image
+pub page_image : (b : Base) (p : ℕ) (bytes : Page) → (base_after b (page p bytes ∷ [])).image ≡ with_page p (merged_page p bytes b.image) b.image
 unfolding base_after on_base
 page_image b p bytes = refl
 

@@ -1,6 +1,6 @@
 -- The form of a database: what it says of a file's bytes.
 use Rattle.std.proofs.Common.{◌≡◌, inl, inr, ℕ, suc, ◌*◌, ◌/◌, ◌%◌, ◌<◌, ◌≤◌, List, [], ◌∷◌, length, refl, sym, ap, ◌∙◌, arith, div-add-mod', mul-div_cancel, Bool, true, false, IsTrue, not, ◌||◌, ◌==◌, nat_lt, Some, None, min}
-use Rattle.nb_model.proofs.Common.{true≢false, or_parts, or_from, leb_tells, eqb_tells, mul-mod_left, is_header, size_of, is_page_size, most_pages, Refusal, NotDatabase, Cause, first_cause, when, not_database, not_lt}
+use Rattle.nb_model.proofs.Common.{true≢false, or_parts, or_from, leb_tells, eqb_tells, mul-mod_left, is_header, size_of, is_page_size, most_pages, Refusal, NotDatabase, Cause, first_cause, when, not_database, not_lt, some_none}
 use Rattle.nb_model.proofs.ReadLaws.{lt_no}
 use Rattle.nb_model.proofs.HeaderLaws.{header-size}
 
@@ -20,14 +20,8 @@ two_tests a b r q = first_cause (when a r ∷ when b q ∷ [])
 two_tests-none : (a b : Bool) (r q : Refusal) → two_tests a b r q ≡ None → (a ≡ false) × (b ≡ false)
 unfolding first_cause
 two_tests-none false false r q h = (refl, refl)
-two_tests-none false true r q h = absurd (some_none h)
-  where
-    some_none : Some q ≡ None → ⊥
-    some_none k = cc
-two_tests-none true b r q h = absurd (some_none h)
-  where
-    some_none : Some r ≡ None → ⊥
-    some_none k = cc
+two_tests-none false true r q h = absurd (some_none q h)
+two_tests-none true b r q h = absurd (some_none r h)
 
 two_tests-from : (a b : Bool) (r q : Refusal) → a ≡ false → b ≡ false → two_tests a b r q ≡ None
 unfolding first_cause
@@ -54,9 +48,6 @@ whole_pages left count h =
 pub formed : (bytes : List ℕ) → not_database bytes ≡ None → Formed bytes
 formed bytes none = by (is_header bytes) refl (sym (not_database-is bytes) ∙ none)
   where
-    some_none : (r : Refusal) → Some r ≡ None → ⊥
-    some_none r k = cc
-
     by : (t : Bool) → is_header bytes ≡ t → elim t as (λ z. Cause) [ false ↦ Some (NotDatabase 0) | true ↦ length_cause bytes ] ≡ None → Formed bytes
     by false e h = absurd (some_none (NotDatabase 0) h)
     by true e h =
@@ -83,3 +74,8 @@ no_cause bytes size count header same some whole least most =
     ∙ ap (λ (t : Bool). elim t as (λ z. Cause) [ false ↦ Some (NotDatabase 0) | true ↦ length_cause bytes ]) header
     ∙ two_tests-from _ _ (NotDatabase (min (length bytes / size_of bytes) most_pages)) (NotDatabase most_pages)
     (or_from _ _ (ap (λ x. not (x == 0)) left) (ap (λ x. nat_lt x 5) pages ∙ lt_no count 5 least)) (ap (λ x. nat_lt most_pages x) pages ∙ lt_no most_pages count most)
+
+-- a file without a header
+pub unheaded : (bytes : List ℕ) → is_header bytes ≡ false → not_database bytes ≡ Some (NotDatabase 0)
+unfolding not_database
+unheaded bytes e = rw (e, not_database) refl

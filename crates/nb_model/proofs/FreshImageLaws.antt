@@ -2,7 +2,7 @@
 use Rattle.std.proofs.Common.{◌≡◌, ℕ, zero, suc, ◌+◌, ◌-◌, ◌*◌, ◌/◌, ◌<◌, ◌≤◌, List, [], ◌∷◌, ◌++◌, length, drop, map, refl, sym, ap, subst, ◌∙◌, arith, append-nil, Bool, true, false, IsTrue, not, ◌&&◌, ◌||◌, ◌==◌, nat_le, nat_lt, Some, if◌then◌else◌}
 use Rattle.nb_model.proofs.Common.{AllByRecursion, flat_map, range_with_len, cond_both, PageKind, Header, Inventory, Data, Raw, ScnInventory, bytes_of, number_of, number_in, padded, is_zeros, code_of, is_page_size, is_system_place, entries_in, bits_in, head_of, page_of, control_block, header_payload, inventory_payload, same_entries, scn_payload, data_payload, text_payload, is_header, is_marked, is_sound, state_of, size_of, scn_of, next_plain, length_after, fresh_count, fresh_kind, fresh_payload, fresh_page, fresh, number_of-bytes_of, SizeFacts, size_facts, is_header-long, length-page_of, fresh_count-most, length-taken_bits, normal_state, put_at, Page, Image, page_at, first_page, image_size, image_state, image_scn, is_forced, is_read_only, joined, HasNoZeros, IsOfSize, HoldsMain}
 use Rattle.std.proofs.lemmas.List.FromFn.{length-map-range_with_len, get_or-map-range_with_len}
-use Rattle.nb_model.proofs.ImageLaws.{joined-flat_map, trimmed-no_zeros}
+use Rattle.nb_model.proofs.ImageLaws.{joined-flat_map, trimmed-no_zeros, first_and_rest}
 use Rattle.nb_model.proofs.MainLaws.{IsLaid, main_laid}
 use Rattle.nb_model.proofs.PutLaws.{put-first}
 use Rattle.nb_model.proofs.SoundLaws.{page_no_zeros}
@@ -160,11 +160,7 @@ fresh_main size raw is few =
 pub fresh_rebuilt : (size raw : ℕ) (old : Page) → IsTrue (is_page_size size) → length old ≡ size
     → put_at (flat_map (λ p. p) (old ∷ drop 1 (fresh size raw))) 0 (fresh_page size raw 0) ≡ flat_map (λ p. p) (fresh size raw)
 fresh_rebuilt size raw old is long =
-    let first : fresh size raw ≡ fresh_page size raw 0 ∷ drop 1 (fresh size raw) = split (fresh size raw) (omega (arith, fresh_length size raw, fresh_count-least size raw)) ∙ ap (λ (p : Page). p ∷ drop 1 (fresh size raw)) (fresh_first size raw) in
+    let first : fresh size raw ≡ fresh_page size raw 0 ∷ drop 1 (fresh size raw) = first_and_rest (fresh size raw) (omega (arith, fresh_length size raw, fresh_count-least size raw)) ∙ ap (λ (p : Page). p ∷ drop 1 (fresh size raw)) (fresh_first size raw) in
     let sizes : IsOfSize size (fresh_page size raw 0 ∷ drop 1 (fresh size raw)) = subst (λ (x : Image). IsOfSize size x) first (fresh_sizes size raw is) in
     ap (λ (x : List ℕ). put_at x 0 (fresh_page size raw 0)) (sym (joined-flat_map (old ∷ drop 1 (fresh size raw))))
     ∙ put-first size old (fresh_page size raw 0) (drop 1 (fresh size raw)) (long, sizes.1) sizes.0 ∙ joined-flat_map (fresh_page size raw 0 ∷ drop 1 (fresh size raw)) ∙ ap (λ (x : Image). flat_map (λ p. p) x) (sym first)
-  where
-    split : (ps : Image) → 1 ≤ length ps → ps ≡ first_page ps ∷ drop 1 ps
-    split [] h = absurd (omega arith)
-    split (p ∷ ps) h = refl

@@ -1,6 +1,6 @@
 -- What holds between two turns holds after each turn.
 use Rattle.std.proofs.Common.{◌≡◌, ◌≢◌, inl, inr, ◌⊎◌, ℕ, zero, suc, ◌+◌, ◌-◌, ◌<◌, ◌≤◌, List, [], ◌∷◌, ◌++◌, length, map, drop, replicate, get_or, set, refl, sym, ap, subst, ◌∙◌, arith, append_assoc, Bool, Option, Some, None, true, false, ◌==◌, ◌&&◌}
-use Rattle.nb_model.proofs.Common.{AllByRecursion, slice_index_or, true≢false, eqb-true, eqb-false, leb-true, eqb_tells, leb_tells, get_or_past, get_or-set_same, get_or-set_other, is_header, scn_of, guid_of, normal_state, stalled_state, merge_state, is_name, Refusal, HasItsEntry, Reply, Statement, Base, Account, Ask, room_in, close_backup, close_copy, is_free_entry, runs_other, broken_at, not_of_form, short_for, History, pages_of, spots, free_spot, AreBeginnings, AreMerging, IsNamed, AreNamed, HasRoom, Runs, IsAt, waits, backs_up, copies, merges, IsGoing, IsMaking, Page, Image, first_page, image_size, image_state, image_scn, image_guid, trimmed, Turn, Begins, Copies, ClosesBackup, ClosesCopy, Ends, Merges, Finishes, Backing, Seen, Outcome, Given, next_guid, passes, ends_by, end_strokes, Now, Played, base_now, account_after, outcome, stands_then, take_turn, one_turn, play, event_of, begun, files_made, HasHeader, IsSoundImage, Stroke, begin, ends, finish, on_base, base_after, with_control, first_turn, turn, is_on_pages, some_same}
+use Rattle.nb_model.proofs.Common.{AllByRecursion, slice_index_or, true≢false, eqb-true, eqb-false, leb-true, eqb_tells, leb_tells, get_or_past, get_or-set_same, get_or-set_other, is_header, scn_of, guid_of, normal_state, stalled_state, merge_state, is_name, Refusal, HasItsEntry, Reply, Statement, Base, Account, Ask, room_in, close_backup, close_copy, is_free_entry, runs_other, broken_at, not_of_form, short_for, History, pages_of, spots, free_spot, AreBeginnings, AreMerging, IsNamed, AreNamed, HasRoom, Runs, IsAt, waits, backs_up, copies, merges, IsGoing, IsMaking, Page, Image, first_page, image_size, image_state, image_scn, image_guid, trimmed, Turn, Begins, Copies, ClosesBackup, ClosesCopy, Ends, Merges, Finishes, Backing, Seen, Outcome, Given, next_guid, passes, ends_by, end_strokes, Now, Played, base_now, account_after, outcome, stands_then, take_turn, one_turn, play, event_of, begun, files_made, HasHeader, IsSoundImage, Stroke, begin, ends, finish, on_base, base_after, with_control, first_turn, turn, is_on_pages, some_same, nil_cons, none_some}
 use Rattle.std.proofs.Math.ListN.{get_or-map}
 use Rattle.nb_model.specs.Going.{ends as ending}
 use Rattle.nb_model.proofs.ControlMay.{may_begin, may_end, may_finish}
@@ -299,9 +299,6 @@ module _ {sound : Bool} (session : ℕ) (now : Now) (going : IsGoing sound now) 
       (runs_then session rest (copied s session name) now (session - 1) session 1 refl refl (ap (λ (x : Base). image_state x.image) (no_more b) ∙ may.stalled))
       (free_then session rest (copied s session name) now going refl name may.free))
       (λ other number off runs. absurd (none_some runs.by (sym may.alone ∙ runs.running)))
-    where
-      none_some : (by : ℕ) → None ≡ Some by → ⊥
-      none_some by e = cc
 
   pub first_step : (rest : List Turn) → AreBeginnings rest → (statement : Statement) → IsNamed (Begins statement) → IsStep sound now session (first_turn s session statement) rest
   unfolding first_turn
@@ -442,12 +439,9 @@ module _ {sound : Bool} (session : ℕ) (now : Now) (going : IsGoing sound now) 
 module _ (session : ℕ) (now : Now) (u : Turn) (rest : List Turn) (is : get_or now.todo (session - 1) [] ≡ u ∷ rest) (o : Outcome) where
   inside : session - 1 < length now.todo
   inside = elim (leb_tells (length now.todo) (session - 1)) [
-    | inl low ↦ absurd (none_some (sym (get_or_past now.todo (session - 1) [] low.1) ∙ is))
+    | inl low ↦ absurd (nil_cons u rest (sym (get_or_past now.todo (session - 1) [] low.1) ∙ is))
     | inr low ↦ omega (arith, low.1)
   ]
-    where
-      none_some : [] ≡ u ∷ rest → ⊥
-      none_some e = absurd (let long = ap length e in omega arith)
 
   pub own_todo : get_or (stands_then session rest o now).todo (session - 1) [] ≡ o.next ++ rest
   own_todo = ap (λ (todo : List (List Turn)). get_or todo (session - 1) []) (then_todo session rest o now) ∙ get_or-set_same now.todo (session - 1) (o.next ++ rest) [] inside

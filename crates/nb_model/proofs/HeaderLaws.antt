@@ -70,10 +70,7 @@ pub first-other : (b : ℕ) (bs : List ℕ) → (b == 0) ≡ false → is_zeros 
 first-other b bs e = rw e refl
 
 pub header-other : (p : Page) → is_header p ≡ true → is_zeros p ≡ false
-header-other [] h = absurd (none (header-long [] h))
-  where
-    none : 64 ≤ 0 → ⊥
-    none k = omega arith
+header-other [] h = absurd (let few : 64 ≤ 0 = header-long [] h in omega (arith, few))
 header-other (b ∷ bs) h = first-other b bs (not_zero b (sym (first_byte b bs) ∙ header-kind (b ∷ bs) h))
   where
     not_zero : (b : ℕ) → b ≡ 1 → (b == 0) ≡ false

@@ -69,10 +69,7 @@ module _ (q : ℕ) (bytes : Page) where
   -- A new page is made.
   pub new_held_along : (tries kind : ℕ) (payload : ℕ → List ℕ) (b : Base) (x : Image) → b.image ≡ x → IsWhole x → (kind == 0) ≡ false → ((p : ℕ) → length (payload p) ≤ 1008)
       → (new_within tries kind payload (drafted x)).0.full ≡ false → IsHeld q bytes x → HeldAlong b (new_within tries kind payload (drafted x)).0.strokes
-  new_held_along zero kind payload b x e h some room left held = absurd (no_tries (found x h kind payload zero left).tries_is)
-    where
-      no_tries : {n : ℕ} → zero ≡ suc n → ⊥
-      no_tries e = omega (arith, e)
+  new_held_along zero kind payload b x e h some room left held = absurd (omega (arith, (found x h kind payload zero left).tries_is))
   new_held_along (suc tries) kind payload b x e h some room left held = by (λ c y same well full there. new_held_along tries kind payload c y same well some room full there) (is_system_place (image_size x) p) refl
     where
       p : ℕ

@@ -172,10 +172,7 @@ pub record IsMade (image : Image) (kind : ℕ) (payload : ℕ → List ℕ) (mad
 
 pub new_is_made : (tries kind : ℕ) (payload : ℕ → List ℕ) (image : Image) → IsWhole image → (kind == 0) ≡ false → ((p : ℕ) → length (payload p) ≤ 1008)
     → (new_within tries kind payload (drafted image)).0.full ≡ false → IsMade image kind payload (new_within tries kind payload (drafted image))
-new_is_made zero kind payload image h some room left = absurd (no_tries (found image h kind payload zero left).tries_is)
-  where
-    no_tries : {n : ℕ} → zero ≡ suc n → ⊥
-    no_tries e = omega (arith, e)
+new_is_made zero kind payload image h some room left = absurd (omega (arith, (found image h kind payload zero left).tries_is))
 new_is_made (suc tries) kind payload image h some room left = by (λ x well full. new_is_made tries kind payload x well some room full) (is_system_place (image_size image) p) refl
   where
     p : ℕ

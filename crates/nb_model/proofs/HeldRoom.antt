@@ -13,6 +13,7 @@ use Rattle.nb_model.proofs.SlotLaws.{linked_slots, linked_next, linked_owner, ne
 use Rattle.nb_model.proofs.FoundSpots.{found_there}
 use Rattle.nb_model.proofs.SoundLaws.{all_at, inventory_there}
 use Rattle.nb_model.proofs.OnwardTests.{plain_from}
+use Rattle.nb_model.proofs.DraftLaws.{either}
 
 -- A page is held, links of the history lead to it, and what P says holds of each row that it uses.
 pub record HoldsRows (P : Slot → Type 0) (q : ℕ) (image : Image) : Type 0 where
@@ -29,11 +30,7 @@ HasChainRows P image = (p : ℕ) → is_in_chain History image p ≡ true → Al
 -- a page that was needed to be taken is
 pub needs_image_same : (p : ℕ) (d : Draft) → (needs_taken p d).image ≡ d.image
 unfolding needs_taken
-needs_image_same p d = by (is_free_page d.image p)
-  where
-    by : (t : Bool) → (elim t as (λ z. Draft) [ true ↦ record d { broken = p ∷ d.broken } | false ↦ d ]).image ≡ d.image
-    by true = refl
-    by false = refl
+needs_image_same p d = either (λ (x : Draft). x.image ≡ d.image) (is_free_page d.image p) _ _ refl refl
 
 needs_is_taken : (p : ℕ) (d : Draft) → not_of_form (needs_taken p d) ≡ None → is_free_page d.image p ≡ false
 unfolding needs_taken lowest_broken

@@ -1,12 +1,11 @@
 -- An image stays neat where the slot of a table in the catalogue is emptied: the table is gone then, and the others stay.
 use Rattle.std.proofs.Common.{◌≡◌, ◌≢◌, ◌⊎◌, inl, inr, ⊎_elim, ℕ, List, [], ◌∷◌, ◌++◌, map, refl, sym, ap, subst, ◌∙◌, append_assoc, Bool, true, false, ◌&&◌, Option, Some, None, Ok}
-use Rattle.nb_model.proofs.Common.{AllByRecursion, told_text, true≢false, and_parts, and_left, same_name, Chain, Catalogue, History, Spot, is_used, table_of, first_such, pages_of, found_pages, spots, table_spot, is_free_page, Image, GivesRows, rows_in, rows, used, table_chains, chains, pages_of_all, AreDistinct, names_of, IsNeat}
-use Rattle.nb_model.proofs.HeldChains.{split_all, join_all}
+use Rattle.nb_model.proofs.Common.{AllByRecursion, told_text, true≢false, and_parts, and_left, same_name, Chain, Catalogue, History, Spot, is_used, table_of, first_such, pages_of, found_pages, spots, table_spot, is_free_page, Image, GivesRows, rows_in, rows, used, table_chains, chains, pages_of_all, AreDistinct, names_of, IsNeat, some_same, all_parts, all_append, all_go, all_both}
 use Rattle.nb_model.proofs.NeatGrows.{apart_front, distinct_both}
-use Rattle.nb_model.proofs.NeatLaws.{all_go, all_both, pages_first, distinct_left, distinct_right, chains_are, each_table, tables_each, table_found, IsFoundTable, used_each, used_yes, used_not, rows_of_none, rows_of_some, ChangesChain, same_pages, same_all}
+use Rattle.nb_model.proofs.NeatLaws.{pages_first, distinct_left, distinct_right, chains_are, each_table, tables_each, table_found, IsFoundTable, used_each, used_yes, used_not, rows_of_none, rows_of_some, ChangesChain, same_pages, same_all}
 use Rattle.nb_model.proofs.RoomLaws.{first_passes}
 use Rattle.nb_model.proofs.SpotKeys.{keys_in, Absent}
-use Rattle.nb_model.proofs.SpotMaps.{ChangesOne, all_spots, both_spots, none_found, others_found, first_true, first_false, same_some}
+use Rattle.nb_model.proofs.SpotMaps.{ChangesOne, none_found, others_found, first_true, first_false}
 use Rattle.nb_model.proofs.TableCases.{chain_at}
 use Rattle.nb_model.proofs.Inserted.{names_first, tables_pages, used_nothing}
 
@@ -49,7 +48,7 @@ once_name table (x ∷ xs) s distinct found = by (λ d h. once_name table xs s d
     by rest false is = ((λ e. absurd (true≢false (sym e ∙ is))), rest behind (sym (first_false (has_name table) x xs is) ∙ found))
     by rest true is =
         let its = name_of table x is in
-        ((λ e. same_some x s (sym (first_true (has_name table) x xs is) ∙ found)), never (table_of x.bytes) its.1 xs (subst AreDistinct (names_used x xs its.0) distinct).0)
+        ((λ e. some_same x s (sym (first_true (has_name table) x xs is) ∙ found)), never (table_of x.bytes) its.1 xs (subst AreDistinct (names_used x xs its.0) distinct).0)
 
 module _ (f : Spot → Spot) (s : Spot) (empty : is_used (f s).bytes ≡ false) where
   -- What holds of the used slots holds of those that are left, and none of them is the one that was emptied.
@@ -110,20 +109,12 @@ module _ (f : Spot → Spot) (s : Spot) (empty : is_used (f s).bytes ≡ false) 
 -- what holds of all pages holds of those of each table, and the other way round
 pages_each : (x : Image) (P : ℕ → Type 0) (us : List Spot) → AllByRecursion P (pages_of_all x (table_chains us)) → AllByRecursion (λ u. AllByRecursion P (found_pages (chain_at u) x)) us
 pages_each x P [] all = tt
-pages_each x P (u ∷ us) all = let both = split (found_pages (chain_at u) x) (pages_of_all x (table_chains us)) (subst (AllByRecursion P) (tables_pages x u us) all) in (both.0, pages_each x P us both.1)
-  where
-    split : (ks ls : List ℕ) → AllByRecursion P (ks ++ ls) → AllByRecursion P ks × AllByRecursion P ls
-    split [] ls h = (tt, h)
-    split (z ∷ ks) ls h = let rest = split ks ls h.1 in ((h.0, rest.0), rest.1)
+pages_each x P (u ∷ us) all = let both = all_parts P (found_pages (chain_at u) x) (pages_of_all x (table_chains us)) (subst (AllByRecursion P) (tables_pages x u us) all) in (both.0, pages_each x P us both.1)
 
 pub each_pages : (x : Image) (P : ℕ → Type 0) (us : List Spot) → AllByRecursion (λ u. AllByRecursion P (found_pages (chain_at u) x)) us → AllByRecursion P (pages_of_all x (table_chains us))
 unfolding table_chains pages_of_all
 each_pages x P [] all = tt
-each_pages x P (u ∷ us) all = join (found_pages (chain_at u) x) (pages_of_all x (table_chains us)) all.0 (each_pages x P us all.1)
-  where
-    join : (ks ls : List ℕ) → AllByRecursion P ks → AllByRecursion P ls → AllByRecursion P (ks ++ ls)
-    join [] ls a b = b
-    join (z ∷ ks) ls a b = (a.0, join ks ls a.1 b)
+each_pages x P (u ∷ us) all = all_append P (found_pages (chain_at u) x) (pages_of_all x (table_chains us)) all.0 (each_pages x P us all.1)
 
 module _ (x : Image) (f : Spot → Spot) (s : Spot) (empty : is_used (f s).bytes ≡ false) where
   pub left_pages : (P : ℕ → Type 0) (xs : List Spot) → AllByRecursion (ChangesOne f s) xs → AllByRecursion P (pages_of_all x (table_chains (used xs))) → AllByRecursion P (pages_of_all x (table_chains (used (map f xs))))
@@ -198,8 +189,8 @@ module _ (x y : Image) (neat : IsNeat x) (changes : ChangesChain Catalogue x y) 
 
   pub left_hold : (P : ℕ → Type 0) → AllByRecursion P (pages_of_all x (chains x)) → AllByRecursion P before
   left_hold P holds =
-      let parts = split_all P front (pages_of_all x (table_chains (used xs))) (subst (AllByRecursion P) (ap (pages_of_all x) (chains_are x) ∙ fronted (used xs)) holds) in
-      subst (AllByRecursion P) (sym (fronted left)) (join_all P front (pages_of_all x (table_chains left)) parts.0 (left_pages x f s empty P xs all parts.1))
+      let parts = all_parts P front (pages_of_all x (table_chains (used xs))) (subst (AllByRecursion P) (ap (pages_of_all x) (chains_are x) ∙ fronted (used xs)) holds) in
+      subst (AllByRecursion P) (sym (fronted left)) (all_append P front (pages_of_all x (table_chains left)) parts.0 (left_pages x f s empty P xs all parts.1))
 
   apart_then : AreDistinct before
   apart_then =
@@ -238,8 +229,8 @@ module _ (x y : Image) (neat : IsNeat x) (changes : ChangesChain Catalogue x y) 
   pub gone : table_spot table y ≡ None
   unfolding table_spot
   gone = ap (first_such (has_name table)) slots ∙ none_found f s (has_name table) xs
-      (all_spots (λ u. ChangesOne f s u × (has_name table u ≡ true → u ≡ s)) (λ u. has_name table (f u) ≡ false) xs (λ u facts. one u facts.0 facts.1)
-      (both_spots (ChangesOne f s) (λ u. has_name table u ≡ true → u ≡ s) xs all (once_name table xs s neat.names found)))
+      (all_go {X = Spot} (λ u. ChangesOne f s u × (has_name table u ≡ true → u ≡ s)) (λ u. has_name table (f u) ≡ false) xs (λ u facts. one u facts.0 facts.1)
+      (all_both {X = Spot} (ChangesOne f s) (λ u. has_name table u ≡ true → u ≡ s) xs all (once_name table xs s neat.names found)))
     where
       one : (u : Spot) → ChangesOne f s u → (has_name table u ≡ true → u ≡ s) → has_name table (f u) ≡ false
       one u (inr is) once = ap (λ (v : Spot). has_name table (f v)) is ∙ gone_name table

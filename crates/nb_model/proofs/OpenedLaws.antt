@@ -1,6 +1,6 @@
 -- A database that files stand for is well in its state, and settled it is a well trail; and files stand for a well database.
 use Rattle.std.proofs.Common.{◌≡◌, ◌≢◌, inl, inr, ℕ, ◌+◌, ◌-◌, ◌*◌, ◌%◌, ◌<◌, ◌≤◌, List, [], ◌∷◌, ◌++◌, length, take, replicate, refl, sym, ap, subst, ◌∙◌, arith, length-append, add-mul, le_of_mul-le-mul_right, true, false, ◌==◌, Some, None, Ok, Contains}
-use Rattle.nb_model.proofs.Common.{and_parts, and_from, take-append-le, length-replicate, mul-mod_left, part, is_zeros, is_header, state_of, size_of, guid_of, part-take, size_facts, stalled_state, merge_state, applying_state, File, Files, is_delta, Page, Image, first_page, image_size, image_state, image_scn, image_guid, image_in, Kept, Base, IsBase, Account, with_entry, not_database, joined, delta_name, diverted_base, owner, IsSoundImage, to_base, to_record, IsKeptAs, IsRaised, IsCopyOf, HoldsItsRecord, HasOldEntries, NamesItsPast, Stands, Trail, settled, StandsOn, StandsIn, IsOfRecord, IsWellBaseIn, IsWellTrail}
+use Rattle.nb_model.proofs.Common.{and_parts, and_from, take-append-le, length-replicate, mul-mod_left, part, is_zeros, is_header, state_of, size_of, guid_of, part-take, size_facts, stalled_state, merge_state, applying_state, File, Files, is_delta, Page, Image, first_page, image_size, image_state, image_scn, image_guid, image_in, Kept, Base, IsBase, Account, with_entry, not_database, joined, delta_name, diverted_base, owner, IsSoundImage, to_base, to_record, IsKeptAs, IsRaised, IsCopyOf, HoldsItsRecord, HasOldEntries, NamesItsPast, Stands, Trail, settled, StandsOn, StandsIn, IsOfRecord, IsWellBaseIn, IsWellTrail, some_same}
 use Rattle.nb_model.proofs.FormLaws.{Formed, formed}
 use Rattle.nb_model.proofs.FrontLaws.{owner_of_entry}
 use Rattle.nb_model.proofs.HeadSound.{all_zeros}
@@ -175,10 +175,7 @@ module _ (files : Files) (kept : List Kept) (name : List ℕ) (b : Base) (opens 
   its_state = same_state b (files name) its_main
 
   its_bytes : (bytes : List ℕ) → files name ≡ Some bytes → its_main.bytes ≡ bytes
-  its_bytes bytes there = some_same (sym its_main.there ∙ there)
-    where
-      some_same : Some its_main.bytes ≡ Some bytes → its_main.bytes ≡ bytes
-      some_same h = cc
+  its_bytes bytes there = some_same its_main.bytes bytes (sym its_main.there ∙ there)
 
   its_base : (c : Base) → IsBase b ≡ IsBase c → b ≡ c
   its_base c e = cc

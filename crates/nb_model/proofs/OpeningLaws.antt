@@ -1,6 +1,6 @@
 -- The first statement of a run: whether its name is free, and what it makes.
 use Rattle.std.proofs.Common.{◌≡◌, ◌≢◌, inl, inr, ℕ, List, [], ◌∷◌, ◌++◌, take, refl, sym, ap, subst, ◌∙◌, Bool, true, false, not, ◌&&◌, ◌||◌, ◌==◌, Option, Some, None, Result, Ok, Err, is_some, is_none}
-use Rattle.nb_model.proofs.Common.{eqb_tells, append-nil, is_zeros, fresh, fresh_count, is_free_file, is_header, state_of, pending_of, is_header-take, applying_state, File, Files, is_delta, Refusal, FileExists, Unfinished, Reply, Pages, Refused, Statement, CreateDb, Image, Base, base_of, Kept, Entry, Plain, IsBase, Account, with_entry, Stroke, make, on_base, records_of, base_in, base_after, records_after, Cause, not_database, when, is_free_entry, delta_name, owner, entry_of_files, Given, Now, Event, base_now, with_made, account_after, IsPlayed, Opening, begun, refused_opening, done_opening, opening_unless, opening, IsRun, IsSameImage}
+use Rattle.nb_model.proofs.Common.{eqb_tells, append-nil, is_zeros, fresh, fresh_count, is_free_file, is_header, state_of, pending_of, is_header-take, applying_state, File, Files, is_delta, Refusal, FileExists, Unfinished, Reply, Pages, Refused, Statement, CreateDb, Image, Base, base_of, Kept, Entry, Plain, IsBase, Account, with_entry, Stroke, make, on_base, records_of, base_in, base_after, records_after, Cause, not_database, when, is_free_entry, delta_name, owner, entry_of_files, Given, Now, Event, base_now, with_made, account_after, IsPlayed, Opening, begun, refused_opening, done_opening, opening_unless, opening, IsRun, IsSameImage, err_not_ok}
 use Rattle.nb_model.specs.Owner.{owner_in}
 use Rattle.nb_model.specs.Run.{IsRest}
 use Rattle.nb_model.proofs.HeaderLaws.{header-other}
@@ -14,9 +14,6 @@ pub owner_applying : (name bytes : List ℕ) (delta : File) → owner_in 3 name 
 unfolding owner_in
 owner_applying name bytes delta = refl
 
-err_ok : (answer : Result Base Refusal) (r : Refusal) (b : Base) → answer ≡ Err r → answer ≡ Ok b → ⊥
-err_ok answer r b e f = cc
-
 -- a file in use: a header in another state
 pub in_use : (bytes : List ℕ) → is_header bytes ≡ true → (state_of bytes == applying_state) ≡ false → is_free_file (Some bytes) ≡ false
 unfolding is_free_file
@@ -29,9 +26,9 @@ pub opened_in_use : (name bytes : List ℕ) (delta : File) (b : Base) → owner 
 opened_in_use name bytes delta b opens = by (not_database bytes) refl
   where
     by : (c : Cause) → not_database bytes ≡ c → is_free_file (Some bytes) ≡ false
-    by (Some r) is = absurd (err_ok (owner name (Some bytes) delta) r b (owner-refused name bytes delta r is) opens)
+    by (Some r) is = absurd (err_not_ok r b (owner name (Some bytes) delta) (owner-refused name bytes delta r is) opens)
     by None is = elim (eqb_tells (state_of bytes) 3) [
-      | inl w ↦ absurd (err_ok (owner name (Some bytes) delta) Unfinished b (owner-formed name bytes delta is ∙ ap (λ n. owner_in n name bytes delta) w.1 ∙ owner_applying name bytes delta) opens)
+      | inl w ↦ absurd (err_not_ok Unfinished b (owner name (Some bytes) delta) (owner-formed name bytes delta is ∙ ap (λ n. owner_in n name bytes delta) w.1 ∙ owner_applying name bytes delta) opens)
       | inr w ↦ in_use bytes (formed_header bytes is) w.0
     ]
 

@@ -29,13 +29,13 @@ module _ (size : ℕ) (main : Image) (delta table : List ℕ) where
   owned_at p low = from_at (max (length main) (behind_entries table)) 0 p (omega (arith, low, owned_length)) ∙ ap (owned_page size main delta table) (let e : 0 + p ≡ p = omega arith in e)
 
   -- a page that no entry names
-  owned_rest : (p : ℕ) → entry_for p table ≡ None → owned_page size main delta table p ≡ main_page size main p
+  pub owned-none : (p : ℕ) → entry_for p table ≡ None → owned_page size main delta table p ≡ main_page size main p
   unfolding owned_page
-  owned_rest p none = ap (λ (x : Option ℕ). elim x as (λ z. Page) [ Some k ↦ slot_page size main delta p k | None ↦ main_page size main p ]) none
+  owned-none p none = ap (λ (x : Option ℕ). elim x as (λ z. Page) [ Some k ↦ slot_page size main delta p k | None ↦ main_page size main p ]) none
 
   rest_same : HasNoZeros (owned size main delta table) → (p : ℕ) → p < length (owned size main delta table) → entry_for p table ≡ None → (p < length main) × (page_at (owned size main delta table) p ≡ page_at main p)
   rest_same some p low none =
-      let is : page_at (owned size main delta table) p ≡ main_page size main p = owned_at p low ∙ owned_rest p none in
+      let is : page_at (owned size main delta table) p ≡ main_page size main p = owned_at p low ∙ owned-none p none in
       elim (leb_tells (suc p) (length main)) [
         | inl w ↦ (w.1, is ∙ main_here size main p w.1)
         | inr w ↦

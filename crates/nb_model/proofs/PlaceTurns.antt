@@ -1,6 +1,6 @@
 -- The slot of a new table is placed in the catalogue, in an image in which the table's page stands.
 use Rattle.std.proofs.Common.{◌≡◌, ◌≢◌, ◌⊎◌, inl, inr, ⊎_elim, ℕ, zero, suc, ◌+◌, ◌*◌, ◌≤◌, ◌<◌, List, [], ◌∷◌, ◌++◌, length, drop, refl, sym, ap, subst, ◌∙◌, arith, Bool, true, false, Option, Some, None, is_some, Ok, Contains}
-use Rattle.nb_model.proofs.Common.{AllByRecursion, told_text, true≢false, and_from, and_left, and_right, eq-eqb, append-nil, bytes_of, with_part, data_payload, data_kind, same_name, Base, broken_at, Chain, Catalogue, History, RowsFrom, Slot, Spot, owner_of, next_in, is_slot, is_used, table_of, first_in, slots_in, first_such, free_spot, walk, pages_of, found_pages, spots_of, spots, table_spot, table_slot, put_slot, last_of, grown, place_at, place_slot, Draft, drafted, wants, put, raised, new_page, Page, Image, page_at, GivesRows, used, table_chains, chains, pages_of_all, IsNeat, HasHeader, IsSoundImage, is_table_name}
+use Rattle.nb_model.proofs.Common.{AllByRecursion, told_text, true≢false, and_from, and_left, and_right, eq-eqb, append-nil, bytes_of, with_part, data_payload, data_kind, same_name, Base, broken_at, Chain, Catalogue, History, RowsFrom, Slot, Spot, owner_of, next_in, is_slot, is_used, table_of, first_in, slots_in, first_such, free_spot, walk, pages_of, found_pages, spots_of, spots, table_spot, table_slot, put_slot, last_of, grown, place_at, place_slot, Draft, drafted, wants, put, raised, new_page, Page, Image, page_at, GivesRows, used, table_chains, chains, pages_of_all, IsNeat, HasHeader, IsSoundImage, is_table_name, some_same, all_go, all_both}
 use Rattle.nb_model.proofs.Along.{Along, put_along}
 use Rattle.nb_model.proofs.ChainWalks.{HasForm, there_by, walk_on_is, onward, found_is, spots_are}
 use Rattle.nb_model.proofs.DraftJoin.{Joins, joined, joined_grouped, join_put, join_wants, join_new}
@@ -10,14 +10,14 @@ use Rattle.nb_model.proofs.HeldLaws.{IsHeld}
 use Rattle.nb_model.proofs.Inserted.{Inserted, inserted_last, inserted_used, used_more, Among, used_nothing}
 use Rattle.nb_model.proofs.NeatDrops.{has_name}
 use Rattle.nb_model.proofs.NeatGrows.{GrowsChain}
-use Rattle.nb_model.proofs.NeatLaws.{all_go, all_both, pages_among, chain_apart, chains_are, same_pages, stays_neat, other_rows, rows_of_none, used_yes, used_not, ChangesChain}
+use Rattle.nb_model.proofs.NeatLaws.{pages_among, chain_apart, chains_are, same_pages, stays_neat, other_rows, rows_of_none, used_yes, used_not, ChangesChain, no_catalogue_history}
 use Rattle.nb_model.proofs.NeatMakes.{no_page, a_page, MakesTable, table_made}
 use Rattle.nb_model.proofs.NewSlots.{IsFree}
 use Rattle.nb_model.proofs.FoundSpots.{each_held, found_there}
 use Rattle.nb_model.proofs.SlotPuts.{slot_between, keeps as slot_keeps, IsSlotPut, slot_put}
 use Rattle.nb_model.proofs.SpotKeys.{ChangesOnce, Absent}
 use Rattle.nb_model.proofs.SpotLaws.{IsSpotOn}
-use Rattle.nb_model.proofs.SpotMaps.{ChangesOne, all_spots, both_spots, is_free_slot, free_unused as not_used, none_such, no_such, such_passes, first_true, first_false, others_found, now_found, same_some}
+use Rattle.nb_model.proofs.SpotMaps.{ChangesOne, is_free_slot, free_unused as not_used, none_such, no_such, such_passes, first_true, first_false, others_found, now_found}
 use Rattle.nb_model.proofs.SpotMore.{first_in_front, first_behind}
 use Rattle.nb_model.proofs.SpotWrites.{put_at, put_it, all_change, changes_once}
 use Rattle.nb_model.proofs.TableCases.{chain_at}
@@ -52,7 +52,7 @@ such_among s free f filled test [] found = cc
 such_among s free f filled test (x ∷ xs) found = by (test x) refl (λ h. such_among s free f filled test xs h)
   where
     by : (t : Bool) → test x ≡ t → (first_such test xs ≡ Some s → Among f s free filled xs) → (x ≡ s) ⊎ Among f s free filled xs
-    by true is rest = inl (same_some x s (sym (first_true test x xs is) ∙ found))
+    by true is rest = inl (some_same x s (sym (first_true test x xs is) ∙ found))
     by false is rest = inr (rest (sym (first_false test x xs is) ∙ found))
 
 used_from : (P : Spot → Type 0) (xs : List Spot) → AllByRecursion P xs → AllByRecursion (λ u. P u × (is_used u.bytes ≡ true)) (used xs)
@@ -114,9 +114,6 @@ module _ (c : Base) (header : HasHeader c.image) (is : IsSoundImage c.image) (ne
   not_of_catalogue : (q : ℕ) → Contains ps q → n ≢ q
   not_of_catalogue q at = absent_at n (pages_of_all z (chains z)) q apart (pages_among z (chains z) Catalogue q of_all at)
 
-  no_catalogue : Catalogue ≢ History
-  no_catalogue e = cc
-
   abbrev Gives : Image → Type 0
   Gives w = GivesRows z w table []
 
@@ -124,9 +121,9 @@ module _ (c : Base) (header : HasHeader c.image) (is : IsSoundImage c.image) (ne
   still w keeps less =
       let changes : ChangesChain History z w = nothing_changes z header is neat w less keeps in
       record {
-        neat = stays_neat z w neat History no_catalogue changes (λ first e. cc);
-        its = other_rows z w neat History no_catalogue changes table (λ u found e. cc) ∙ rows_of_none z table none;
-        others = λ other ne. other_rows z w neat History no_catalogue changes other (λ u found e. cc);
+        neat = stays_neat z w neat History no_catalogue_history changes (λ first e. cc);
+        its = other_rows z w neat History no_catalogue_history changes table (λ u found e. cc) ∙ rows_of_none z table none;
+        others = λ other ne. other_rows z w neat History no_catalogue_history changes other (λ u found e. cc);
       }
 
   -- its chain, wherever its page is held
@@ -221,7 +218,7 @@ module _ (c : Base) (header : HasHeader c.image) (is : IsSoundImage c.image) (ne
     finds : table_spot table y ≡ Some (f s)
     unfolding table_spot free_spot
     finds = ap (first_such (has_name table)) its_put.spots_then ∙ now_found f s (has_name table) is_free_slot ms found
-        (all_spots (λ u. ChangesOne f s u × (has_name table u ≡ false)) (λ u. is_free_slot u ≡ false → has_name table (f u) ≡ false) ms (λ u facts. one u facts.0 facts.1) (both_spots (ChangesOne f s) (λ u. has_name table u ≡ false) ms all no_name))
+        (all_go {X = Spot} (λ u. ChangesOne f s u × (has_name table u ≡ false)) (λ u. is_free_slot u ≡ false → has_name table (f u) ≡ false) ms (λ u facts. one u facts.0 facts.1) (all_both {X = Spot} (ChangesOne f s) (λ u. has_name table u ≡ false) ms all no_name))
         (has_it (f s) its_bytes)
       where
         one : (u : Spot) → ChangesOne f s u → has_name table u ≡ false → is_free_slot u ≡ false → has_name table (f u) ≡ false
@@ -265,9 +262,9 @@ module _ (c : Base) (header : HasHeader c.image) (is : IsSoundImage c.image) (ne
       where
         still_changes : (w : Image) → ChangesChain History z w → Gives w
         still_changes w changes = record {
-          neat = stays_neat z w neat History no_catalogue changes (λ first e. cc);
-          its = other_rows z w neat History no_catalogue changes table (λ u found e. cc) ∙ rows_of_none z table none;
-          others = λ other ne. other_rows z w neat History no_catalogue changes other (λ u found e. cc);
+          neat = stays_neat z w neat History no_catalogue_history changes (λ first e. cc);
+          its = other_rows z w neat History no_catalogue_history changes table (λ u found e. cc) ∙ rows_of_none z table none;
+          others = λ other ne. other_rows z w neat History no_catalogue_history changes other (λ u found e. cc);
         }
 
   -- Or the catalogue grows by a page.

@@ -1,6 +1,6 @@
 -- Each stroke of `put` fits at its point.
 use Rattle.std.proofs.Common.{◌≡◌, ◌≢◌, inl, inr, ℕ, suc, ◌+◌, ◌-◌, ◌*◌, ◌/◌, ◌%◌, ◌^◌, ◌<◌, ◌≤◌, List, ◌∷◌, ◌++◌, length, take, drop, replicate, refl, sym, ap, subst, ◌∙◌, arith, length-drop, Bool, true, false, not, ◌==◌, nat_le, nat_lt, Some, None}
-use Rattle.nb_model.proofs.Common.{true≢false, cases_lt, eqb_tells, leb_tells, length-replicate, drop-drop, number_of, bytes_of, number_in, part, with_part, is_zeros, padded, entries_in, bits_in, is_inventory_place, is_scn_place, most_pages, head_of, page_of, kind_of, stamp_of, generation_of, stamped, entry_of, text_payload, length-bytes_of, length-with_part, number_in-with_part, number_in-with_part_other, length-head_of, length-page_of, kind_of-page_of, stamp_of-page_of, padded_whole, part-append, SizeFacts, size_facts, entries-least, scn_place-some, header_kind, raw_kind, scn_kind, Refusal, Page, Image, page_at, first_page, image_size, image_scn, with_page, Base, Draft, drafted, old_page, needs, is_kind, inventory_of, scn_page_of, entry_number, scn_entry, has_entry, entry_written, entry_raised, raised, put, Cause, first_cause, when, not_raw, too_long, IsSoundImage, HasHeader}
+use Rattle.nb_model.proofs.Common.{true≢false, cases_lt, eqb_tells, leb_tells, length-replicate, drop-drop, number_of, bytes_of, number_in, part, with_part, is_zeros, padded, entries_in, bits_in, is_inventory_place, is_scn_place, most_pages, head_of, page_of, kind_of, stamp_of, generation_of, stamped, entry_of, text_payload, length-bytes_of, length-with_part, number_in-with_part, number_in-with_part_other, length-head_of, length-page_of, kind_of-page_of, stamp_of-page_of, padded_whole, part-append, SizeFacts, size_facts, entries-least, scn_place-some, header_kind, raw_kind, scn_kind, Refusal, Page, Image, page_at, first_page, image_size, image_scn, with_page, Base, Draft, drafted, old_page, needs, is_kind, inventory_of, scn_page_of, entry_number, scn_entry, has_entry, entry_written, entry_raised, raised, put, Cause, first_cause, when, not_raw, too_long, IsSoundImage, HasHeader, some_none}
 use Rattle.nb_model.proofs.DraftLaws.{either}
 use Rattle.nb_model.proofs.FitLaws.{IsWhole, Fits, fits_first, fits_needs, form_page, written_image, fits_more}
 use Rattle.nb_model.proofs.HeaderLaws.{header-size}
@@ -313,17 +313,11 @@ header_fields image h = record { size = header-size (first_page image) h.header;
 pub no_first : (c : Cause) (cs : List Cause) → first_cause (c ∷ cs) ≡ None → (c ≡ None) × (first_cause cs ≡ None)
 unfolding first_cause
 no_first None cs h = (refl, h)
-no_first (Some r) cs h = absurd (some_none h)
-  where
-    some_none : Some r ≡ None → ⊥
-    some_none e = cc
+no_first (Some r) cs h = absurd (some_none r h)
 
 pub not_when : (t : Bool) (r : Refusal) → when t r ≡ None → t ≡ false
 not_when false r h = refl
-not_when true r h = absurd (some_none h)
-  where
-    some_none : Some r ≡ None → ⊥
-    some_none e = cc
+not_when true r h = absurd (some_none r h)
 
 -- what is read and written is below the length, and a raw page
 pub raw_facts : (image : Image) (p : ℕ) → not_raw image p ≡ None → (p < length image) × (kind_of (page_at image p) ≡ raw_kind)

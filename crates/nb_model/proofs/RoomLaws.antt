@@ -1,6 +1,6 @@
 -- Each stroke that makes room for a row of the history fits at its point, and each stroke that writes the row.
-use Rattle.std.proofs.Common.{◌≡◌, inl, inr, ℕ, zero, suc, ◌+◌, ◌-◌, ◌*◌, ◌/◌, ◌<◌, ◌≤◌, List, [], ◌∷◌, ◌++◌, length, drop, refl, sym, ap, subst, ◌∙◌, arith, length-drop, length-append, Bool, true, false, ◌==◌, nat_lt, Option, Some, None, Result, Ok, Err}
-use Rattle.nb_model.proofs.Common.{AllByRecursion, div-mul-le_self, true≢false, and_parts, eqb-true, lt-ltb, ltb-true, false_from_ne_true, eqb_tells, bytes_of, with_part, kind_of, stamped, data_payload, is_inventory_place, is_scn_place, most_pages, length-bytes_of, length-padded, length-with_part, SizeFacts, size_facts, stalled_state, header_kind, data_kind, scn_kind, Ask, Base, Room, needs_taken, room_in, broken_at, Chain, History, Slot, Spot, first_of, owner_of, owner_in, slots_from, slots_in, spots_on, spots_of, spots, is_in_chain, next_in, linked, walk, pages_of, found_pages, first_such, free_spot, put_slot, last_of, grown, backup_slot, Draft, drafted, old_page, needs, put, written, wrote, inventory_of, scn_page_of, is_free_page, new_page, wants, IsPlainRoom, Page, Image, page_at, image_size, image_scn, HasHeader, IsSoundImage, begin, on_base, base_after, err_ok}
+use Rattle.std.proofs.Common.{◌≡◌, inl, inr, ℕ, zero, suc, ◌+◌, ◌-◌, ◌*◌, ◌/◌, ◌<◌, ◌≤◌, List, [], ◌∷◌, length, drop, refl, sym, ap, subst, ◌∙◌, arith, length-drop, length-append, Bool, true, false, ◌==◌, nat_lt, Option, Some, None, Result, Ok, Err}
+use Rattle.nb_model.proofs.Common.{AllByRecursion, div-mul-le_self, true≢false, and_parts, eqb-true, lt-ltb, ltb-true, false_from_ne_true, eqb_tells, bytes_of, with_part, kind_of, stamped, data_payload, is_inventory_place, is_scn_place, most_pages, length-bytes_of, length-padded, length-with_part, SizeFacts, size_facts, stalled_state, header_kind, data_kind, scn_kind, Ask, Base, Room, needs_taken, room_in, broken_at, Chain, History, Slot, Spot, first_of, owner_of, owner_in, slots_from, slots_in, spots_on, spots_of, spots, is_in_chain, next_in, linked, walk, pages_of, found_pages, first_such, free_spot, put_slot, last_of, grown, backup_slot, Draft, drafted, old_page, needs, put, written, wrote, inventory_of, scn_page_of, is_free_page, new_page, wants, IsPlainRoom, Page, Image, page_at, image_size, image_scn, HasHeader, IsSoundImage, begin, on_base, base_after, err_ok, ok_same, all_append}
 use Rattle.nb_model.proofs.ControlMay.{may_begin}
 use Rattle.nb_model.proofs.ControlSound.{new_size, control_long}
 use Rattle.nb_model.proofs.DraftLaws.{IsKept, either, put_keeps}
@@ -9,7 +9,6 @@ use Rattle.nb_model.proofs.NewSound.{HoldsOfKinds, plain_place, new_fits}
 use Rattle.nb_model.proofs.PutSound.{IsPlain, IsPut, header_fields, header_whole, old_length, plain_here}
 use Rattle.nb_model.proofs.RoundLaws.{IsNew, new_is_new}
 use Rattle.nb_model.proofs.SoundLaws.{all_at, kind_of_header, with_page_length}
-use Rattle.nb_model.proofs.ChainWalks.{ok_is}
 use Rattle.nb_model.proofs.OnwardTests.{plain_from}
 
 -- What K has to hold of: the pages of the inventories, a new page of the history, and a page that is linked to the next.
@@ -79,11 +78,11 @@ walk_finds (suc left) chain image p ps e = by (λ qs. walk_finds left chain imag
     one qs is all same = subst (AreFound chain image) same (record { some = omega arith; each = (is, all) })
 
     by_rest : is_in_chain chain image p ≡ true → (r : Result (List ℕ) ℕ) → ((qs : List ℕ) → r ≡ Ok qs → AreFound chain image qs) → linked p r ≡ Ok ps → AreFound chain image ps
-    by_rest is (Ok qs) rest e = one qs is (rest qs refl).each (ok_is (Ok (p ∷ qs)) (p ∷ qs) ps refl e)
+    by_rest is (Ok qs) rest e = one qs is (rest qs refl).each (ok_same (p ∷ qs) ps (Ok (p ∷ qs)) refl e)
     by_rest is (Err q) rest e = absurd (err_ok q ps e)
 
     by_last : ((qs : List ℕ) → behind ≡ Ok qs → AreFound chain image qs) → is_in_chain chain image p ≡ true → (t : Bool) → elim t as (λ z. Result (List ℕ) ℕ) [ true ↦ Ok (p ∷ []) | false ↦ linked p behind ] ≡ Ok ps → AreFound chain image ps
-    by_last rest is true e = one [] is tt (ok_is (Ok (p ∷ [])) (p ∷ []) ps refl e)
+    by_last rest is true e = one [] is tt (ok_same (p ∷ []) ps (Ok (p ∷ [])) refl e)
     by_last rest is false e = by_rest is behind rest e
 
     by : ((qs : List ℕ) → behind ≡ Ok qs → AreFound chain image qs) → (t : Bool) → is_in_chain chain image p ≡ t
@@ -125,10 +124,6 @@ pub record IsSpotOf (chain : Chain) (image : Image) (s : Spot) : Type 0 where
   pub page : is_in_chain chain image s.page ≡ true
   pub within : s.slot < (length (page_at image s.page) - 32) / 256
 
-pub spots_append : (P : Spot → Type 0) (xs ys : List Spot) → AllByRecursion P xs → AllByRecursion P ys → AllByRecursion P (xs ++ ys)
-spots_append P [] ys a b = b
-spots_append P (x ∷ xs) ys a b = (a.0, spots_append P xs ys a.1 b)
-
 slots_length : (count at : ℕ) (page : Page) → length (slots_from count at page) ≡ count
 unfolding slots_from
 slots_length zero at page = refl
@@ -145,7 +140,7 @@ module _ (chain : Chain) (image : Image) where
   all_spots [] all = tt
   all_spots (p ∷ ps) all =
       let most : ℕ = (length (page_at image p) - 32) / 256 in
-      spots_append (IsSpotOf chain image) (spots_on p 0 (slots_from most 32 (page_at image p))) (spots_of image ps)
+      all_append (IsSpotOf chain image) (spots_on p 0 (slots_from most 32 (page_at image p))) (spots_of image ps)
       (page_spots p most 0 (slots_from most 32 (page_at image p)) all.0 refl (omega (arith, slots_length most 32 (page_at image p)))) (all_spots ps all.1)
 
 pub first_passes : (test : Spot → Bool) (P : Spot → Type 0) (xs : List Spot) (x : Spot) → first_such test xs ≡ Some x → AllByRecursion P xs → P x

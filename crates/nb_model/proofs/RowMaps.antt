@@ -1,6 +1,6 @@
 -- Rows as a finite map: keys rise, and two maps are the same where each key has the same text in both.
 use Rattle.std.proofs.Common.{◌≡◌, ◌≢◌, inl, inr, ℕ, suc, ◌<◌, List, [], ◌∷◌, refl, sym, ap, subst, ◌∙◌, arith, Bool, true, false, ◌&&◌, ◌==◌, nat_lt, nat_eq, Option, Some, None, option_map}
-use Rattle.nb_model.proofs.Common.{AllByRecursion, true≢false, eqb_tells, leb_tells, Spot, is_used, key_of, text_in, first_such, row_spot, RowMap, IsRising, with_row, without_row, row_at, rows_in, eq_other, eq_self}
+use Rattle.nb_model.proofs.Common.{AllByRecursion, true≢false, eqb_tells, leb_tells, Spot, is_used, key_of, text_in, first_such, row_spot, RowMap, IsRising, with_row, without_row, row_at, rows_in, eq_other, eq_self, some_none, some_same}
 
 abbrev Row : Type 0
 Row = ℕ × List ℕ
@@ -140,9 +140,6 @@ above_none : (key : ℕ) (rs : RowMap) → Above key rs → row_at key rs ≡ No
 above_none key [] all = none_at key
 above_none key (r ∷ rs) all = here_other key r rs (λ e. absurd (omega (arith, e, all.0))) ∙ above_none key rs all.1
 
-some_none : (text : List ℕ) → Some text ≡ None → ⊥
-some_none text e = cc
-
 pub same_maps : (a b : RowMap) → IsRising a → IsRising b → ((key : ℕ) → row_at key a ≡ row_at key b) → a ≡ b
 same_maps [] [] ra rb same = refl
 same_maps [] (s ∷ ss) ra rb same = absurd (some_none s.1 (sym (here_same s.0 s.1 ss) ∙ sym (same s.0) ∙ none_at s.0))
@@ -150,7 +147,7 @@ same_maps (r ∷ rs) [] ra rb same = absurd (some_none r.1 (sym (here_same r.0 r
 same_maps (r ∷ rs) (s ∷ ss) ra rb same = elim (eqb_tells r.0 s.0) [
   | inl w ↦
       let key : r.0 ≡ s.0 = w.1 in
-      let text : r.1 ≡ s.1 = same_some r.1 s.1 (sym (here_same r.0 r.1 rs) ∙ same r.0 ∙ ap (λ (k : ℕ). row_at k (s ∷ ss)) key ∙ here_same s.0 s.1 ss) in
+      let text : r.1 ≡ s.1 = some_same r.1 s.1 (sym (here_same r.0 r.1 rs) ∙ same r.0 ∙ ap (λ (k : ℕ). row_at k (s ∷ ss)) key ∙ here_same s.0 s.1 ss) in
       let rest : rs ≡ ss = same_maps rs ss ra.1 rb.1 (λ k. tail k key) in
       ap (λ (xs : RowMap). r ∷ xs) rest ∙ ap (λ (k : ℕ). (k, r.1) ∷ ss) key ∙ ap (λ (t : List ℕ). (s.0, t) ∷ ss) text
   | inr w ↦ elim (leb_tells (suc r.0) s.0) [
@@ -159,9 +156,6 @@ same_maps (r ∷ rs) (s ∷ ss) ra rb same = elim (eqb_tells r.0 s.0) [
   ]
 ]
   where
-    same_some : (x y : List ℕ) → Some x ≡ Some y → x ≡ y
-    same_some x y e = cc
-
     tail : (k : ℕ) → r.0 ≡ s.0 → row_at k rs ≡ row_at k ss
     tail k key = elim (eqb_tells k r.0) [
       | inl w ↦ ap (λ (n : ℕ). row_at n rs) w.1 ∙ above_none r.0 rs ra.0 ∙ sym (ap (λ (n : ℕ). row_at n ss) (w.1 ∙ key) ∙ above_none s.0 ss rb.0)

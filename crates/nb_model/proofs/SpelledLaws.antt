@@ -1,10 +1,10 @@
 -- What is read as a level file is spelled by the grammar.
 use Rattle.std.proofs.Common.{◌≡◌, ◌≢◌, inl, inr, ℕ, zero, suc, ◌+◌, ◌*◌, ◌/◌, ◌%◌, ◌<◌, ◌≤◌, List, [], ◌∷◌, ◌++◌, length, get_or, take, drop, refl, sym, ap, subst, ◌∙◌, arith, length-append, append_assoc, Bool, true, false, ◌&&◌, ◌||◌, ◌==◌, nat_lt, nat_le, Option, Some, None, Result, Ok, Err}
-use Rattle.nb_model.proofs.Common.{AllByRecursion, told_text, eqb-true, or_parts, leb_tells, append-nil, drop-drop, take-append-drop, drop_all, number_of, bytes_of, number_in, part, is_page_size, most_pages, Page, Numbered, Head, IsLevel, Contents, Stretch, AreRising, AreOfSize, first_fault, behind, head_then, head_in, begins_level, level_signature, level_bytes, body_bytes, single_bytes, run_bytes, runs_of, runs_behind, joined, numbered_from, end_bytes, end_mark, read_level, read_pages, read_end, read_singles, read_runs, pages_in, barred_after, with_head, is_bad_number, is_first_page, length-part, lt_holds, not_false}
+use Rattle.nb_model.proofs.Common.{AllByRecursion, told_text, eqb-true, or_parts, leb_tells, append-nil, drop-drop, take-append-drop, drop_all, number_of, bytes_of, number_in, part, is_page_size, most_pages, Page, Numbered, Head, IsLevel, Contents, Stretch, AreRising, AreOfSize, first_fault, behind, head_then, head_in, begins_level, level_signature, level_bytes, body_bytes, single_bytes, run_bytes, runs_of, runs_behind, joined, numbered_from, end_bytes, end_mark, read_level, read_pages, read_end, read_singles, read_runs, pages_in, barred_after, with_head, is_bad_number, is_first_page, length-part, lt_holds, not_false, err_not_ok, err_ok, ok_same}
 use Rattle.nb_model.proofs.GatherLaws.{AreRuns, joins, total, pages_of_runs, run_front, run_none}
 use Rattle.nb_model.proofs.ImageLaws.{Pages, pages_of}
 use Rattle.nb_model.proofs.LevelLaws.{head_tests, single_front, single_none}
-use Rattle.nb_model.proofs.LevelWalk.{FirstIsZero, none_clear, not_long, not_same, zero_tells, good, ok_is, no_pages, singles_are, runs_are}
+use Rattle.nb_model.proofs.LevelWalk.{FirstIsZero, none_clear, not_long, not_same, zero_tells, good, singles_are, runs_are}
 use Rattle.nb_model.proofs.ReadLaws.{AreClear, IsRun, single_tests, run_tests, end_tests, first_joined, joined_read}
 
 -- each is a byte
@@ -68,7 +68,7 @@ unfolding read_end end_bytes
 end_is at count rest rs are mark e = by (first_fault (end_tests at count rest)) refl e
   where
     by : (x : Option ℕ) → first_fault (end_tests at count rest) ≡ x → elim x as (λ z. Result (List Numbered) ℕ) [ Some place ↦ Err place | None ↦ Ok [] ] ≡ Ok rs → IsEnd count rest rs
-    by (Some place) is f = absurd (no_pages (Err place) place rs refl f)
+    by (Some place) is f = absurd (err_not_ok place rs (Err place) refl f)
     by None is f =
         let clear = none_clear (end_tests at count rest) is in
         let long : 8 ≤ length rest = not_long (length rest) 8 clear.1.0 in
@@ -77,7 +77,7 @@ end_is at count rest rs are mark e = by (first_fault (end_tests at count rest)) 
         let nothing : drop 8 rest ≡ [] = drop_all 8 rest short in
         record {
           some = not_same count 0 clear.0;
-          none = sym (ok_is (Ok []) [] rs refl f);
+          none = sym (ok_same {X = List Numbered} {E = ℕ} [] rs (Ok []) refl f);
           spelled = field 0 4 4 rest are refl (omega arith) ∙ ap (λ (l : List ℕ). bytes_of 4 (number_in 0 4 rest) ++ l) (field 4 4 8 rest are refl long ∙ ap (λ (l : List ℕ). bytes_of 4 (number_in 4 4 rest) ++ l) nothing ∙ append-nil (bytes_of 4 (number_in 4 4 rest)))
               ∙ ap (λ n. bytes_of 4 n ++ bytes_of 4 (number_in 4 4 rest)) mark ∙ ap (λ n. bytes_of 4 end_mark ++ bytes_of 4 n) same;
         }
@@ -392,11 +392,8 @@ level_spelled bytes c are e = by (first_fault (head_tests bytes version h)) refl
     h : Head
     h = head_in bytes
 
-    none_is : (x : Result Contents ℕ) (at : ℕ) → x ≡ Err at → x ≡ Ok c → ⊥
-    none_is x at f g = cc
-
     of_pages : AreClear (head_tests bytes version h) → (pages : Result (List Numbered) ℕ) → read_pages version h bytes ≡ pages → with_head version h pages ≡ Ok c → Spell bytes c.version c.head c.pages
-    of_pages clear (Err at) is f = absurd (none_is (Err at) at refl f)
+    of_pages clear (Err at) is f = absurd (err_ok at c f)
     of_pages clear (Ok all) is f =
         let same : record { version = version; head = h; pages = all } ≡ c = cc in
         let known : (version == 101 || version == 102) ≡ true = not_false (version == 101 || version == 102) clear.1.1.0 in
@@ -421,7 +418,7 @@ level_spelled bytes c are e = by (first_fault (head_tests bytes version h)) refl
         subst (λ (x : Contents). Spell bytes x.version x.head x.pages) same (subst (λ (l : List Numbered). Spell bytes version h l) (sym has.is) level)
 
     by : (x : Option ℕ) → first_fault (head_tests bytes version h) ≡ x → elim x as (λ z. Result Contents ℕ) [ Some place ↦ Err place | None ↦ with_head version h (read_pages version h bytes) ] ≡ Ok c → Spell bytes c.version c.head c.pages
-    by (Some place) is f = absurd (none_is (Err place) place refl f)
+    by (Some place) is f = absurd (err_ok place c f)
     by None is f = of_pages (none_clear (head_tests bytes version h) is) (read_pages version h bytes) refl f
 
 pub pages_some : (bytes : List ℕ) (version : ℕ) (h : Head) (rs : List Numbered) → Spell bytes version h rs → 1 ≤ length rs

@@ -1,6 +1,6 @@
 -- The files go on to stand for the account where the file of one name changes.
-use Rattle.std.proofs.Common.{◌≡◌, ◌≢◌, ◌⊎◌, inl, inr, ℕ, ◌-◌, List, [], ◌∷◌, ◌++◌, length, take, drop, refl, sym, ap, subst, ◌∙◌, arith, length-append, Bool, true, false, ◌==◌, Option, Some, None, Result, Ok, Err, IsTrue, is_some, Contains, nat_eq}
-use Rattle.nb_model.proofs.Common.{told_text, pointwise, true≢false, and_parts, eqb-true, take_at, drop_at, number_of, number_in, is_header, state_of, pending_of, stalled_state, applying_state, File, Files, same_name, is_delta, delta_suffix, Refusal, NotDatabase, Image, image_state, image_guid, Ask, Base, Kept, Entry, IsBase, Account, with_entry, not_database, Contents, first_fault, begins_level, read_level, delta_name, owner, entry_of_files, entry_in, IsSoundImage, nil, IsKeptAs, GoesOnFrom, Belongs, to_base, to_record, IsRaised, IsSameImage, IsFrozenMain, HasSoundImages, HoldsItsRecord, KeepsRecords, NamesItsPast, FollowsHistory, is_applying, HasNoStrayDelta, IsStopped, HasApplyingStandbys, Stands, decide, same_self}
+use Rattle.std.proofs.Common.{◌≡◌, ◌≢◌, ◌⊎◌, inl, inr, ℕ, ◌-◌, List, [], ◌∷◌, ◌++◌, length, take, drop, refl, sym, ap, subst, ◌∙◌, arith, length-append, Bool, true, false, ◌==◌, Some, None, Ok, Err, IsTrue, is_some, Contains, nat_eq}
+use Rattle.nb_model.proofs.Common.{told_text, pointwise, true≢false, and_parts, eqb-true, take_at, drop_at, number_of, number_in, is_header, state_of, pending_of, stalled_state, applying_state, File, Files, same_name, is_delta, delta_suffix, NotDatabase, Image, image_state, image_guid, Ask, Base, Kept, Entry, IsBase, Account, with_entry, not_database, Contents, first_fault, begins_level, read_level, delta_name, owner, entry_of_files, entry_in, IsSoundImage, nil, IsKeptAs, GoesOnFrom, Belongs, to_base, to_record, IsRaised, IsSameImage, IsFrozenMain, HasSoundImages, HoldsItsRecord, KeepsRecords, NamesItsPast, FollowsHistory, is_applying, HasNoStrayDelta, IsStopped, HasApplyingStandbys, Stands, decide, same_self, err_not_ok, none_and_some}
 use Rattle.nb_model.proofs.SoundLaws.{kind_of_header}
 use Rattle.nb_model.proofs.RunLaws.{entry_same}
 
@@ -38,12 +38,9 @@ formed_header bytes formed = by_test (is_header bytes) refl
     refused : is_header bytes ≡ false → not_database bytes ≡ Some (NotDatabase 0)
     refused none = rw (none, not_database) refl
 
-    some_none : (x : Option Refusal) → x ≡ Some (NotDatabase 0) → x ≡ None → ⊥
-    some_none x a b = cc
-
     by_test : (t : Bool) → is_header bytes ≡ t → is_header bytes ≡ true
     by_test true is = is
-    by_test false is = absurd (some_none (not_database bytes) (refused is) formed)
+    by_test false is = absurd (none_and_some (not_database bytes) (NotDatabase 0) formed (refused is))
 
 -- and begins no level file
 pub no_level_begins : (bytes : List ℕ) → number_in 0 1 bytes ≡ 1 → begins_level bytes ≡ false
@@ -56,10 +53,7 @@ unfolding read_level first_fault
 not_level bytes e = rw (e, read_level) refl
 
 pub header_no_level : (bytes : List ℕ) (c : Contents) → is_header bytes ≡ true → read_level bytes ≡ Ok c → ⊥
-header_no_level bytes c is reads = ok_err (read_level bytes) reads (not_level bytes (no_level_begins bytes (kind_of_header bytes is)))
-  where
-    ok_err : (x : Result Contents ℕ) → x ≡ Ok c → x ≡ Err 0 → ⊥
-    ok_err x a b = cc
+header_no_level bytes c is reads = err_not_ok {E = ℕ} 0 c (read_level bytes) (not_level bytes (no_level_begins bytes (kind_of_header bytes is))) reads
 
 pub state_of_applying : (bytes : List ℕ) → IsTrue (is_applying bytes) → state_of bytes ≡ applying_state
 state_of_applying bytes is = eqb-true (state_of bytes) 3 (and_parts (is_header bytes) (state_of bytes == applying_state) is).1

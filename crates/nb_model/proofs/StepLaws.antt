@@ -1,6 +1,6 @@
 -- What the forms leave of lengths, kinds and bits, whatever stands in the image.
 use Rattle.std.proofs.Common.{◌≡◌, ◌≢◌, inl, inr, ℕ, suc, ◌+◌, ◌-◌, ◌*◌, ◌/◌, ◌%◌, ◌^◌, ◌<◌, ◌≤◌, List, [], ◌++◌, length, drop, refl, sym, ap, subst, ◌∙◌, arith, length-drop, Bool, true, false, ◌==◌, ◌||◌, ◌&&◌, nat_lt, IsTrue, max}
-use Rattle.nb_model.proofs.Common.{true≢false, and_parts, ltb-true, eqb-true, eqb_tells, leb_tells, length-replicate, is_page_size, entries_in, bits_in, inventory_place, scn_place, is_inventory_place, is_scn_place, is_system_place, size_of, kind_of, page_of, generation_of, stamped, bit_of, inventory_payload, scn_payload, SizeFacts, size_facts, bits-least, entries-least, scn_place-some, bytes_of, with_part, length-bytes_of, length-with_part, length-page_of, taken_bits-free, bit_of-inventory, inventory_kind, scn_kind, Page, Image, page_at, image_size, image_scn, HasItsEntry, Draft, drafted, old_page, wrote, written, needs, is_kind, inventory_of, scn_page_of, bit_number, entry_number, has_entry, scn_entry, is_free_page, entry_written, entry_raised, raised, put, with_bit, set_bit, take_page, system_kind, system_payload, system_page, is_kept, IsOfSize}
+use Rattle.nb_model.proofs.Common.{true≢false, and_parts, ltb-true, eqb-true, eqb_tells, leb_tells, length-replicate, is_page_size, entries_in, bits_in, inventory_place, scn_place, is_inventory_place, is_scn_place, is_system_place, size_of, kind_of, page_of, generation_of, stamped, bit_of, inventory_payload, scn_payload, SizeFacts, size_facts, bits-least, entries-least, scn_place-some, bytes_of, with_part, length-bytes_of, length-with_part, length-page_of, taken_bits-free, bit_of-inventory, inventory_kind, scn_kind, Page, Image, page_at, image_size, image_scn, HasItsEntry, Draft, drafted, old_page, wrote, written, needs, is_kind, inventory_of, scn_page_of, bit_number, entry_number, has_entry, scn_entry, is_free_page, entry_written, entry_raised, raised, put, with_bit, set_bit, take_page, system_kind, system_payload, system_page, is_kept, IsOfSize, and_right}
 use Rattle.nb_model.proofs.DraftJoin.{join_set_bit}
 use Rattle.nb_model.proofs.StrokeLaws.{with_page_same, with_page_other}
 use Rattle.nb_model.proofs.SoundLaws.{all_at, all_from, inventory_there, inventory_place_some, scn_page_there, scn_place_before, with_page_length}
@@ -500,11 +500,7 @@ no_map_at x p size none q e = true≢false (sym (inventory_there (image_size x) 
 -- where page p isn't of the kind of its place it is written
 unkept_is : (x : Image) (p kind : ℕ) → system_kind x p ≡ kind → is_kind x kind p ≡ false → is_kept x p ≡ false
 unfolding is_kept
-unkept_is x p kind e none = ap (λ (t : Bool). is_system_place (image_size x) p && t) (ap (λ (k : ℕ). is_kind x k p) e ∙ none) ∙ and_no (is_system_place (image_size x) p)
-  where
-    and_no : (t : Bool) → (t && false) ≡ false
-    and_no true = refl
-    and_no false = refl
+unkept_is x p kind e none = ap (λ (t : Bool). is_system_place (image_size x) p && t) (ap (λ (k : ℕ). is_kind x k p) e ∙ none) ∙ and_right (is_system_place (image_size x) p) false refl
 
 pub plain_unkept : (x : Image) (p : ℕ) → is_system_place (image_size x) p ≡ false → is_kept x p ≡ false
 unfolding is_kept

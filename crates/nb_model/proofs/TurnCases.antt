@@ -29,6 +29,11 @@ pub no_cause : first_cause [] ≡ None
 unfolding first_cause
 no_cause = refl
 
+pub one_cause : (c : Cause) → first_cause (c ∷ []) ≡ c
+unfolding first_cause
+one_cause None = refl
+one_cause (Some r) = refl
+
 is_not : (m n : ℕ) (r : Refusal) → when (not (m == n)) r ≡ None → m ≡ n
 is_not m n r none = by (m == n) refl (not_when (not (m == n)) r none)
   where

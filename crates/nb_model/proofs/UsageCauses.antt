@@ -1,6 +1,6 @@
 -- Causes that aren't the refusal of words which name no job.
-use Rattle.std.proofs.Common.{◌≡◌, ◌≢◌, ℕ, List, [], ◌∷◌, length, map, Bool, Option, Some, None, Result, Ok, Err, true, false, nat_lt, not, min, ◌/◌, ◌%◌, ◌==◌, ◌||◌}
-use Rattle.nb_model.proofs.Common.{is_header, size_of, most_pages, AllByRecursion, Refusal, Usage, NotDatabase, Image, Cause, first_cause, when, read_only, not_raw, not_database, lowest_broken, runs_other, runs_any, broken_at, too_short, short_for, Chain, Spot, pages_of, unsound_by, check_cause, chains}
+use Rattle.std.proofs.Common.{◌≢◌, ℕ, List, [], ◌∷◌, length, map, Bool, Option, Some, None, Result, Ok, Err, true, false, nat_lt, not, min, ◌/◌, ◌%◌, ◌==◌, ◌||◌}
+use Rattle.nb_model.proofs.Common.{is_header, size_of, most_pages, AllByRecursion, Refusal, Usage, NotDatabase, Image, Cause, first_cause, when, read_only, not_raw, not_database, lowest_broken, runs_other, runs_any, broken_at, too_short, short_for, Chain, Spot, pages_of, unsound_by, check_cause, chains, some_same}
 use Rattle.nb_model.specs.Facts.{unsound}
 
 abbrev pub IsOther : Cause → Type 0
@@ -16,10 +16,7 @@ other_first (None ∷ cs) h = other_first cs h.1
 other_first (Some r ∷ cs) h = h.0
 
 pub other_when : (test : Bool) (r : Refusal) → r ≢ Usage → IsOther (when test r)
-other_when true r h e = h (same e)
-  where
-    same : Some r ≡ Some Usage → r ≡ Usage
-    same k = cc
+other_when true r h e = h (some_same r Usage e)
 other_when false r h e = none_other e
 
 -- nor is a file that can't be a database

@@ -3,7 +3,7 @@ pub use Rattle.lru.proofs.CallerLemmas.{Contains-lookup_entry}
 pub use Rattle.lru.proofs.Pairs.{lookup-lookup_entry}
 pub use Rattle.lru.specs.LruCache.{lru_cache, promoted, put_entries}
 pub use Rattle.nb_base.proofs.FirmLaws.{strikes_left}
-pub use Rattle.nb_base.proofs.LeftLaws.{merged_fits, noted-new, noted-there, stroke-image, stroke-stalled}
+pub use Rattle.nb_base.proofs.LeftLaws.{merged_fits, noted-new, noted-there, stroke-stalled}
 pub use Rattle.nb_base.proofs.OwnedLaws.{Holds, base-sizes, entry-added, entry-front, entry-later, entry_at, holds, later}
 pub use Rattle.nb_base.proofs.TouchLaws.{delta_in, main_in, none_touched, quiet_touched, touched, touched_joined}
 pub use Rattle.nb_base.proofs.WriteLaws.{not_done}
@@ -16,20 +16,20 @@ pub use Rattle.nb_base.specs.Touches.{WritesIn}
 pub use Rattle.nb_cache.specs.Held.{GoesFirst, IsNoLater, NoneWaits, Slot, dropped, rank_of, slot_of, with_rank}
 pub use Rattle.nb_change.proofs.ChangesLaws.{begun, composed, rested, weakened, weaker_has}
 pub use Rattle.nb_change.proofs.ReachedLaws.{strokes_composed}
-pub use Rattle.nb_change.proofs.ResultLaws.{on_ok}
 pub use Rattle.nb_change.specs.Changes.{Changes, Names, Only, Reached}
 unfoldable pub use Rattle.nb_fields.specs.Header.{is_header}
 pub use Rattle.nb_fields.specs.Header.{size_of, state_of}
 unfoldable pub use Rattle.nb_fields.specs.Places.{is_scn_place}
 pub use Rattle.nb_fields.specs.Places.{most_pages}
-pub use Rattle.nb_fields.specs.States.{merge_state, normal_state, stalled_state}
-pub use Rattle.nb_host.proofs.PlainLaws.{both_true, eq_other, eq_self, none_some, none_there, not_true}
+pub use Rattle.nb_fields.specs.States.{normal_state, stalled_state}
+pub use Rattle.nb_host.proofs.PlainLaws.{both_true, eq_other, eq_self, none_some, none_there, not_there, not_true, on_ok, some_same}
 pub use Rattle.nb_host.specs.Files.{Files}
 pub use Rattle.nb_host.specs.Moments.{IsTimely}
 pub use Rattle.nb_host.specs.World.{World}
 pub use Rattle.nb_model.proofs.BehindLaws.{behind_firm, behind_left, way_left}
+pub use Rattle.nb_model.proofs.StrokeLaws.{begun_image, ended_image, stroke-frozen, stroke-diverted, stroke_page}
 pub use Rattle.nb_model.proofs.TrailLaws.{trail_base}
-pub use Rattle.nb_model.proofs.WayLaws.{behind_itself, firm_put, put_diverted, put_first, put_frozen, put_long, put_longer, put_other, put_same, read_done, read_firm, read_put, read_start, same_pages, wait_behind, wait_unsettled, way_put, way_start}
+pub use Rattle.nb_model.proofs.WayLaws.{behind_itself, firm_put, put_first, put_long, put_longer, put_other, put_same, read_done, read_firm, read_put, read_start, same_pages, wait_behind, wait_unsettled, way_put, way_start}
 pub use Rattle.nb_model.specs.Account.{Ask, Base}
 pub use Rattle.nb_model.specs.Behind.{IsOnTheWay, IsRead}
 unfoldable pub use Rattle.nb_model.specs.Image.{overwritten, trimmed, with_page, written_at}

@@ -1,6 +1,6 @@
 -- What is open while pages wait, and that one more waits.
 use Rattle.std.proofs.Common.{◌≡◌, ◌≢◌, inl, inr, ⊎_elim, ℕ, suc, ◌+◌, ◌<◌, ◌≤◌, List, [], ◌∷◌, ◌++◌, length, refl, sym, ap, subst, ◌∙◌, arith, append_assoc, length-append, Bool, true, false, ◌==◌, ◌&&◌, not, nat_eq, nat_lt, Option, Some, None, is_some}
-use Rattle.nb_owner.proofs.Common.{AllByRecursion, true≢false, eqb_tells, leb_tells, append-nil, lru_cache, put_entries, is_scn_place, most_pages, is_header, state_of, size_of, normal_state, stalled_state, World, option_and_then, Page, Image, page_at, first_page, image_size, image_state, is_forced, Base, entry_for, page, on_base, Trail, after_stroke, ShowsIn, behind_left, behind_firm, trail_base, same_pages, put_same, put_other, put_first, put_long, put_frozen, put_diverted, put_longer, wait_behind, wait_unsettled, behind_itself, Agrees, StandsFirm, Drafts, stroke-stalled, noted-there, noted-new, entry-later, entry-added, entry-front, entry_at, later, Slot, slot_of, rank_of, with_rank, dropped, NoneWaits, Held, Pages, AreOf, waits, IsWaiting, AreDrafted, Waits, IsOpen, IsValid, may_wait, cache_of, rank_in, both_true, eq_self, not_true}
+use Rattle.nb_owner.proofs.Common.{AllByRecursion, true≢false, eqb_tells, leb_tells, append-nil, lru_cache, put_entries, is_scn_place, most_pages, is_header, state_of, size_of, normal_state, stalled_state, World, option_and_then, Page, Image, page_at, first_page, image_size, image_state, is_forced, Base, entry_for, page, on_base, Trail, after_stroke, ShowsIn, behind_left, behind_firm, trail_base, same_pages, put_same, put_other, put_first, put_long, put_longer, wait_behind, wait_unsettled, behind_itself, Agrees, StandsFirm, Drafts, stroke-stalled, noted-there, noted-new, entry-later, entry-added, entry-front, entry_at, later, Slot, slot_of, rank_of, with_rank, dropped, NoneWaits, Held, Pages, AreOf, waits, IsWaiting, AreDrafted, Waits, IsOpen, IsValid, may_wait, cache_of, rank_in, both_true, eq_self, not_true, some_same, not_there, stroke-frozen, stroke-diverted}
 use Rattle.nb_fields.specs.Bytes.{is_zeros, number_in}
 use Rattle.nb_host.specs.Calls.{IsStill}
 use Rattle.nb_model.specs.Waiting.{rank_of as rank_for}
@@ -203,15 +203,11 @@ may_wait_parts held p is =
       elim (leb_tells (suc held.files.state) 2) [ inl w ↦ omega (arith, w.1) | inr w ↦ absurd (true≢false (sym b.0 ∙ w.0)) ],
       elim (eqb_tells p 0) [ inl w ↦ absurd (true≢false (sym (sym (not_true (p == 0) c.0) ∙ w.0))) | inr w ↦ some p w.1 ],
       elim (leb_tells (suc p) held.files.count) [ inl w ↦ omega (arith, w.1) | inr w ↦ absurd (true≢false (sym d.0 ∙ w.0)) ],
-      gone (dropped (cache_of held) p) (not_true (is_some (dropped (cache_of held) p)) d.1),
+      not_there (dropped (cache_of held) p) (not_true (is_some (dropped (cache_of held) p)) d.1),
     )
   where
     some : (p : ℕ) → p ≢ 0 → 1 ≤ p
     some p ne = omega (arith, ne)
-
-    gone : (o : Option ℕ) → is_some o ≡ false → o ≡ None
-    gone None e = refl
-    gone (Some x) e = absurd (true≢false e)
 
 -- The rank goes by page 0.
 rank_same : (a b : Image) (p : ℕ) → first_page a ≡ first_page b → rank_for a p ≡ rank_for b p
@@ -250,7 +246,7 @@ module _ (w : World) (held : Held) (t : Trail) (is : IsOpen w held t) (valid : I
   long = ap (λ (b : Base). length b.image) base_is ∙ put_long t.base p bytes some low_t
 
   frozen : (after_stroke (page p bytes) t).base.frozen ≡ t.base.frozen
-  frozen = ap (λ (b : Base). b.frozen) base_is ∙ put_frozen t.base p bytes some low_t
+  frozen = ap (λ (b : Base). b.frozen) base_is ∙ stroke-frozen t.base p bytes
 
   unsettled : (after_stroke (page p bytes) t).earlier ≢ []
   unsettled = wait_unsettled is.sees t p bytes is.waits.behind some low_t loose
@@ -260,7 +256,7 @@ module _ (w : World) (held : Held) (t : Trail) (is : IsOpen w held t) (valid : I
   more = let longer = put_longer t.base p bytes some low_t in (longer.0, ap (λ (b : Base). b.diverted) base_is ∙ longer.1)
 
   table_main : image_state t.base.image ≢ stalled_state → (after_stroke (page p bytes) t).base.diverted ≡ t.base.diverted
-  table_main main = ap (λ (b : Base). b.diverted) base_is ∙ put_diverted t.base p bytes some low_t main
+  table_main main = ap (λ (b : Base). b.diverted) base_is ∙ stroke-diverted t.base p bytes main
 
   table_there : image_state t.base.image ≡ stalled_state → (k : ℕ) → entry_for p t.base.diverted ≡ Some k → (after_stroke (page p bytes) t).base.diverted ≡ t.base.diverted
   table_there stalled k at = ap (λ (b : Base). b.diverted) base_is ∙ stroke-stalled t.base p bytes stalled ∙ noted-there p t.base.diverted k at
@@ -346,13 +342,10 @@ module _ (w : World) (held : Held) (t : Trail) (is : IsOpen w held t) (valid : I
         | inr e ↦ is.waits.clean q (ap is_some (sym (rank_other q e.1)) ∙ clean) ∙ sym (page_other q e.1)
       ];
       each = λ q r at. elim (eqb_tells q p) [
-        | inl e ↦ subst (λ (n : ℕ). IsWaiting later_t n r) (sym e.1) (subst (IsWaiting later_t p) (same_rank (sym rank_own ∙ sym (ap (rank_of marked) e.1) ∙ at)) waiting_own)
+        | inl e ↦ subst (λ (n : ℕ). IsWaiting later_t n r) (sym e.1) (subst (IsWaiting later_t p) (some_same {X = ℕ} _ _ (sym rank_own ∙ sym (ap (rank_of marked) e.1) ∙ at)) waiting_own)
         | inr e ↦ waiting_other q r e.1 (is.waits.each q r (sym (rank_other q e.1) ∙ at))
       ];
     }
-      where
-        same_rank : {a b : ℕ} → Some a ≡ Some b → a ≡ b
-        same_rank e = cc
 
     agrees_more : Agrees (record held.files { entries = entries; drafted = drafted }) (after_stroke (page p bytes) t).base
     agrees_more = record {

@@ -1,4 +1,5 @@
 -- The definitions that the proofs of this crate speak in, and the laws of other crates that they cite, passed on from one place. Declares nothing.
+pub use Rattle.nb_fields.proofs.NumberLaws.{bit_at-most}
 pub use Rattle.nb_fields.proofs.SizeLaws.{size_facts}
 unfoldable pub use Rattle.nb_fields.specs.Bytes.{bytes_of}
 pub use Rattle.nb_fields.specs.Bytes.{with_part}

@@ -1,9 +1,8 @@
 -- What the files of an accepted chain are: level 0, and the level files after it.
 use Rattle.std.proofs.Common.{◌≡◌, ◌≢◌, ℕ, zero, suc, ◌+◌, ◌*◌, ◌<◌, ◌≤◌, List, [], ◌∷◌, length, take, drop, get_or, refl, sym, ap, subst, ◌∙◌, arith, Bool, true, false, not, ◌==◌, Some, None, Result, Ok, Err, Contains}
-use Rattle.nb_restore.proofs.Common.{eqb-true, take-take, number_in, is_free_file, is_header, signature, state_of, size_of, is_header-take, number_in-take, stalled_state, File, Files, same_name, Refusal, NoFile, BadLevel, ChainLevel, ChainGuid, ChainSize, ChainScn, Page, first_page, Cause, first_cause, when, Head, Contents, begins_level, joined, read_level, Link, level_link, whole_link, is_bad_length, not_whole, first_link, not_behind, next_link, linked, next_links, verdict, IsOfSize, page-joined, IsSource, AreSources}
+use Rattle.nb_restore.proofs.Common.{eqb-true, take-take, number_in, is_free_file, is_header, signature, state_of, size_of, is_header-take, number_in-take, stalled_state, File, Files, same_name, Refusal, NoFile, BadLevel, ChainLevel, ChainGuid, ChainSize, ChainScn, Page, first_page, Cause, first_cause, when, Head, Contents, begins_level, joined, read_level, Link, level_link, whole_link, is_bad_length, not_whole, first_link, not_behind, next_link, linked, next_links, verdict, IsOfSize, page-joined, IsSource, AreSources, ok_same, err_not_ok, some_none}
 use Rattle.std.specs.Cmp.Lexicographic.{told_text}
 use Rattle.nb_model.proofs.FreeLaws.{free_no_level, free_header}
-use Rattle.nb_restore.proofs.AnswerLaws.{ok_same, err_ok}
 use Rattle.nb_model.proofs.PutSound.{no_first, not_when}
 use Rattle.nb_model.proofs.TurnCases.{is_so}
 
@@ -41,7 +40,7 @@ level_file k last name bytes l e = by (begins_level bytes) (number_in 16 4 bytes
   where
     behind : (c : Contents) → read_level bytes ≡ Ok c → (cause : Cause) → not_behind k last name c ≡ cause
         → elim cause as (λ x. Result Link Refusal) [ Some refusal ↦ Err refusal | None ↦ Ok (level_link c) ] ≡ Ok l → IsLevelFile k last bytes l
-    behind c read (Some r) is h = absurd (err_ok r l (Err r) refl h)
+    behind c read (Some r) is h = absurd (err_not_ok r l (Err r) refl h)
     behind c read None is h = record { contents = c; read = read; behind = goes_behind k last name c is; is = ok_same l (level_link c) (Ok (level_link c)) h refl }
 
     by : (begins signed : Bool) (r : Result Contents ℕ) → read_level bytes ≡ r
@@ -52,9 +51,9 @@ level_file k last name bytes l e = by (begins_level bytes) (number_in 16 4 bytes
             | Ok c ↦ elim (not_behind k last name c) as (λ x. Result Link Refusal) [ Some refusal ↦ Err refusal | None ↦ Ok (level_link c) ]
           ]
         ] ≡ Ok l → IsLevelFile k last bytes l
-    by false true r is h = absurd (err_ok (ChainLevel name 0 k) l (Err (ChainLevel name 0 k)) refl h)
-    by false false r is h = absurd (err_ok (BadLevel name 0) l (Err (BadLevel name 0)) refl h)
-    by true signed (Err at) is h = absurd (err_ok (BadLevel name at) l (Err (BadLevel name at)) refl h)
+    by false true r is h = absurd (err_not_ok (ChainLevel name 0 k) l (Err (ChainLevel name 0 k)) refl h)
+    by false false r is h = absurd (err_not_ok (BadLevel name 0) l (Err (BadLevel name 0)) refl h)
+    by true signed (Err at) is h = absurd (err_not_ok (BadLevel name at) l (Err (BadLevel name at)) refl h)
     by true signed (Ok c) is h = behind c is (not_behind k last name c) refl h
 
 -- links with one before them
@@ -65,7 +64,7 @@ record IsLinked (l : Link) (links : List Link) (rest : Result (List Link) Refusa
 
 linked_parts : (l : Link) (links : List Link) (rest : Result (List Link) Refusal) → linked l rest ≡ Ok links → IsLinked l links rest
 linked_parts l links (Ok more) e = record { more = more; all = ok_same links (l ∷ more) (Ok (l ∷ more)) e refl; is = refl }
-linked_parts l links (Err r) e = absurd (err_ok r links (Err r) refl e)
+linked_parts l links (Err r) e = absurd (err_not_ok r links (Err r) refl e)
 
 -- the files after another begin with a level file
 pub record IsNextSplit (files : Files) (k : ℕ) (last : Link) (name : List ℕ) (names : List (List ℕ)) (links : List Link) : Type 0 where
@@ -84,7 +83,7 @@ split_next files k last name names links e = by (files name) refl e
   where
     one : (bytes : List ℕ) → files name ≡ Some bytes → (answer : Result Link Refusal) → next_link k last name bytes ≡ answer
         → elim answer as (λ x. Result (List Link) Refusal) [ Err refusal ↦ Err refusal | Ok l ↦ linked l (next_links files (k + 1) l names) ] ≡ Ok links → IsNextSplit files k last name names links
-    one bytes there (Err r) is h = absurd (err_ok r links (Err r) refl h)
+    one bytes there (Err r) is h = absurd (err_not_ok r links (Err r) refl h)
     one bytes there (Ok l) is h =
         let parts = linked_parts l links (next_links files (k + 1) l names) h in
         record { bytes = bytes; there = there; link = l; accepted = is; level = level_file k last name bytes l is; rest = parts.more; all = parts.all; next = parts.is }
@@ -94,7 +93,7 @@ split_next files k last name names links e = by (files name) refl e
           | None ↦ Err (NoFile name)
           | Some bytes ↦ elim (next_link k last name bytes) as (λ x. Result (List Link) Refusal) [ Err refusal ↦ Err refusal | Ok l ↦ linked l (next_links files (k + 1) l names) ]
         ] ≡ Ok links → IsNextSplit files k last name names links
-    by None is h = absurd (err_ok (NoFile name) links (Err (NoFile name)) refl h)
+    by None is h = absurd (err_not_ok (NoFile name) links (Err (NoFile name)) refl h)
     by (Some bytes) is h = one bytes is (next_link k last name bytes) refl h
 
 pub none_next : (files : Files) (k : ℕ) (last : Link) (links : List Link) → next_links files k last [] ≡ Ok links → [] ≡ links
@@ -142,7 +141,7 @@ split_chain files name others links e = by (files name) refl e
   where
     one : (bytes : List ℕ) → files name ≡ Some bytes → (answer : Result Link Refusal) → first_link name bytes ≡ answer
         → elim answer as (λ x. Result (List Link) Refusal) [ Err refusal ↦ Err refusal | Ok l ↦ linked l (next_links files 1 l others) ] ≡ Ok links → IsSplit files name others links
-    one bytes there (Err r) is h = absurd (err_ok r links (Err r) refl h)
+    one bytes there (Err r) is h = absurd (err_not_ok r links (Err r) refl h)
     one bytes there (Ok l) is h =
         let parts = linked_parts l links (next_links files 1 l others) h in
         record { bytes = bytes; there = there; first = l; accepted = is; rest = parts.more; all = parts.all; next = parts.is }
@@ -152,7 +151,7 @@ split_chain files name others links e = by (files name) refl e
           | None ↦ Err (NoFile name)
           | Some bytes ↦ elim (first_link name bytes) as (λ x. Result (List Link) Refusal) [ Err refusal ↦ Err refusal | Ok l ↦ linked l (next_links files 1 l others) ]
         ] ≡ Ok links → IsSplit files name others links
-    by None is h = absurd (err_ok (NoFile name) links (Err (NoFile name)) refl h)
+    by None is h = absurd (err_not_ok (NoFile name) links (Err (NoFile name)) refl h)
     by (Some bytes) is h = one bytes is (first_link name bytes) refl h
 
 -- level 0 is a database in the stalled state
@@ -166,9 +165,6 @@ whole_parts : (name bytes : List ℕ) → not_whole name bytes ≡ None → (is_
 unfolding not_whole
 whole_parts name bytes e = by (is_header bytes) refl e
   where
-    some_none : (r : Refusal) → Some r ≡ None → ⊥
-    some_none r h = cc
-
     by : (header : Bool) → is_header bytes ≡ header
         → elim header as (λ x. Cause) [
           | false ↦ Some (BadLevel name 0)
@@ -189,9 +185,9 @@ copy_of name bytes l e = by (begins_level bytes) (read_level bytes) (not_whole n
           | true ↦ elim r as (λ x. Result Link Refusal) [ Err at ↦ Err (BadLevel name at) | Ok c ↦ Err (ChainLevel name c.head.level 0) ]
           | false ↦ elim cause as (λ x. Result Link Refusal) [ Some refusal ↦ Err refusal | None ↦ Ok (whole_link bytes) ]
         ] ≡ Ok l → IsCopy bytes l
-    by true (Err at) cause is h = absurd (err_ok (BadLevel name at) l (Err (BadLevel name at)) refl h)
-    by true (Ok c) cause is h = absurd (err_ok (ChainLevel name c.head.level 0) l (Err (ChainLevel name c.head.level 0)) refl h)
-    by false r (Some refusal) is h = absurd (err_ok refusal l (Err refusal) refl h)
+    by true (Err at) cause is h = absurd (err_not_ok (BadLevel name at) l (Err (BadLevel name at)) refl h)
+    by true (Ok c) cause is h = absurd (err_not_ok (ChainLevel name c.head.level 0) l (Err (ChainLevel name c.head.level 0)) refl h)
+    by false r (Some refusal) is h = absurd (err_not_ok refusal l (Err refusal) refl h)
     by false r None is h = let parts = whole_parts name bytes is in record { is = ok_same l (whole_link bytes) (Ok (whole_link bytes)) h refl; header = parts.0; stalled = parts.1; whole = parts.2 }
 
 -- so its name isn't free

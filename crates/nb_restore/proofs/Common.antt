@@ -1,5 +1,4 @@
 -- The definitions that the proofs of this crate speak in, and the laws of other crates that they cite, passed on from one place. Declares nothing.
-pub use Rattle.nb_chain.proofs.AnswerLaws.{passed}
 pub use Rattle.nb_chain.proofs.ImageLaws.{length-written, over, written-inside, written-past}
 pub use Rattle.nb_chain.proofs.LinkLaws.{next_broken, split}
 pub use Rattle.nb_change.proofs.CallLaws.{bytes_alone, page_alone, page_others, remade_alone, remade_step}
@@ -13,6 +12,7 @@ pub use Rattle.nb_change.specs.Gave.{GaveNothing}
 pub use Rattle.nb_fields.proofs.HeaderLaws.{is_free_file-take, is_header-long, is_header-take}
 pub use Rattle.nb_fields.proofs.PartLaws.{length-part, length-with_part, number_in-take, number_in-with_part, number_in-with_part_other, part-with_part_other}
 pub use Rattle.nb_fields.proofs.SizeLaws.{size_facts}
+pub use Rattle.nb_fields.proofs.ZeroLaws.{zeros-take}
 unfoldable pub use Rattle.nb_fields.specs.Bytes.{number_in, number_of}
 pub use Rattle.nb_fields.specs.Bytes.{is_zeros, with_part}
 unfoldable pub use Rattle.nb_fields.specs.Free.{is_free_file}
@@ -22,10 +22,12 @@ pub use Rattle.nb_fields.specs.Header.{guid_of, header_length, is_sound, pending
 pub use Rattle.nb_fields.specs.Page.{kind_of, number_of_page, stamp_of}
 pub use Rattle.nb_fields.specs.Places.{is_page_size, most_pages}
 pub use Rattle.nb_fields.specs.States.{applying_state, normal_state, stalled_state}
-pub use Rattle.nb_host.proofs.PlainLaws.{not_false, not_lt, some_same}
+pub use Rattle.nb_host.proofs.FileLaws.{passed}
+pub use Rattle.nb_host.proofs.NameLaws.{with_file-named}
+pub use Rattle.nb_host.proofs.PlainLaws.{err_not_ok, far_behind, not_false, not_lt, ok_same, some_none, some_same}
 pub use Rattle.nb_host.specs.Calls.{AppendsBytes, IsStill, ReadsBytes, ReadsPage, Remakes, Syncs, WritesPage}
 pub use Rattle.nb_host.specs.Crash.{AppendLeft, IsDurable, Leaves, LeavesAll, PageLeft}
-unfoldable pub use Rattle.nb_host.specs.Files.{padded, put_at, with_file}
+unfoldable pub use Rattle.nb_host.specs.Files.{padded, put_at}
 pub use Rattle.nb_host.specs.Files.{File, Files, bytes_of, with_bytes, with_page}
 pub use Rattle.nb_host.specs.Moments.{IsTimely, Passes}
 pub use Rattle.nb_host.specs.Names.{is_delta, same_name}
@@ -77,5 +79,5 @@ pub use Rattle.nb_restore.specs.Sources.{AreHeaded, AreOfPages, AreReady, AreSou
 pub use Rattle.nb_restore.specs.Target.{IsFree, IsFreeOr, IsKept, IsPlan, IsUnfinishedPage, KeepsImage, ReadsOr, restored}
 pub use Rattle.std.proofs.Math.Seq.{drop-cons, take-add}
 pub use Rattle.std.proofs.lemmas.Bool.{and_from, and_parts, cases_eq, cases_lt, eqb-true, or_left, or_parts, or_right, true≢false}
-pub use Rattle.std.proofs.lemmas.List.{append-nil, drop-drop, drop_all, drop_at, length-replicate, length-take-le, set_split, take-append-le, take-take, take_all, take_at, with_items_is}
+pub use Rattle.std.proofs.lemmas.List.{append-nil, drop-drop, drop_all, drop_at, length-replicate, length-take-le, nil_from_length, set_split, take-append-le, take-take, take_all, take_at, with_items_is}
 pub use Rattle.std.specs.List.{AllByRecursion}

@@ -99,10 +99,7 @@ overwrites_joined size xs ys a b c p q r first second start image holds =
 -- one page that isn't page 0 is written
 pub overwrites_page : (size n : ℕ) (page : Page) (before after : File) (first : Page) → 1 ≤ n → n < most_pages → length page ≡ size → after ≡ with_page before (n * length page) page → Overwrites size ((n, page) ∷ []) before after first first
 overwrites_page size zero page before after first some below long put start image holds = absurd (omega arith)
-overwrites_page size (suc n) page before after first some below long put start [] holds = absurd (none holds.some)
-  where
-    none : 1 ≤ 0 → ⊥
-    none h = omega arith
+overwrites_page size (suc n) page before after first some below long put start [] holds = absurd (let few : 1 ≤ 0 = holds.some in omega (arith, few))
 overwrites_page size (suc n) page before after first some below long put start (p ∷ ps) holds =
     subst (λ (x : Image). Holds size start first x after) (sym (overwritten-one size (suc n, page) (p ∷ ps))) (record {
       reads = put ∙ ap (λ (f : File). with_page f (suc n * length page) page) holds.reads
@@ -119,10 +116,7 @@ overwrites_page size (suc n) page before after first some below long put start (
 -- page 0 is held
 pub overwrites_first : (size n : ℕ) (page : Page) (file : File) (first last : Page) → n ≡ 0 → length page ≡ size → last ≡ page → Overwrites size ((n, page) ∷ []) file file first last
 overwrites_first size (suc n) page file first last none long same start image holds = absurd (omega (arith, none))
-overwrites_first size zero page file first last none long same start [] holds = absurd (empty holds.some)
-  where
-    empty : 1 ≤ 0 → ⊥
-    empty h = omega arith
+overwrites_first size zero page file first last none long same start [] holds = absurd (let few : 1 ≤ 0 = holds.some in omega (arith, few))
 overwrites_first size zero page file first last none long same start (p ∷ ps) holds =
     let image_is : overwritten size ((0, page) ∷ []) (p ∷ ps) ≡ page ∷ ps = overwritten-one size (0, page) (p ∷ ps) ∙ written-zero size page p ps in
     subst (λ (x : Image). Holds size start last x file) (sym image_is) (record {

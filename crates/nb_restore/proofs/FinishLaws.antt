@@ -87,10 +87,7 @@ module _ (size : ℕ) (start first : Page) (image : Image) (file : File) (is : I
   written_whole last last_is = by image holds head
     where
       by : (i : Image) → Holds size start first i file → HasHead size 5 i → HoldsMain (fixed (trimmed i)) (with_page file (0 * length last) last)
-      by [] h k = absurd (none h.some)
-        where
-          none : 1 ≤ 0 → ⊥
-          none j = omega arith
+      by [] h k = absurd (let few : 1 ≤ 0 = h.some in omega (arith, few))
       by (p ∷ ps) h k =
           let page : last ≡ normal_page p = last_is ∙ ap normal_page h.page_0 in
           let long : length last ≡ size = ap length page ∙ normal-length p k.header ∙ h.sizes.0 in

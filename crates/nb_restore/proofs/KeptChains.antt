@@ -1,9 +1,8 @@
 -- Files that are those of a chain of kept backups are accepted. A file after them that isn't in its place, or is foreign, is refused.
 use Rattle.std.proofs.Common.{◌≡◌, ◌≢◌, ℕ, ◌+◌, ◌≤◌, List, [], ◌∷◌, ◌++◌, length, refl, sym, ap, subst, ◌∙◌, arith, Bool, true, false, ◌&&◌, ◌==◌, nat_le, Option, Some, None, Ok, Err, Contains}
-use Rattle.nb_restore.proofs.Common.{AllByRecursion, and_parts, number_in, header_length, is_header, is_marked, is_sound, signature, version, state_of, size_of, scn_of, Files, is_delta, Refusal, ChainLevel, ChainGuid, image_size, Ask, Kept, Account, first_cause, Contents, begins_level, read_level, file_of, taken, HoldLine, first_file, next_files, last_in, Link, level_link, whole_link, first_link, not_behind, next_link, next_links, linked, verdict, HasNoZeros, IsSoundImage, to_record, Stands, kept_accepted, step_there, eq_no, eq_yes, no_level_begins, not_level, chain_accepted, chain_gives, copy_accepted, verdict_there, first_fields, AreLinksOf, GiveLast, HoldChain, HoldLevels, HoldsCopy, HoldsLevel, IsLinkOf, next_broken}
+use Rattle.nb_restore.proofs.Common.{AllByRecursion, and_parts, number_in, header_length, is_header, is_marked, is_sound, signature, version, state_of, size_of, scn_of, Files, is_delta, Refusal, ChainLevel, ChainGuid, image_size, Ask, Kept, Account, first_cause, Contents, begins_level, read_level, file_of, taken, HoldLine, first_file, next_files, last_in, Link, level_link, whole_link, first_link, not_behind, next_link, next_links, linked, verdict, HasNoZeros, IsSoundImage, to_record, Stands, kept_accepted, step_there, eq_no, eq_yes, no_level_begins, not_level, chain_accepted, chain_gives, copy_accepted, verdict_there, first_fields, AreLinksOf, GiveLast, HoldChain, HoldLevels, HoldsCopy, HoldsLevel, IsLinkOf, next_broken, err_not_ok}
 use Rattle.nb_model.proofs.SoundLaws.{kind_of_header}
 use Rattle.nb_restore.proofs.AskLaws.{with_ask}
-use Rattle.nb_restore.proofs.AnswerLaws.{err_ok}
 use Rattle.nb_restore.proofs.ChainLaws.{IsCopy, IsLevelFile}
 use Rattle.nb_restore.proofs.KeptFirst.{HoldsKeptFirst, kept_first}
 use Rattle.nb_restore.proofs.KeptNext.{HoldsKeptNext, kept_next}
@@ -124,7 +123,7 @@ level_begins bytes c read = by (begins_level bytes) refl
   where
     by : (b : Bool) → begins_level bytes ≡ b → begins_level bytes ≡ true
     by true is = is
-    by false is = absurd (err_ok 0 c (read_level bytes) (not_level bytes is) read)
+    by false is = absurd (err_not_ok 0 c (read_level bytes) (not_level bytes is) read)
 
 -- a level stands in the place of level 0
 first_refused : (name bytes : List ℕ) (c : Contents) → begins_level bytes ≡ true → read_level bytes ≡ Ok c → first_link name bytes ≡ Err (ChainLevel name c.head.level 0)

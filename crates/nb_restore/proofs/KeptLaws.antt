@@ -1,9 +1,8 @@
 -- A chain of kept backups gives the image that the begin of its last one kept, and what is restored of it is well.
 use Rattle.std.proofs.Common.{◌≡◌, ℕ, ◌+◌, ◌≤◌, List, [], ◌∷◌, length, refl, sym, ap, subst, ◌∙◌, arith, false, Option, Some, None, Ok, Contains}
-use Rattle.nb_restore.proofs.Common.{AllByRecursion, Files, is_delta, Image, image_size, first_page, Ask, Kept, Base, base_of, Account, taken, HoldLine, first_file, next_files, last_in, Link, first_link, next_link, next_links, verdict, applied, HasHeader, HasNoZeros, IsSoundImage, to_record, Stands, fixed, settled, IsWellBase, kept_accepted, header-room, copy_accepted, chain_accepted, chain_gives, AreKept, last_guid, GivesKept, IsLinkOf, some_same}
+use Rattle.nb_restore.proofs.Common.{AllByRecursion, Files, is_delta, Image, image_size, first_page, Ask, Kept, Base, base_of, Account, taken, HoldLine, first_file, next_files, last_in, Link, first_link, next_link, next_links, verdict, applied, HasHeader, HasNoZeros, IsSoundImage, to_record, Stands, fixed, settled, IsWellBase, kept_accepted, header-room, copy_accepted, chain_accepted, chain_gives, AreKept, last_guid, GivesKept, IsLinkOf, some_same, ok_same}
 use Rattle.nb_model.specs.WellTrail.{IsWellTrail}
 use Rattle.nb_model.proofs.WellTrailLaws.{settled_well, well_normal}
-use Rattle.nb_restore.proofs.AnswerLaws.{ok_same}
 use Rattle.nb_restore.proofs.AskLaws.{with_ask}
 use Rattle.nb_restore.proofs.ChainLaws.{split_chain, split_next, copy_of}
 use Rattle.nb_restore.proofs.FixedLaws.{fixed_well}

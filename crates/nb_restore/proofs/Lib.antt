@@ -1,4 +1,3 @@
-pub mod AnswerLaws
 pub mod CopiedLaws
 pub mod FrontLaws
 pub mod LevelLaws

@@ -9,7 +9,7 @@ pub record LeadsTo (r q : Kept) : Type 0 where
   pub earlier : r.scn < q.scn
   pub follows : Follows r.image r.scn q.image
 
-leads_on : (a b c : Kept) → LeadsTo a b → LeadsTo b c → LeadsTo a c
+pub leads_on : (a b c : Kept) → LeadsTo a b → LeadsTo b c → LeadsTo a c
 leads_on a b c f g = record { earlier = omega (arith, f.earlier, g.earlier); follows = follows_on f.follows g.follows (omega (arith, f.earlier)) }
 
 -- what is asked for goes on from a kept record, to q

@@ -1,10 +1,9 @@
 -- What a restore leaves, from its plan on.
 use Rattle.std.proofs.Common.{◌≡◌, ◌⊎◌, inl, inr, ⊎_elim, ℕ, List, length, get_or, sym, ap, subst, ◌∙◌, Result, Ok, Err, true}
-use Rattle.nb_restore.proofs.Common.{is_free_file, true≢false, File, Files, World, Leaves, LeavesAll, Fault, Refused, Device, Memory, Changes, Only, NoNames, Remade, GaveNothing, rested, kept_then, nothing_joined, durable_is, Quiet, Page, Image, HoldsMain, Link, verdict, applied, fixed, ShowsIn, owner_main, IsDone, IsPrepared, PlanSays, base_from, RestoreLeft, RestoreAnswers, Restores, IsFreeOr, IsPlan, KeepsImage, ReadsOr, restored}
+use Rattle.nb_restore.proofs.Common.{is_free_file, true≢false, File, Files, World, Leaves, LeavesAll, Fault, Refused, Device, Memory, Changes, Only, NoNames, Remade, GaveNothing, rested, kept_then, nothing_joined, durable_is, Quiet, Page, Image, HoldsMain, Link, verdict, applied, fixed, ShowsIn, owner_main, IsDone, IsPrepared, PlanSays, base_from, RestoreLeft, RestoreAnswers, Restores, IsFreeOr, IsPlan, KeepsImage, ReadsOr, restored, err_not_ok}
 use Rattle.nb_change.proofs.MomentLaws.{left_before}
 use Rattle.nb_model.specs.Owner.{delta_name}
 use Rattle.nb_restore.specs.declared.plan.Plan.{Plan}
-use Rattle.nb_restore.proofs.AnswerLaws.{err_ok}
 
 -- no plan was made, so nothing is done
 pub not_prepared : (old mid : World) (target : List ℕ) (names : List (List ℕ)) (fault : Fault) → Quiet old mid → PlanSays old.files target names (Err fault) → Restores (Err fault) old mid target names
@@ -66,7 +65,7 @@ module _ (old mid new : World) (target : List ℕ) (names : List (List ℕ)) (pl
     reads = reads_all reads;
     gave = gave_all gave;
     taken = λ taken. absurd (true≢false (sym prepared.chain.free ∙ taken));
-    broken = λ refusal broken. absurd (err_ok refusal links (verdict old.files names) broken prepared.chain.accepted);
+    broken = λ refusal broken. absurd (err_not_ok refusal links (verdict old.files names) broken prepared.chain.accepted);
   }
 
   -- the device failed while the target was made

@@ -1,4 +1,5 @@
 -- The definitions that the proofs of this crate speak in, and the laws of other crates that they cite, passed on from one place. Declares nothing.
+pub use Rattle.nb_host.proofs.PlainLaws.{not_true}
 pub use Rattle.nb_host.specs.Files.{is_page_size}
 pub use Rattle.nb_host.specs.Names.{is_name, is_name_byte}
 pub use Rattle.nb_host.specs.declared.refusals.Refusal.TheVariants.{BadScript, ScriptLong}
@@ -21,7 +22,8 @@ pub use Rattle.nb_script.specs.Statements.{or_else, or_next}
 unfoldable pub use Rattle.nb_script.specs.Words.{after, closed, name_at, named, number_at, table_at, within}
 pub use Rattle.nb_script.specs.Words.{Bytes, alone, digit_count, is_digit, is_given, is_plain, is_text_byte, name_len, page_at, session_at, text_at, value_of, ◌>>=◌}
 pub use Rattle.std.proofs.lemmas.Bool.{and_from, and_parts, cases_Bool, cases_lt, cond-false, cond-true, eq-eqb, eqb-true, le-leb, le-ltb, leb-true, lt-ltb, ltb-true, ne_eqb, not_from_false, not_from_true, or_cases, or_left, or_right}
-pub use Rattle.std.proofs.lemmas.List.{append-nil, drop-drop, drop_all, drop_at, drop_more, get_or-map, get_or_at, length-set, map-set, set_at, take_at}
+pub use Rattle.std.proofs.lemmas.Fmt.{decimal_nonempty}
+pub use Rattle.std.proofs.lemmas.List.{append-nil, drop-drop, drop_all, drop_at, drop_more, get_or-map, get_or_at, length-set, length_push, map-set, set_at, take_at}
 pub use Rattle.std.specs.Char.{digit_value}
 pub use Rattle.std.specs.Fmt.{decimal}
 pub use Rattle.std.specs.Global.{Vec}

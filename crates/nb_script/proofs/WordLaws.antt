@@ -22,9 +22,6 @@ all_digits (d ∷ ds) h = and_from (is_digit d) (list_all is_digit ds) (digit_is
 pub digits_of : (n : ℕ) → n < 2 ^ 64 → list_all is_digit (decimal n) ≡ true
 digits_of n h = all_digits (decimal n) (decimal_is_IsNumeral n h).0.1
 
-pub some_digit : (n : ℕ) → n < 2 ^ 64 → 0 < length (decimal n)
-some_digit n h = (decimal_is_IsNumeral n h).0.0
-
 plain_decimal : (n : ℕ) → n < 2 ^ 64 → is_plain (decimal n) ≡ true
 plain_decimal n h =
     let numeral = decimal_is_IsNumeral n h in

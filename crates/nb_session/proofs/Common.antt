@@ -16,8 +16,9 @@ pub use Rattle.nb_engine.specs.Replies.{done, page_made, scn_is, valued}
 pub use Rattle.nb_engine.specs.Turns.{DoesBegin, DoesEnd, SaysNone}
 unfoldable pub use Rattle.nb_fields.specs.Free.{is_free_file}
 pub use Rattle.nb_fields.specs.States.{normal_state, stalled_state}
+pub use Rattle.nb_gather.proofs.QuietLaws.{blank_empty}
 pub use Rattle.nb_gather.specs.Making.{IsEmpty, IsKept, IsUnfinishedOr}
-pub use Rattle.nb_host.proofs.PlainLaws.{both_true, or_assoc, or_false, take_self}
+pub use Rattle.nb_host.proofs.PlainLaws.{all_append, all_front, both_true, false_true, no_err, none_some, not_true, or_assoc, or_false, some_none, take_self}
 pub use Rattle.nb_host.specs.Calls.{IsStill}
 pub use Rattle.nb_host.specs.Causes.{CountsDevice, CountsRun}
 pub use Rattle.nb_host.specs.Crash.{IsDurable, Leaves, LeavesAll, Untouched}
@@ -74,6 +75,7 @@ pub use Rattle.nb_model.specs.declared.reply.Reply.{Reply}
 pub use Rattle.nb_model.specs.declared.reply.Reply.TheVariants.{CacheShown, Done, Freed, HeaderShown, ImageShown, Leaked, Level, PageMade, Pages, PagesShown, Rows, Scn, Value}
 pub use Rattle.nb_model.specs.declared.statement.Statement.{Statement}
 pub use Rattle.nb_model.specs.declared.statement.Statement.TheVariants.{BackupSince, BeginBackup, CopyTo, EndBackup, ShowCache, Sync}
+pub use Rattle.nb_page.proofs.BlankLaws.{blank_free}
 pub use Rattle.nb_page.proofs.QuietLaws.{quiet_begun}
 unfoldable pub use Rattle.nb_page.specs.Free.{has_delta, is_free_name}
 pub use Rattle.nb_page.specs.Quiet.{Quiet}
@@ -110,4 +112,5 @@ pub use Rattle.std.proofs.lemmas.Bool.{and_parts, cases_lt, ne_eqb, true≢false
 pub use Rattle.std.proofs.lemmas.Bool.Decides.{eqb_tells}
 pub use Rattle.std.proofs.lemmas.List.{append-nil, append_cancel_left, append_cancel_right, drop_more, get_or_past, length-map, take-append-le, take_all, take_more}
 pub use Rattle.std.proofs.lemmas.List.Elements.{Contains-append_cases, Contains-append_left, Contains-append_right}
+pub use Rattle.std.proofs.lemmas.Result.{IfOk-from_err}
 pub use Rattle.std.specs.List.{AllByRecursion, list_all, range_with_len, slice_index_or}

@@ -1,6 +1,6 @@
 -- The turns of a copy of the frozen file.
 use Rattle.std.proofs.Common.{◌≡◌, inr, ℕ, zero, suc, ◌-◌, ◌≤◌, List, [], ◌∷◌, ◌++◌, length, replicate, refl, sym, ap, subst, ◌∙◌, arith, true≢false, Bool, Result, Ok, Err, IsErr, IfOk, Option, Some, None, Contains, true, false}
-use Rattle.nb_session.proofs.Common.{slice_index_or, append-nil, stalled_state, Files, is_delta, World, Leaves, Fault, Refused, Device, HostFault, RunError, Refusal, Changes, Only, Remade, GaveNothing, weakened, reached_first, Reply, Pages, CopyTo, Base, copy_turn, close_copy, is_free_entry, Runs, IsAt, IsGoing, IsMaking, Image, image_state, joined, MadeFile, making, Turn, Begins, Copies, ClosesCopy, Seen, Outcome, passes, Now, Event, base_now, outcome, event_of, files_made, Stroke, base_after, steps_in, after_steps, Trail, StandsIn, after_stroke, first_turn, turn, copy_either, OfFiles, after_strokes, Held, IsOpen, name_of, Progress, More, Finished, where_ended, none_yet, gave_none, open_quiet, open_running, IsKept, IsUnfinishedOr, Copying, IsCopying, CopiesFile, IsCopyingTo, StartsCopy, IsCopyStarted, KnowsUnused, Left, Same, Copy, Told, Says, Touched, TurnLeft, AreKept, MayAct, copy_first, copy_rest, left_refused, left_task, task_first, task_rest, IsReady, IsApart, TaskGoes, SaysLine, touching, IsBehind, Turns, told_line, told_reply, has_only_told, only_told, one_held}
+use Rattle.nb_session.proofs.Common.{slice_index_or, append-nil, stalled_state, Files, is_delta, World, Leaves, Fault, Refused, Device, HostFault, RunError, Refusal, Changes, Only, Remade, GaveNothing, weakened, reached_first, Reply, Pages, CopyTo, Base, copy_turn, close_copy, is_free_entry, Runs, IsAt, IsGoing, IsMaking, Image, image_state, joined, MadeFile, making, Turn, Begins, Copies, ClosesCopy, Seen, Outcome, passes, Now, Event, base_now, outcome, event_of, files_made, Stroke, base_after, steps_in, after_steps, Trail, StandsIn, after_stroke, first_turn, turn, copy_either, OfFiles, after_strokes, Held, IsOpen, name_of, Progress, More, Finished, where_ended, none_yet, gave_none, open_quiet, open_running, IsKept, IsUnfinishedOr, Copying, IsCopying, CopiesFile, IsCopyingTo, StartsCopy, IsCopyStarted, KnowsUnused, Left, Same, Copy, Told, Says, Touched, TurnLeft, AreKept, MayAct, copy_first, copy_rest, left_refused, left_task, task_first, task_rest, IsReady, IsApart, TaskGoes, SaysLine, touching, IsBehind, Turns, told_line, told_reply, has_only_told, only_told, one_held, none_some, some_none}
 use Rattle.nb_model.specs.declared.reply.Reply.TheVariants.{Refused as RefusedBy}
 use Rattle.nb_copy.specs.Turns.{CopyCounts}
 use Rattle.nb_copy.proofs.ClosingLaws.{stands}
@@ -57,9 +57,6 @@ module _ (old new : World) (a : Held) (t : Trail) (opened : IsOpen old a t) (nam
       })
 
 -- The start of a copy, by its turn.
-some_none : (r : Refusal) → Some (RefusedBy r) ≡ None → ⊥
-some_none r e = cc
-
 module _ (s : Seen) (session : ℕ) (name : List ℕ) where
   begin_strokes : (copy_turn s session name).strokes ≡ []
   begin_strokes = copy_either (λ o. o.strokes ≡ []) s session name (λ r. refl) (λ may. refl)
@@ -71,13 +68,13 @@ module _ (s : Seen) (session : ℕ) (name : List ℕ) where
   begin_made = copy_either (λ o. o.made ≡ None) s session name (λ r. refl) (λ may. refl)
 
   begin_free : (copy_turn s session name).reply ≡ None → is_free_entry (s.entry name) ≡ true
-  begin_free = copy_either (λ o. o.reply ≡ None → is_free_entry (s.entry name) ≡ true) s session name (λ r is. absurd (some_none r is)) (λ may is. may.free)
+  begin_free = copy_either (λ o. o.reply ≡ None → is_free_entry (s.entry name) ≡ true) s session name (λ r is. absurd (some_none (RefusedBy r) is)) (λ may is. may.free)
 
   begin_runs : (copy_turn s session name).reply ≡ None → (copy_turn s session name).running ≡ Some session
-  begin_runs = copy_either (λ o. o.reply ≡ None → o.running ≡ Some session) s session name (λ r is. absurd (some_none r is)) (λ may is. refl)
+  begin_runs = copy_either (λ o. o.reply ≡ None → o.running ≡ Some session) s session name (λ r is. absurd (some_none (RefusedBy r) is)) (λ may is. refl)
 
   begin_none : (refusal : Refusal) → (copy_turn s session name).reply ≡ Some (RefusedBy refusal) → (copy_turn s session name).next ≡ []
-  begin_none refusal = copy_either (λ o. o.reply ≡ Some (RefusedBy refusal) → o.next ≡ []) s session name (λ r is. refl) (λ may is. absurd (some_none refusal (sym is)))
+  begin_none refusal = copy_either (λ o. o.reply ≡ Some (RefusedBy refusal) → o.next ≡ []) s session name (λ r is. refl) (λ may is. absurd (some_none (RefusedBy refusal) (sym is)))
 
 begin_is : (session : ℕ) (name : List ℕ) (now : Now) → copy_turn (seen_now now) session name ≡ outcome session (Begins (CopyTo name)) now
 unfolding first_turn
@@ -86,9 +83,6 @@ begin_is session name now = sym (outcome_is session (CopyTo name) now)
 -- where nobody runs the account knows of each name whether it is free
 pub knows_unused : {sound : Bool} (w : World) (held : Held) (t : Trail) (now : Now) (name : List ℕ) → IsReady w held t now → IsGoing sound now → is_delta name ≡ false → KnowsUnused w.files (seen_now now) name
 knows_unused w held t now name ready going plain nobody = ready.known name plain (none_runs now going (λ place number some runs. none_some runs.by (sym nobody ∙ runs.running)) name)
-  where
-    none_some : (by : ℕ) → None ≡ Some by → ⊥
-    none_some by e = cc
 
 module _ (old new : World) (a b : Held) (t : Trail) (now : Now) (session : ℕ) (name : List ℕ) (ready : IsReady old a t now) (named : name_of b ≡ name_of a) where
   abbrev begins : Outcome
@@ -146,7 +140,7 @@ module _ (old new : World) (a b : Held) (t : Trail) (now : Now) (session : ℕ) 
       record { next = append-nil this.next ∙ sym (ap (λ (o : Outcome). o.next) (begin_is session name now)) ∙ begin_none (seen_now now) session name refusal starts.says; goes = tt }
 
 -- A further turn of a copy.
-page_is : (session : ℕ) (now : Now) → outcome session Copies now ≡ passes (seen_now now)
+pub page_is : (session : ℕ) (now : Now) → outcome session Copies now ≡ passes (seen_now now)
 unfolding outcome turn
 page_is session now = refl
 

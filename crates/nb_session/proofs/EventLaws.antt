@@ -1,13 +1,13 @@
 -- One turn and its line are one event.
 use Rattle.std.proofs.Common.{◌≡◌, ◌⊎◌, ℕ, zero, suc, ◌-◌, List, [], ◌∷◌, ◌++◌, length, take, Bool, false, refl, sym, ap, subst, ◌∙◌, arith, true, Result, Ok, Err, IfOk, Option, Some, None, Contains, if◌then◌else◌}
-use Rattle.nb_session.proofs.Common.{list_all, slice_index_or, true≢false, append-nil, take_all, File, Files, with_file, World, Leaves, LeavesAll, IsStill, AtEachMoment, Fault, Refused, Device, Memory, RunError, left_with, weaker, left_before, untouched_joined, untouched_fewer, with_file-same, reached_by, Reply, Stroke, IsMaking, MadeFile, Turn, Outcome, Event, Now, Played, event_of, outcome, stands_then, take_turn, replies_of, files_made, output, status_of, status_after, made, steps_in, steps_of, after_step, after_steps, acked_turns, Trail, StandsIn, after_stroke, output-quiet, output_no_event, status_no_event, steps_one, strokes_within, strokes_front, acked_steps_none, acked_steps_most, turns_before, after_strokes, IsKept, IsUnfinishedOr, Held, IsOpen, name_of, WhereEnded, still_open, Told, AreKept, Acts, IsReady, IsApart, has_only_told, HasEnded, only_told, FrontSaid, SaysLine, touching, StopLeft, PlayedOut, Plays, told_turns, told_line, told_status, take_self}
+use Rattle.nb_session.proofs.Common.{list_all, slice_index_or, true≢false, append-nil, take_all, File, Files, with_file, World, Leaves, LeavesAll, IsStill, AtEachMoment, Fault, Refused, Device, Memory, RunError, left_with, weaker, left_before, untouched_joined, untouched_fewer, with_file-same, reached_by, Reply, Stroke, IsMaking, MadeFile, Turn, Outcome, Event, Now, Played, event_of, outcome, stands_then, take_turn, files_made, output, status_after, made, steps_in, steps_of, after_step, after_steps, acked_turns, Trail, StandsIn, after_stroke, output-quiet, output_no_event, steps_one, strokes_within, strokes_front, acked_steps_none, acked_steps_most, turns_before, after_strokes, IsKept, IsUnfinishedOr, Held, IsOpen, name_of, WhereEnded, still_open, Told, AreKept, Acts, IsReady, IsApart, has_only_told, HasEnded, only_told, FrontSaid, SaysLine, touching, StopLeft, PlayedOut, Plays, told_turns, told_line, told_status, take_self}
 use Rattle.std.proofs.Math.Bool.{and-true}
 use Rattle.nb_change.proofs.MomentLaws.{joined}
 use Rattle.nb_change.proofs.SettledLaws.{durable_is, durable_still}
 use Rattle.nb_session.specs.Told.{told_reply as told_as}
 use Rattle.nb_session.proofs.GiftLaws.{given_nothing, given_joined}
 use Rattle.nb_session.proofs.ReadyLaws.{apart_files, ready_then}
-use Rattle.nb_session.proofs.ToldLaws.{told_one, told_none, told_status_is, told_only, output_told, status_told}
+use Rattle.nb_session.proofs.ToldLaws.{told_one, told_none, told_status_is, told_only, output_told, status_told, status_unsaid}
 
 -- what holds where a call ended with a value or a refusal
 pub ended : {T P : Type 0} (answer : Result T Fault) → HasEnded answer → WhereEnded answer P → P
@@ -21,11 +21,6 @@ pub strokes_are_steps : (t : Trail) (ss : List Stroke) → after_strokes t ss �
 unfolding after_steps after_step made
 strokes_are_steps t [] = refl
 strokes_are_steps t (s ∷ ss) = strokes_are_steps (after_stroke s t) ss
-
--- an event without a reply
-status_quiet : (e : Event) → e.reply ≡ None → status_of (replies_of (e ∷ [])) ≡ 0
-unfolding replies_of
-status_quiet e none = ap (λ (r : Option Reply). status_of (elim r as (λ z. List (ℕ × Reply)) [ Some reply ↦ (e.session, reply) ∷ [] | None ↦ [] ])) none ∙ status_no_event
 
 -- an event that says nothing doesn't only tell something
 pub unsaid : (e : Event) → e.reply ≡ None → only_told e ≡ true → ⊥
@@ -166,7 +161,7 @@ module _ (old mid new : World) (e0 e1 : Held) (t : Trail) (now : Now) (session :
       told_quiet quiet = plays_with (Ok false) mid during still_here (record {
         ready = ready_at mid still_here;
         said = acts.left.said ∙ sym (append-nil old.said) ∙ ap (λ (l : List ℕ). old.said ++ l) (sym (output-quiet event [] quiet ∙ output_no_event));
-        status = status_quiet event quiet;
+        status = status_unsaid event quiet;
         given = given_joined old mid mid now.given here.given one.1.given (ended result has acts.given) (given_nothing mid mid here.given one.1.given (record { guids = refl; times = refl }) given_then);
         kept = kept_mid;
         unchanged = λ settled all. absurd (unsaid event quiet (one_told event all));

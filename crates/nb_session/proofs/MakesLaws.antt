@@ -1,6 +1,6 @@
 -- Which turns make a file of which name.
 use Rattle.std.proofs.Common.{◌≡◌, ◌≢◌, inl, inr, ℕ, zero, suc, ◌-◌, ◌<◌, ◌≤◌, List, [], ◌∷◌, ◌++◌, length, get_or, set, refl, sym, ap, subst, arith, get_or-set_same, Bool, Contains}
-use Rattle.nb_session.proofs.Common.{AllByRecursion, slice_index_or, Contains-append_left, Contains-append_right, Contains-append_cases, close_backup, close_copy, AreBeginnings, Runs, IsAt, waits, backs_up, copies, ends, merges, IsGoing, Image, file_of, joined, MadeFile, kept_of, making, making_all, under_way, IsNoneOf, Turn, Begins, Copies, ClosesBackup, ClosesCopy, Ends, Merges, Finishes, Outcome, Now, base_now, outcome, event_of, stands_then, files_made, turn, one_held}
+use Rattle.nb_session.proofs.Common.{AllByRecursion, slice_index_or, Contains-append_left, Contains-append_right, Contains-append_cases, close_backup, close_copy, AreBeginnings, Runs, IsAt, waits, backs_up, copies, ends, merges, IsGoing, Image, file_of, joined, MadeFile, kept_of, making, making_all, under_way, IsNoneOf, Turn, Begins, Copies, ClosesBackup, ClosesCopy, Ends, Merges, Finishes, Outcome, Now, base_now, outcome, event_of, stands_then, files_made, turn, one_held, all_front}
 use Rattle.nb_session.proofs.AllLaws.{all_at}
 
 -- the turn makes no file of that name
@@ -69,10 +69,6 @@ make_none_all frozen (ts ∷ todo) name all = λ bytes there. elim (Contains-app
 ]
 
 -- the parts of what holds of a whole list
-all_front : {A : Type 0} (P : A → Type 0) (xs ys : List A) → AllByRecursion P (xs ++ ys) → AllByRecursion P xs
-all_front P [] ys all = tt
-all_front P (x ∷ xs) ys all = (all.0, all_front P xs ys all.1)
-
 all_back : {A : Type 0} (P : A → Type 0) (xs ys : List A) → AllByRecursion P (xs ++ ys) → AllByRecursion P ys
 all_back P [] ys all = all
 all_back P (x ∷ xs) ys all = all_back P xs ys all.1

@@ -1,6 +1,6 @@
 -- The turns of the end of a backup.
 use Rattle.std.proofs.Common.{◌≡◌, inl, inr, ℕ, zero, suc, ◌+◌, ◌-◌, ◌<◌, List, [], ◌∷◌, ◌++◌, length, replicate, refl, sym, ap, subst, ◌∙◌, arith, true≢false, Result, Ok, Err, IsErr, Option, Some, None, Bool, true, false, not, ◌==◌}
-use Rattle.nb_session.proofs.Common.{slice_index_or, eqb_tells, append-nil, normal_state, stalled_state, World, Fault, Refused, Device, Memory, HostFault, RunError, Refusal, Reply, Scn, EndBackup, Base, Cause, first_cause, when, runs_other, IsAt, IsGoing, IsMaking, Image, image_state, Turn, Begins, Ends, Finishes, Seen, Outcome, unless, passes, end_turn, ends_by, end_scn, end_strokes, Now, base_now, outcome, event_of, Stroke, finish, on_base, base_after, Trail, first_turn, turn, end_either, Strikes, after_strokes, IsNoRefusal, Held, IsOpen, name_of, WhereEnded, GoesOn, Progress, More, Finished, after_base, where_ended, DoesEnd, Says, Acts, MayAct, IsMerging, left_refused, merge_first, merge_rest, task_todo, Left, Taken, Task, Merge, Told, IsReady, EndsEarly, IsBehind, Turns, only_told}
+use Rattle.nb_session.proofs.Common.{slice_index_or, eqb_tells, append-nil, normal_state, stalled_state, World, Fault, Refused, Device, Memory, HostFault, RunError, Refusal, Reply, Scn, EndBackup, Base, Cause, first_cause, when, runs_other, IsAt, IsGoing, IsMaking, Image, image_state, Turn, Begins, Ends, Finishes, Seen, Outcome, unless, passes, end_turn, ends_by, end_scn, end_strokes, Now, base_now, outcome, event_of, Stroke, finish, on_base, base_after, Trail, first_turn, turn, end_either, Strikes, after_strokes, IsNoRefusal, Held, IsOpen, name_of, WhereEnded, GoesOn, Progress, More, Finished, after_base, where_ended, DoesEnd, Says, Acts, MayAct, IsMerging, left_refused, merge_first, merge_rest, task_todo, Left, Taken, Task, Merge, Told, IsReady, EndsEarly, IsBehind, Turns, only_told, some_none}
 use Rattle.nb_host.specs.declared.refusals.Refusal.TheVariants.{WrongState, BackupRunning}
 use Rattle.nb_model.specs.declared.reply.Reply.TheVariants.{Refused as RefusedBy}
 use Rattle.nb_model.specs.Outcomes.{Merges as MergesOne}
@@ -13,7 +13,6 @@ use Rattle.nb_session.proofs.TouchingLaws.{ends_touch}
 use Rattle.nb_session.proofs.TurnLaws.{seen_now, outcome_is, turns_lost}
 use Rattle.nb_session.proofs.WayLaws.{merge_turns, ending_at}
 use Rattle.nb_model.proofs.WholeLaws.{two_none}
-use Rattle.nb_session.proofs.BackupLaws.{some_none}
 
 -- The parts of a turn that ends the stalled state.
 module _ (s : Seen) (session : ℕ) (reply : Reply) where
@@ -58,11 +57,11 @@ end_is session now = sym (outcome_is session EndBackup now)
 
 -- where it says nothing yet
 end_goes : (s : Seen) (session : ℕ) → (end_turn s session).reply ≡ None → end_turn s session ≡ ending s session
-end_goes s session = end_either (λ o. o.reply ≡ None → o ≡ ending s session) s session (λ r is. absurd (some_none r is)) (λ may is. refl)
+end_goes s session = end_either (λ o. o.reply ≡ None → o ≡ ending s session) s session (λ r is. absurd (some_none (RefusedBy r) is)) (λ may is. refl)
 
 -- where it is refused nothing is left to do
 end_none : (s : Seen) (session : ℕ) (refusal : Refusal) → (end_turn s session).reply ≡ Some (RefusedBy refusal) → (end_turn s session).next ≡ []
-end_none s session refusal = end_either (λ o. o.reply ≡ Some (RefusedBy refusal) → o.next ≡ []) s session (λ r is. refl) (λ may is. absurd (some_none refusal (sym is ∙ ends_reply s session (Scn (end_scn s.base.image)))))
+end_none s session refusal = end_either (λ o. o.reply ≡ Some (RefusedBy refusal) → o.next ≡ []) s session (λ r is. refl) (λ may is. absurd (some_none (RefusedBy refusal) (sym is ∙ ends_reply s session (Scn (end_scn s.base.image)))))
 
 -- either way nothing is given, and no file is made
 end_given : (s : Seen) (session : ℕ) → (end_turn s session).given ≡ s.given
@@ -220,7 +219,7 @@ ends_lost how task old mid new a b t now session reply more ready makes here run
     quiet = ends_quiet old a t now session ready makes.going reply more here runs
 
     sure : (f : Fault) → DoesEnd (Err f) old mid a b t (end_scn t.base.image) (end_turn (seen_now now) session) → IsNoRefusal f
-    sure (Refused refusal) does = some_none refusal (sym does.says ∙ quiet)
+    sure (Refused refusal) does = some_none (RefusedBy refusal) (sym does.says ∙ quiet)
     sure Device does = tt
     sure Memory does = tt
 

@@ -1,11 +1,10 @@
 -- Turns after turns.
 use Rattle.std.proofs.Common.{◌≡◌, inl, inr, ℕ, zero, suc, List, [], ◌∷◌, ◌++◌, take, Bool, false, refl, sym, ap, subst, ◌∙◌, arith, append_assoc, max, Contains, Result, Ok, Err, IfOk, true, ◌||◌, if◌then◌else◌}
-use Rattle.nb_session.proofs.Common.{list_all, true≢false, append-nil, Contains-append_cases, File, World, Leaves, Untouched, IsTimely, AtEachMoment, RunError, weaker, untouched_joined, untouched_fewer, untouched_begun, MadeFile, AreAmong, IsNoneOf, NamesOnce, Event, Now, Played, replies_of, files_made, output, status_of, Step, settles, made, steps_in, steps_of, after_step, after_steps, acked_turns, Stroke, Trail, StandsIn, made_append, output_append, status_events, output_no_event, status_no_event, steps_none, steps_append, after_steps_append, after_no_step, acked_steps_none, status_or, IsKept, Held, name_of, Touched, AreKept, IsReady, has_only_told, only_told, StopLeft, PlayedOut, Plays, both_true}
+use Rattle.nb_session.proofs.Common.{list_all, true≢false, append-nil, Contains-append_cases, File, World, Leaves, Untouched, IsTimely, AtEachMoment, RunError, weaker, untouched_joined, untouched_fewer, untouched_begun, MadeFile, AreAmong, IsNoneOf, NamesOnce, Event, Now, Played, replies_of, files_made, output, status_of, Step, settles, made, steps_in, steps_of, after_step, after_steps, acked_turns, Stroke, Trail, StandsIn, made_append, output_append, status_events, output_no_event, status_no_event, steps_none, steps_append, after_steps_append, after_no_step, acked_steps_none, status_or, IsKept, Held, name_of, Touched, AreKept, IsReady, has_only_told, only_told, StopLeft, PlayedOut, Plays, both_true, Contains-append_left, Contains-append_right}
 use Rattle.std.proofs.lemmas.List.Folds.{list_all-append}
 use Rattle.nb_change.specs.Changes.{Other}
 use Rattle.nb_change.proofs.MomentLaws.{started, joined}
 use Rattle.nb_session.proofs.GiftLaws.{given_nothing, given_joined}
-use Rattle.nb_session.proofs.MadeLaws.{among_left, among_right}
 use Rattle.nb_session.proofs.StopLaws.{AreApart, FileLeft, Stays, others_fewer, left_more, stop_wider, stop_more, stop_then}
 
 -- one list of turns after another
@@ -56,12 +55,12 @@ module _ (old mid new : World) (name : List ℕ) (t : Trail) (es fs : List Event
       → Leads old mid name t es made → Leads mid new name (after_steps t (steps_of es)) fs more → Leads old new name t (es ++ fs) all
   leads_then said stays first second =
       let apart : AreApart name all = all_apart first.apart second.apart in
-      let front : Leads old mid name t es all = leads_wider old mid name t es made all (among_left made more) once apart first in
-      let rest : Leads mid new name (after_steps t (steps_of es)) fs all = leads_wider mid new name (after_steps t (steps_of es)) fs more all (among_right made more) once apart second in
+      let front : Leads old mid name t es all = leads_wider old mid name t es made all (Contains-append_left made more) once apart first in
+      let rest : Leads mid new name (after_steps t (steps_of es)) fs all = leads_wider mid new name (after_steps t (steps_of es)) fs more all (Contains-append_right made more) once apart second in
       record {
         stops = joined old mid new _ _ _ front.stops second.stops
             (λ files s left. stop_more old name t es fs all files s left)
-            (λ files s left. stop_then old mid name t es fs more all (among_right made more) once apart files s said front.others front.left stays left);
+            (λ files s left. stop_then old mid name t es fs more all (Contains-append_right made more) once apart files s said front.others front.left stays left);
         left = λ n bytes file there leaves. elim (rest.left n bytes file there leaves) [ inl before ↦ front.left n bytes file there before | inr is ↦ inr is ];
         apart = apart;
         others = untouched_joined old mid new _ front.others rest.others;

@@ -1,6 +1,6 @@
 -- Saying a line.
 use Rattle.std.proofs.Common.{◌≡◌, ℕ, zero, suc, ◌+◌, ◌-◌, List, [], ◌∷◌, ◌++◌, Bool, length, take, sym, ap, ◌∙◌, subst, arith, Result, Ok, Err, IsTrue, OnOk, min}
-use Rattle.nb_session.proofs.Common.{take-append-add, append-nil, take_all, Files, World, LeavesAll, IsStill, IsWhileSaying, IsTimely, PassesSaying, AtEachMoment, goes_on, left_before, FrontSaid, SaysLine}
+use Rattle.nb_session.proofs.Common.{take-append-add, append-nil, take_all, Files, World, LeavesAll, IsStill, IsWhileSaying, IsTimely, PassesSaying, AtEachMoment, goes_on, left_before, FrontSaid, SaysLine, no_err}
 use Rattle.std.specs.Result.{IsErr}
 use Rattle.nb_host.specs.Calls.{Says}
 use Rattle.nb_change.proofs.MomentLaws.{started}
@@ -52,10 +52,7 @@ says_line tells told result after old new bytes timely still says time done =
 
 -- a failure said nothing whole
 pub err_unsaid : {S F : Type 0} (P : Type 0) (result : Result S F) → IsErr result → OnOk result P
-err_unsaid {S} {F} P (Ok x) is = absurd (no_err is)
-  where
-    no_err : IsErr {T = S} {E = F} (Ok x) → ⊥
-    no_err h = cc
+err_unsaid {S} {F} P (Ok x) is = absurd (no_err S F x is)
 err_unsaid P (Err e) is = tt
 
 -- the same line

@@ -1,6 +1,6 @@
 -- A turn of a session is the next that it has to do.
-use Rattle.std.proofs.Common.{◌≡◌, inl, inr, ℕ, ◌-◌, ◌<◌, List, [], ◌∷◌, ◌++◌, length, map, drop, refl, sym, ap, subst, ◌∙◌, append_assoc, get_or-set_same, drop_of_length-le, Bool, true, false, ◌||◌, IsTrue, Result, Ok, Err, IsErr, IsErrAnd, OnOk, Option, Some, None}
-use Rattle.nb_session.proofs.Common.{list_all, slice_index_or, cases_lt, append-nil, IsDone, World, CountsDevice, CountsRun, Fault, Refused, Device, Memory, RunError, Statement, Base, Foretells, IsMaking, MadeFile, making, making_by, Turn, Begins, Now, Played, base_now, event_of, outcome, stands_then, take_turn, one_turn, base_after, Trail, turn_stands, Held, Task, Left, Same, Other, Taken, Asker, task_first, task_rest, task_todo, task_left, left_of, left_refused, left_task, todo_of, HasTodo, KeepsOthers, IsReady, TaskGoes, only_told, shown_by, shown_first, shown_next, begun_in, begun_first, touching, touching_by, GoesFurther, Turns, TakesNext, Steps, Plays, told_turns}
+use Rattle.std.proofs.Common.{◌≡◌, inl, inr, ℕ, ◌-◌, ◌<◌, List, [], ◌∷◌, ◌++◌, length, map, drop, sym, ap, subst, ◌∙◌, append_assoc, get_or-set_same, drop_of_length-le, Bool, true, false, ◌||◌, IsTrue, Result, Ok, Err, IsErr, IsErrAnd, OnOk, Option, Some, None}
+use Rattle.nb_session.proofs.Common.{list_all, slice_index_or, cases_lt, append-nil, IsDone, World, CountsDevice, CountsRun, Fault, Refused, Device, Memory, RunError, Statement, Base, Foretells, IsMaking, MadeFile, making, making_by, Turn, Begins, Now, Played, base_now, event_of, outcome, stands_then, take_turn, one_turn, base_after, Trail, turn_stands, Held, Task, Left, Same, Other, Taken, Asker, task_first, task_rest, task_todo, task_left, left_of, left_refused, left_task, todo_of, HasTodo, KeepsOthers, IsReady, TaskGoes, only_told, shown_by, shown_first, shown_next, begun_in, begun_first, touching, touching_by, GoesFurther, Turns, TakesNext, Steps, Plays, told_turns, or_false}
 use Rattle.nb_host.specs.declared.faults.RunError.TheVariants.{Device as DeviceError, Memory as MemoryError}
 use Rattle.nb_session.proofs.EventLaws.{one_told}
 use Rattle.nb_session.proofs.MakesLaws.{place_in}
@@ -160,12 +160,8 @@ module _ (tells : Bool) (old new : World) (faults faults' : ℕ) (a b : Held) (a
     pub went_same : (left : Left) → left ≡ Same → moved ≡ record { number = asker.number; told = asker.told; statements = asker.statements; task = now_task; refused = asker.refused } → Went (Ok left) → faults' ≡ faults
         → Steps tells (Ok tt) old new faults faults' a b asker moved
     went_same left is same went counts =
-        went_taken left (same ∙ ap {A = Bool} {B = Asker} (λ noted. record { number = asker.number; told = asker.told; statements = asker.statements; task = now_task; refused = noted }) (or_false asker.refused) ∙ of_left (sym is)) went counts
+        went_taken left (same ∙ ap {A = Bool} {B = Asker} (λ noted. record { number = asker.number; told = asker.told; statements = asker.statements; task = now_task; refused = noted }) (sym (or_false asker.refused)) ∙ of_left (sym is)) went counts
       where
-        or_false : (b : Bool) → b ≡ (b || false)
-        or_false true = refl
-        or_false false = refl
-
         of_left : {x y : Left} → x ≡ y → ◌≡◌ {A = Asker} (record { number = asker.number; told = asker.told; statements = asker.statements; task = left_task now_task x; refused = asker.refused || left_refused x })
             (record { number = asker.number; told = asker.told; statements = asker.statements; task = left_task now_task y; refused = asker.refused || left_refused y })
         of_left e = ap {A = Left} {B = Asker} (λ l. record { number = asker.number; told = asker.told; statements = asker.statements; task = left_task now_task l; refused = asker.refused || left_refused l }) e

@@ -107,7 +107,7 @@ pub output_told : (e : Event) (r : Option Reply) → e.reply ≡ r → output (e
 output_told e None is = output-quiet e [] is ∙ output_no_event
 output_told e (Some r) is = output_one e r is
 
-status_unsaid : (e : Event) → e.reply ≡ None → status_of (replies_of (e ∷ [])) ≡ 0
+pub status_unsaid : (e : Event) → e.reply ≡ None → status_of (replies_of (e ∷ [])) ≡ 0
 unfolding replies_of
 status_unsaid e none = ap (λ (r : Option Reply). status_of (elim r as (λ z. List (ℕ × Reply)) [ Some reply ↦ (e.session, reply) ∷ [] | None ↦ [] ])) none ∙ status_no_event
 

@@ -1,7 +1,7 @@
 -- What a session is still to make, and for which of them it runs.
 use Rattle.std.proofs.Common.{Bool, ◌≡◌, ◌≢◌, ℕ, zero, suc, ◌-◌, List, [], ◌∷◌, ◌++◌, map, get_or, refl, ap, subst}
-use Rattle.nb_session.proofs.Common.{slice_index_or, Statement, IsBeginning, AreBeginnings, AreMerging, Runs, IsAt, waits, backs_up, copies, ends, merges, IsGoing, Image, file_of, joined, MadeFile, kept_of, making, making_by, making_all, under_way, AreAmong, Turn, Begins, Copies, ClosesBackup, ClosesCopy, Ends, Merges, Finishes, Now, base_now, one_runs, copy_first, beginnings_make}
-use Rattle.nb_session.proofs.MadeLaws.{none_among, among_left, among_right}
+use Rattle.nb_session.proofs.Common.{slice_index_or, Statement, IsBeginning, AreBeginnings, AreMerging, Runs, IsAt, waits, backs_up, copies, ends, merges, IsGoing, Image, file_of, joined, MadeFile, kept_of, making, making_by, making_all, under_way, AreAmong, Turn, Begins, Copies, ClosesBackup, ClosesCopy, Ends, Merges, Finishes, Now, base_now, one_runs, copy_first, beginnings_make, Contains-append_left, Contains-append_right}
+use Rattle.nb_session.proofs.MadeLaws.{none_among}
 
 -- turns after turns
 pub making_append : (frozen : Image) (ts us : List Turn) → making frozen (ts ++ us) ≡ making frozen ts ++ making frozen us
@@ -26,8 +26,8 @@ at_among : (frozen : Image) (todo : List (List Turn)) (place : ℕ) → AreAmong
 unfolding making making_all
 at_among frozen [] zero file there = none_among [] file there
 at_among frozen [] (suc place) file there = none_among [] file there
-at_among frozen (ts ∷ todo) zero file there = among_left (making frozen ts) (making_all frozen todo) file there
-at_among frozen (ts ∷ todo) (suc place) file there = among_right (making frozen ts) (making_all frozen todo) file (at_among frozen todo place file there)
+at_among frozen (ts ∷ todo) zero file there = Contains-append_left (making frozen ts) (making_all frozen todo) file there
+at_among frozen (ts ∷ todo) (suc place) file there = Contains-append_right (making frozen ts) (making_all frozen todo) file (at_among frozen todo place file there)
 
 pub by_among : (session : ℕ) (now : Now) → AreAmong (making_by session now) (under_way now)
 by_among session now = at_among (base_now now).frozen now.todo (session - 1)

@@ -5,6 +5,7 @@ pub use Rattle.nb_fields.proofs.PlaceLaws.{bits-least}
 pub use Rattle.nb_fields.specs.Kinds.{inventory_kind}
 pub use Rattle.nb_fields.specs.Page.{kind_of}
 pub use Rattle.nb_fields.specs.Places.{bits_in, inventory_place, is_page_size}
+pub use Rattle.nb_host.proofs.PlainLaws.{first_twice}
 pub use Rattle.nb_host.specs.declared.refusals.Refusal.{Refusal}
 unfoldable pub use Rattle.nb_model.specs.Backups.{all_needed, count_from, pages_turn, taken_of}
 pub use Rattle.nb_model.specs.Backups.{is_other}

@@ -30,7 +30,9 @@ pub use Rattle.nb_host.specs.declared.refusals.Refusal.TheVariants.{BackupRunnin
 pub use Rattle.nb_model.proofs.ControlLaws.{control_guid, control_other, control_scn, control_state}
 pub use Rattle.nb_model.proofs.HeaderLaws.{header-long, header-room, same-number}
 pub use Rattle.nb_model.proofs.MainLaws.{some_page}
+pub use Rattle.nb_model.proofs.StrokeLaws.{begun_image, ended_image}
 pub use Rattle.nb_model.proofs.TrailLaws.{trail_base}
+pub use Rattle.nb_model.proofs.TurnCases.{one_cause}
 pub use Rattle.nb_model.specs.Account.{Ask, Base, base_of}
 unfoldable pub use Rattle.nb_model.specs.Causes.{first_cause}
 pub use Rattle.nb_model.specs.Causes.{Cause, no_scn, not_state, runs_other, when}
@@ -38,7 +40,7 @@ unfoldable pub use Rattle.nb_model.specs.Image.{image_in, trimmed}
 pub use Rattle.nb_model.specs.Image.{Image, Page, first_page, image_guid, image_scn, image_size, image_state, page_at}
 unfoldable pub use Rattle.nb_model.specs.Owner.{owner}
 pub use Rattle.nb_model.specs.Owner.{delta_name}
-unfoldable pub use Rattle.nb_model.specs.Strokes.{base_after, controlled, on_base, with_control}
+unfoldable pub use Rattle.nb_model.specs.Strokes.{base_after, controlled, with_control}
 pub use Rattle.nb_model.specs.Strokes.{Stroke, begin, ends, finish, page}
 unfoldable pub use Rattle.nb_model.specs.Trail.{after_stroke}
 pub use Rattle.nb_model.specs.Trail.{ShowsIn, StandsIn, Trail, settled}

@@ -1,6 +1,6 @@
 -- Why a backup doesn't begin, and why a merge doesn't.
-use Rattle.std.proofs.Common.{◌≡◌, ◌≢◌, ℕ, ◌≤◌, ◌<◌, [], ◌∷◌, refl, ap, ◌∙◌, Bool, Option, Some, None, not}
-use Rattle.nb_state.proofs.Common.{eq-eqb, ne_eqb, normal_state, Refusal, ScnExhausted, BackupRunning, Image, image_scn, Cause, first_cause, when, not_state, no_scn, runs_other, none_to_end, begin_cause, end_cause}
+use Rattle.std.proofs.Common.{◌≡◌, ◌≢◌, ℕ, ◌≤◌, ◌<◌, [], ◌∷◌, ap, ◌∙◌, Bool, Option, Some, None, not}
+use Rattle.nb_state.proofs.Common.{eq-eqb, ne_eqb, normal_state, Refusal, ScnExhausted, BackupRunning, Image, image_scn, Cause, first_cause, when, not_state, no_scn, runs_other, none_to_end, begin_cause, end_cause, one_cause}
 use Rattle.nb_model.proofs.ReadLaws.{lt_no, lt_yes}
 
 -- the first of two causes, and the second where the first doesn't apply
@@ -10,11 +10,7 @@ first_applies c d r is = ap (λ (x : Cause). first_cause (x ∷ d ∷ [])) is
 
 second_decides : (c d : Cause) → c ≡ None → first_cause (c ∷ d ∷ []) ≡ d
 unfolding first_cause
-second_decides c d none = ap (λ (x : Cause). first_cause (x ∷ d ∷ [])) none ∙ last d
-  where
-    last : (d : Cause) → first_cause (d ∷ []) ≡ d
-    last None = refl
-    last (Some r) = refl
+second_decides c d none = ap (λ (x : Cause). first_cause (x ∷ d ∷ [])) none ∙ one_cause d
 
 module _ (image : Image) where
   pub other_state : (r : Refusal) → not_state normal_state image ≡ Some r → begin_cause image ≡ Some r

@@ -1,6 +1,6 @@
 -- What is open after the turns of a backup.
 use Rattle.std.proofs.Common.{◌≡◌, ◌≢◌, ◌⊎◌, ⊎_elim, ℕ, ◌+◌, ◌<◌, ◌≤◌, List, [], ◌∷◌, ◌++◌, length, drop, refl, sym, ap, subst, ◌∙◌, arith, length-append, drop_at, Bool, true, false, Option, Some, None, Result, Ok, Err}
-use Rattle.nb_state.proofs.Common.{eq-eqb, ne_eqb, is_header, state_of, normal_state, stalled_state, merge_state, World, IsStill, Fault, Refused, Device, Memory, Refusal, weaker_has, strokes_composed, reached_front, Image, first_page, image_state, image_scn, image_guid, trimmed, Ask, Base, Cause, Stroke, begin, ends, finish, on_base, with_control, Trail, StandsIn, after_stroke, control_state, header-long, header-room, some_page, trail_base, OfFiles, AreMerged, Strikes, with_control-first, Quiet, GaveNothing, after_strokes, but_drafts, Held, AgreesWith, IsOpen, name_of, Tested, unless_by, begin_cause, end_cause, Begins, Ends, Merges}
+use Rattle.nb_state.proofs.Common.{eq-eqb, ne_eqb, is_header, state_of, normal_state, stalled_state, merge_state, World, IsStill, Fault, Refused, Device, Memory, Refusal, weaker_has, strokes_composed, reached_front, Image, first_page, image_state, image_scn, image_guid, trimmed, Ask, Base, Cause, Stroke, begin, ends, finish, with_control, Trail, StandsIn, after_stroke, control_state, header-long, header-room, some_page, trail_base, OfFiles, AreMerged, Strikes, with_control-first, Quiet, GaveNothing, after_strokes, but_drafts, Held, AgreesWith, IsOpen, name_of, Tested, unless_by, begin_cause, end_cause, Begins, Ends, Merges, begun_image, ended_image}
 use Rattle.nb_host.specs.Moments.{IsTimely, Passes}
 use Rattle.nb_host.specs.declared.faults.HostFault.{HostFault}
 use Rattle.nb_change.proofs.CallLaws.{still_alone}
@@ -37,14 +37,6 @@ given_guid old new given guid is =
 state_control : (before after : Base) (state scn : ℕ) (guid : List ℕ) → is_header (first_page before.image) ≡ true → length guid ≡ 16 → state < 65536 → after.image ≡ with_control state scn guid before.image → image_state after.image ≡ state
 state_control before after state scn guid header sixteen low is =
     ap image_state is ∙ ap state_of (with_control-first state scn guid before.image (some_page before.image header)) ∙ control_state state scn guid (first_page before.image) (header-long (first_page before.image) header) sixteen low
-
-begun_image : (b : Base) (guid : List ℕ) (ask : Option Ask) → (on_base (begin guid ask) b).image ≡ with_control stalled_state (image_scn b.image + 1) guid b.image
-unfolding on_base
-begun_image b guid ask = refl
-
-ended_image : (b : Base) → (on_base ends b).image ≡ with_control merge_state (image_scn b.image + 1) (image_guid b.image) b.image
-unfolding on_base
-ended_image b = refl
 
 module _ (old new : World) (held : Held) (t : Trail) (is : IsOpen old held t) (pair : Rattle.nb_owner.specs.Open.Held) where
   header : is_header (first_page t.base.image) ≡ true

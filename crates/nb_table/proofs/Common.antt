@@ -1,5 +1,5 @@
 -- The definitions that the proofs of this crate speak in, and the laws of other crates that they cite, passed on from one place. Declares nothing.
-pub use Rattle.nb_alloc.proofs.CauseLaws.{first_front, first_rest, judged_by, one_cause, refused_by, unless_allowed, unless_refused}
+pub use Rattle.nb_alloc.proofs.CauseLaws.{first_front, first_rest, judged_by, refused_by, unless_allowed, unless_refused}
 pub use Rattle.nb_alloc.proofs.DataLaws.{owner_is}
 pub use Rattle.nb_alloc.proofs.DoesLaws.{makes_valued, refused_does, seeing, sure_of, tested_does, tested_on, tries_after, tries_does, tries_early, tries_front, tries_made, tries_opened, tries_other, tries_passed, tries_then, tries_valued, valued_does}
 pub use Rattle.nb_alloc.proofs.MakeLaws.{tries_named}
@@ -23,24 +23,24 @@ pub use Rattle.nb_fields.specs.Bytes.{part, with_part}
 pub use Rattle.nb_fields.specs.Kinds.{data_kind, header_kind, inventory_kind, scn_kind}
 unfoldable pub use Rattle.nb_fields.specs.Places.{is_scn_place}
 pub use Rattle.nb_fields.specs.Places.{is_page_size, most_pages}
-pub use Rattle.nb_host.proofs.PlainLaws.{append_none, err_ok, le_yes, none_some}
+pub use Rattle.nb_host.proofs.PlainLaws.{all_both, all_go, append_none, err_ok, false_true, le_yes, none_some, some_none, some_same}
 pub use Rattle.nb_host.specs.World.{World}
 pub use Rattle.nb_host.specs.declared.faults.Fault.{Fault}
 pub use Rattle.nb_host.specs.declared.refusals.Refusal.{Refusal}
 pub use Rattle.nb_host.specs.declared.refusals.Refusal.TheVariants.{Full, KeyExists, NoKey, NoTable, NotDatabase, TableExists, TooManyTables}
 pub use Rattle.nb_model.proofs.ChainWalks.{IsWalk, StaysLinked, linked_same, ok_found, pages_stay, walk_cases, walk_zero}
 pub use Rattle.nb_model.proofs.DraftLaws.{IsOf, drafted_is, drafts_are, new_keeps, put_keeps, set_bit_keeps}
-pub use Rattle.nb_model.proofs.DropTurns.{join_given}
-pub use Rattle.nb_model.proofs.NeatLaws.{all_both, all_go}
+pub use Rattle.nb_model.proofs.DropTurns.{given_none, join_given}
+pub use Rattle.nb_model.proofs.LeakTurns.{given_first}
 pub use Rattle.nb_model.proofs.PutSound.{no_first}
 pub use Rattle.nb_model.proofs.ReadLaws.{eq_no, eq_yes, le_no, lt_no, lt_yes}
 pub use Rattle.nb_model.proofs.RoomLaws.{chain_owner, first_found, in_chain, pages_found}
 pub use Rattle.nb_model.proofs.SearchLaws.{draft_cause}
 pub use Rattle.nb_model.proofs.SoundLaws.{all_at, kind_of_header, scn_place_before, scn_place_of}
-pub use Rattle.nb_model.proofs.SpotMaps.{has_key, other_key, same_some, unused_key}
+pub use Rattle.nb_model.proofs.SpotMaps.{has_key, other_key, unused_key}
 pub use Rattle.nb_model.proofs.StepLaws.{IsShaped, Puts, kind_parts, put_on}
 pub use Rattle.nb_model.proofs.TableTurns.{name_short, table_length}
-pub use Rattle.nb_model.proofs.TurnCases.{is_so, no_cause}
+pub use Rattle.nb_model.proofs.TurnCases.{is_so, no_cause, one_cause}
 pub use Rattle.nb_model.proofs.WholeLaws.{when_false}
 unfoldable pub use Rattle.nb_model.specs.Causes.{first_cause, lowest_broken}
 pub use Rattle.nb_model.specs.Causes.{Cause, broken_at, lowest_of, no_room, not_kind, not_of_form, read_only, short_for, too_long, too_short, when}

@@ -1,6 +1,6 @@
 -- A table that is made: its first page, and then its slot in the catalogue.
-use Rattle.std.proofs.Common.{◌≡◌, inl, inr, ℕ, suc, ◌+◌, ◌*◌, ◌≤◌, List, [], ◌∷◌, ◌++◌, length, drop, refl, sym, ap, subst, ◌∙◌, arith, Bool, true, not, Some, None, Result, Ok, Err}
-use Rattle.nb_table.proofs.Common.{leb_tells, with_part, data_kind, World, Fault, NotDatabase, not_kind, not_of_form, no_room, too_short, when, Catalogue, Slot, found_pages, last_of, put_slot, grown, table_slot, Draft, drafted, is_kind, Image, page_at, Stroke, Trail, IsOf, drafted_is, drafts_are, new_keeps, no_first, draft_cause, after_strokes, Held, IsOpen, Makes, behind_cause, second_data, unmade, unmade_behind, entry_cause, Tries, one_cause, tries_front, tries_then, sure_of, tries_opened, tries_named, image_is, IsFreeBehind, free_behind, grown_named, slot_named, unmade_is, joined_clear, lt_no, Place, first_made, created_in, created_behind, table_length, first_next, when_false, unless_none}
+use Rattle.std.proofs.Common.{◌≡◌, inl, inr, ℕ, suc, ◌+◌, ◌*◌, ◌≤◌, List, [], ◌∷◌, ◌++◌, length, drop, refl, sym, ap, subst, ◌∙◌, arith, Bool, true, not, None, Result, Ok, Err}
+use Rattle.nb_table.proofs.Common.{leb_tells, with_part, data_kind, World, Fault, NotDatabase, not_kind, not_of_form, no_room, too_short, when, Catalogue, Slot, found_pages, last_of, put_slot, grown, table_slot, Draft, drafted, is_kind, Image, page_at, Stroke, Trail, IsOf, drafted_is, drafts_are, new_keeps, no_first, draft_cause, after_strokes, Held, IsOpen, Makes, behind_cause, second_data, unmade, unmade_behind, entry_cause, Tries, tries_front, tries_then, sure_of, tries_opened, tries_named, image_is, IsFreeBehind, free_behind, grown_named, slot_named, unmade_is, joined_clear, lt_no, Place, first_made, created_in, created_behind, table_length, first_next, when_false, unless_none, some_none, one_cause}
 use Rattle.nb_fields.specs.Payloads.{data_payload}
 use Rattle.nb_model.proofs.DraftJoin.{joined, join_put}
 use Rattle.nb_model.proofs.PlaceTurns.{join_at}
@@ -180,12 +180,9 @@ module _ (t : Trail) (table : List ℕ) where
 
     five : 5 ≤ length x
     five = elim (leb_tells (suc (length x)) 5) [
-      | inl w ↦ absurd (some_none (sym (ap (λ (t : Bool). when t (NotDatabase (length x))) w.0) ∙ long))
+      | inl w ↦ absurd (some_none (NotDatabase (length x)) (sym (ap (λ (t : Bool). when t (NotDatabase (length x))) w.0) ∙ long))
       | inr w ↦ omega (arith, w.1)
     ]
-      where
-        some_none : Some (NotDatabase (length x)) ≡ None → ⊥
-        some_none e = cc
 
     long_then : too_short u.base.image ≡ None
     long_then = when_false _ _ (lt_no (length u.base.image) 5 (omega (arith, five, new_longer 5 first x, ap length image_then)))

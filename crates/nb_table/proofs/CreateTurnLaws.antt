@@ -1,6 +1,6 @@
 -- The turn of a table that is made, by its causes.
 use Rattle.std.proofs.Common.{◌≡◌, ℕ, ◌<◌, ◌≤◌, List, [], ◌∷◌, ◌++◌, length, refl, sym, ap, ◌∙◌, arith, Bool, true, false, Option, Some, None, is_some, nat_le, min}
-use Rattle.nb_table.proofs.Common.{data_kind, Refusal, TableExists, TooManyTables, Done, Refused, Cause, first_cause, broken_at, read_only, not_kind, not_of_form, no_room, when, too_short, Catalogue, Spot, found_pages, free_spot, pages_of, spots, table_spot, table_slot, Draft, Image, Seen, says, unless, changes, used, create_turn, unmade, no_first, le_no, data_there, first_front, first_rest, one_cause, refused_by, Place, first_made, created_in, created_behind, new_cause, Table, Walked, gathered, place_of, free_kind, first_here, first_next, le_yes}
+use Rattle.nb_table.proofs.Common.{data_kind, Refusal, TableExists, TooManyTables, Done, Refused, Cause, first_cause, broken_at, read_only, not_kind, not_of_form, no_room, when, too_short, Catalogue, Spot, found_pages, free_spot, pages_of, spots, table_spot, table_slot, Draft, Image, Seen, says, unless, changes, used, create_turn, unmade, no_first, le_no, data_there, first_front, first_rest, refused_by, Place, first_made, created_in, created_behind, new_cause, Table, Walked, gathered, place_of, free_kind, first_here, first_next, le_yes, some_same, one_cause}
 use Rattle.nb_model.specs.Chains.{place_at}
 use Rattle.nb_table.specs.Walks.{place_at as places}
 use Rattle.nb_table.proofs.PlaceLaws.{IsPlaceOf, place_some, found_there}
@@ -67,12 +67,9 @@ module _ (s : Seen) (table : List ℕ) where
       pub create_at : (place : Place) → Some place ≡ places here → create_turn s table ≡ unless s (unmade image_now (created_in image_now table place)) (says s Done (created_in image_now table place).strokes)
       create_at place e = create_by (created_in image_now table place) (by here e)
         where
-          some_is : (a b : Place) → Some a ≡ Some b → a ≡ b
-          some_is a b f = cc
-
           by : (o : Option Spot) → Some place ≡ places o → draft o ≡ created_in image_now table place
           by None f = cc
-          by (Some f) g = ap (λ (p : Place). created_in image_now table p) (sym (some_is place (place_of f) g))
+          by (Some f) g = ap (λ (p : Place). created_in image_now table p) (sym (some_same place (place_of f) g))
 
       -- or in a new page
       pub create_last : None ≡ places here → create_turn s table ≡ unless s (unmade image_now (created_behind image_now table)) (says s Done (created_behind image_now table).strokes)

@@ -1,6 +1,6 @@
 -- A table that is dropped: its slot in the catalogue becomes free, which leaves each page of its chain as it was.
 use Rattle.std.proofs.Common.{◌≡◌, ◌≢◌, inl, inr, ℕ, ◌+◌, ◌*◌, ◌<◌, ◌≤◌, List, [], ◌∷◌, ◌++◌, length, drop, refl, sym, ap, subst, ◌∙◌, arith, Bool, true, false, None, Result, Ok, Err}
-use Rattle.nb_table.proofs.Common.{AllByRecursion, eqb_tells, with_part, is_scn_place, header_kind, data_kind, scn_kind, World, Fault, lowest_broken, not_of_form, not_kind, Chain, Catalogue, RowsFrom, Spot, first_in, owner_in, is_in_chain, found_pages, pages_of, table_spot, put_slot, free_slot, HasItsEntry, Draft, drafted, put, is_kind, other_kind, scn_page_of, Image, page_at, image_size, Stroke, all_given, Trail, StaysLinked, linked_same, ok_found, pages_stay, IsOf, drafted_is, drafts_are, put_keeps, join_given, all_go, all_both, in_chain, chain_owner, pages_found, first_found, all_at, kind_of_header, scn_place_of, IsShaped, Puts, put_on, kind_parts, after_strokes, Held, IsOpen, entry_broken, give_broken, entry_cause, Tries, tries_opened, tries_front, tries_then, sure_of, tries_named, image_is, In, Notes, give_by, no_entry_broken, kind_is, IsWholeTable, IsGivable, dropped, drop_broken, spot_on, append_none}
+use Rattle.nb_table.proofs.Common.{AllByRecursion, eqb_tells, with_part, is_scn_place, header_kind, data_kind, scn_kind, World, Fault, lowest_broken, not_of_form, not_kind, Chain, Catalogue, RowsFrom, Spot, first_in, owner_in, is_in_chain, found_pages, pages_of, table_spot, put_slot, free_slot, HasItsEntry, Draft, drafted, put, is_kind, other_kind, scn_page_of, Image, page_at, image_size, Stroke, all_given, Trail, StaysLinked, linked_same, ok_found, pages_stay, IsOf, drafted_is, drafts_are, put_keeps, join_given, in_chain, chain_owner, pages_found, first_found, all_at, kind_of_header, scn_place_of, IsShaped, Puts, put_on, kind_parts, after_strokes, Held, IsOpen, entry_broken, give_broken, entry_cause, Tries, tries_opened, tries_front, tries_then, sure_of, tries_named, image_is, In, Notes, give_by, no_entry_broken, kind_is, IsWholeTable, IsGivable, dropped, drop_broken, spot_on, append_none, all_go, all_both}
 use Rattle.nb_fields.specs.Page.{kind_of}
 use Rattle.nb_model.specs.Sound.{HasHeader}
 use Rattle.nb_model.proofs.SpotLaws.{IsSpotOn, spot_within}

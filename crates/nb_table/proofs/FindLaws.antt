@@ -1,12 +1,6 @@
 -- A table or a row that was looked for: it is found, or there is none.
 use Rattle.std.proofs.Common.{◌≡◌, ℕ, [], ◌∷◌, refl, sym, ap, ◌∙◌, Option, Some, None, is_none}
-use Rattle.nb_table.proofs.Common.{Refusal, NoKey, Image, Cause, first_cause, when, broken_at, Spot, RowsFrom, pages_of, spots, row_spot, Found, found_of, spot_of, found_at, first_here, first_next, no_cause}
-
-some_same : (f g : Found) → Some f ≡ Some g → f ≡ g
-some_same f g e = cc
-
-some_none : (f : Found) → Some f ≡ None → ⊥
-some_none f e = cc
+use Rattle.nb_table.proofs.Common.{Refusal, NoKey, Image, Cause, first_cause, when, broken_at, Spot, RowsFrom, pages_of, spots, row_spot, Found, found_of, spot_of, found_at, first_here, first_next, no_cause, some_none, some_same}
 
 -- why a row isn't found, and that it is
 abbrev pub row_cause : Image → (first key : ℕ) → Cause
@@ -42,9 +36,6 @@ module _ (broken : Cause) (o : Option Spot) (missing : Refusal) where
   pub search_whole : search_cause ≡ None → broken ≡ None
   search_whole e = by broken refl
     where
-      clash : (r : Refusal) → Some r ≡ None → ⊥
-      clash r d = cc
-
       by : (c : Cause) → broken ≡ c → broken ≡ None
       by None d = d
-      by (Some r) d = absurd (clash r (sym (search_broken r d) ∙ e))
+      by (Some r) d = absurd (some_none r (sym (search_broken r d) ∙ e))

@@ -1,16 +1,8 @@
 -- The pages of a chain are given back one after the other, along their links, which stay.
 use Rattle.std.proofs.Common.{◌≡◌, ◌≢◌, ℕ, zero, suc, ◌-◌, ◌<◌, List, [], ◌∷◌, ◌++◌, length, refl, sym, ap, subst, append_assoc, ◌∙◌, arith, true, None, Ok, Err}
-use Rattle.nb_table.proofs.Common.{AllByRecursion, true≢false, append-nil, data_kind, World, Fault, Quiet, Chain, first_of, owner_of, owner_in, next_in, is_in_chain, walk, pages_of, Draft, drafted, give_page, Image, page_at, Stroke, all_given, Trail, after_stroke, IsWalk, walk_cases, walk_zero, IsOf, drafted_is, drafts_are, set_bit_keeps, join_given, all_go, all_both, eq_yes, chain_owner, IsShaped, kind_parts, after_strokes, IsNoRefusal, Held, IsOpen, Makes, makes_none, makes_then, makes_front, not_data, mark_cause, Tries, owner_is, tries_made, sure_of, makes_valued, image_is, IsGivenOn, given_cause, given_on, give_same, kind_is, IsGivable, err_ok, unless_none}
+use Rattle.nb_table.proofs.Common.{AllByRecursion, true≢false, append-nil, data_kind, World, Fault, Quiet, Chain, first_of, owner_of, owner_in, next_in, is_in_chain, walk, pages_of, Draft, drafted, give_page, Image, page_at, Stroke, all_given, Trail, after_stroke, IsWalk, walk_cases, walk_zero, IsOf, drafted_is, drafts_are, set_bit_keeps, eq_yes, chain_owner, IsShaped, kind_parts, after_strokes, IsNoRefusal, Held, IsOpen, Makes, makes_none, makes_then, makes_front, not_data, mark_cause, Tries, owner_is, tries_made, sure_of, makes_valued, image_is, IsGivenOn, given_cause, given_on, give_same, kind_is, IsGivable, err_ok, unless_none, given_none, given_first, all_go, all_both}
 use Rattle.nb_change.proofs.ReachedLaws.{after_all-joined}
 use Rattle.nb_model.proofs.ChainWalks.{ends as walk_ends, leads as walk_leads, Walks}
-
-given_first : (p : ℕ) (ps : List ℕ) (z : Image) → (all_given (p ∷ ps) (drafted z)).strokes ≡ (give_page p (drafted z)).strokes ++ (all_given ps (drafted (give_page p (drafted z)).image)).strokes
-unfolding all_given
-given_first p ps z = ap (λ (d : Draft). d.strokes) (join_given ps (give_page p (drafted z)))
-
-given_none : (z : Image) → (all_given [] (drafted z)).strokes ≡ []
-unfolding all_given
-given_none z = refl
 
 -- it is so where pages keep their kinds
 givable_on : (x y : Image) (q : ℕ) → IsGivenOn x y → IsGivable x q → IsGivable y q

@@ -1,6 +1,6 @@
 -- A statement on a table, test by test: before the table is looked for, that it is there, after that, and that its chain is of the form.
 use Rattle.std.proofs.Common.{◌≡◌, ℕ, List, [], ◌∷◌, refl, sym, ap, subst, ◌∙◌, Option, Some, None, is_none, Result}
-use Rattle.nb_table.proofs.Common.{World, Fault, Refusal, NoTable, Quiet, quiet_joined, Refused, Done, Image, Cause, first_cause, when, broken_at, Chain, Catalogue, RowsFrom, Spot, pages_of, table_spot, first_in, Seen, Outcome, says, unless, with_spot, in_table, Trail, Held, IsOpen, but_pages, Does, makes_after, unless_refused, unless_allowed, one_cause, seeing, chain_cause, rows_cause, first_here, first_next, same_some, no_cause}
+use Rattle.nb_table.proofs.Common.{World, Fault, Refusal, NoTable, Quiet, quiet_joined, Refused, Done, Image, Cause, first_cause, when, broken_at, Chain, Catalogue, RowsFrom, Spot, pages_of, table_spot, first_in, Seen, Outcome, says, unless, with_spot, in_table, Trail, Held, IsOpen, but_pages, Does, makes_after, unless_refused, unless_allowed, seeing, chain_cause, rows_cause, first_here, first_next, no_cause, some_same, one_cause}
 use Rattle.nb_model.specs.declared.reply.Reply.{Reply}
 use Rattle.nb_model.specs.Account.{Base}
 
@@ -119,7 +119,7 @@ module _ (s : Seen) (before : Cause) (table : List ℕ) (behind : Cause) (go : S
       by None (Some q) o f h = cc
       by None None None f h = cc
       by None None (Some x) f h =
-          unless_allowed s _ (go x (chain_at x)) (sym (one_cause (chain_cause image behind (Some x))) ∙ f) ∙ ap (λ (y : Spot). go y (chain_at y)) (same_some x spot h)
+          unless_allowed s _ (go x (chain_at x)) (sym (one_cause (chain_cause image behind (Some x))) ∙ f) ∙ ap (λ (y : Spot). go y (chain_at y)) (some_same x spot h)
 
   pub table_goes_from : rows_cause image before table behind ≡ None → (spot : Spot) → table_spot table image ≡ Some spot → (first : ℕ) → first ≡ first_in spot.bytes → in_table s before table behind go ≡ go spot (RowsFrom first)
   table_goes_from none spot at first e = table_goes none spot at ∙ ap (λ (n : ℕ). go spot (RowsFrom n)) (sym e)

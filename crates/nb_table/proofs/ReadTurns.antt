@@ -1,6 +1,6 @@
 -- The turns that read rows, by what is found on the way.
 use Rattle.std.proofs.Common.{◌≡◌, ℕ, List, [], ◌∷◌, refl, ap, ◌∙◌, Option, Some, None}
-use Rattle.nb_table.proofs.Common.{Refusal, NoTable, NoKey, Refused, Value, Image, Cause, first_cause, broken_at, Chain, Catalogue, RowsFrom, Spot, pages_of, spots, table_spot, row_spot, first_in, text_in, Seen, Outcome, says, unless, rows_in, with_spot, in_table, get_turn, scan_turn, unless_refused, unless_allowed, one_cause, first_next}
+use Rattle.nb_table.proofs.Common.{Refusal, NoTable, NoKey, Refused, Value, Image, Cause, first_cause, broken_at, Chain, Catalogue, RowsFrom, Spot, pages_of, spots, table_spot, row_spot, first_in, text_in, Seen, Outcome, says, unless, rows_in, with_spot, in_table, get_turn, scan_turn, unless_refused, unless_allowed, first_next, one_cause}
 use Rattle.nb_model.specs.declared.reply.Reply.TheVariants.{Rows}
 use Rattle.nb_table.proofs.FindLaws.{search_cause, search_whole}
 

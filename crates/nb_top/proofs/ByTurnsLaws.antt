@@ -1,6 +1,6 @@
 -- A run turn by turn, put together from the calls that it makes.
 use Rattle.std.proofs.Common.{◌≡◌, inl, inr, ℕ, List, [], ◌∷◌, ◌++◌, sym, ap, subst, ◌∙◌, Bool, true, false, not, Option, None, Some, Result, Ok, Err, IsErr}
-use Rattle.nb_top.proofs.Common.{World, LeavesAll, IsTimely, Refusal, FileExists, RunError, Only, Quiet, Plain, Account, with_entry, Cause, is_free_entry, not_free, generated, Given, output, Event, Now, Played, opening, play, rounds, files_made, Trail, OfFiles, Held, name_of, Plan, script_of, LeavesOthers, SaysLine, Plays, leaves_line, leaves_quiet, leaves_then, Status, Telling, Sparingly, EndsEarly, ReadByTurns, RunByTurns, ScriptByTurns, TakesTold, TurnsFrom, WrittenByTurns, EndsAs, pages_first, told_later, Request, ToRun, ToGenerate}
+use Rattle.nb_top.proofs.Common.{World, LeavesAll, IsTimely, Refusal, FileExists, RunError, Only, Quiet, Plain, Account, with_entry, Cause, is_free_entry, not_free, generated, Given, output, Event, Now, Played, opening, play, rounds, files_made, Trail, OfFiles, Held, name_of, Plan, script_of, LeavesOthers, SaysLine, Plays, leaves_line, leaves_quiet, leaves_then, Status, Telling, Sparingly, EndsEarly, ReadByTurns, RunByTurns, ScriptByTurns, TakesTold, TurnsFrom, WrittenByTurns, EndsAs, pages_first, told_later, Request, ToRun, ToGenerate, no_err}
 use Rattle.nb_model.specs.Run.{one_turn}
 use Rattle.nb_session.specs.ByTurns.{ByTurns, GoesByTurns}
 use Rattle.nb_session.specs.Todo.{PlaysInTurn}
@@ -10,10 +10,7 @@ use Rattle.nb_session.proofs.ByTurnsLaws.{goes_by}
 
 -- an error is an early end
 pub early_err : (result : Result Status RunError) → IsErr result → EndsEarly result
-early_err (Ok status) is = absurd (no_err is)
-  where
-    no_err : IsErr {T = Status} {E = RunError} (Ok status) → ⊥
-    no_err h = cc
+early_err (Ok status) is = absurd (no_err Status RunError status is)
 early_err (Err e) is = tt
 
 -- a value is no early end

@@ -6,7 +6,6 @@ pub use Rattle.nb_catalog.specs.NameLists.{is_next}
 pub use Rattle.nb_catalog.specs.Plans.{Retention}
 unfoldable pub use Rattle.nb_catalog.specs.Turns.{plan_turn, planned}
 pub use Rattle.nb_catalog.specs.Turns.{names_in, plan_reply}
-pub use Rattle.nb_chain.proofs.AnswerLaws.{passed}
 pub use Rattle.nb_change.proofs.ChangesLaws.{left_with, rested, weaker_has}
 pub use Rattle.nb_change.proofs.MomentLaws.{joined, left_before, untouched_fewer, weaker}
 pub use Rattle.nb_change.proofs.NameLaws.{decide, with_file-other, with_file-same}
@@ -29,7 +28,8 @@ pub use Rattle.nb_gather.specs.Making.{IsKept, IsUnfinished, IsUnfinishedOr}
 pub use Rattle.nb_gen.proofs.GeneratedScript.{creates_its_own, generated_text}
 pub use Rattle.nb_gen.proofs.WrittenLaws.{text_in_use, text_no_backup}
 pub use Rattle.nb_gen.specs.Texts.{IsScriptText, generated_first}
-pub use Rattle.nb_host.proofs.PlainLaws.{both_true, false_true, not_some, not_true, some_none, some_same, take_self}
+pub use Rattle.nb_host.proofs.FileLaws.{device_memory, passed}
+pub use Rattle.nb_host.proofs.PlainLaws.{both_true, err_not_ok, err_ok, false_true, no_err, none_and_some, none_some, not_some, not_true, ok_equal, ok_same, some_none, some_same, take_self}
 pub use Rattle.nb_host.specs.Causes.{CountsRun}
 pub use Rattle.nb_host.specs.Crash.{Leaves, LeavesAll, Untouched}
 unfoldable pub use Rattle.nb_host.specs.Files.{with_file}
@@ -65,7 +65,7 @@ pub use Rattle.nb_model.proofs.StatusLaws.{status_refused}
 pub use Rattle.nb_model.proofs.SteadyLaws.{WellAlong, along_front, along_last, kept_along, kept_append, kept_is}
 pub use Rattle.nb_model.proofs.StepsLaws.{acked_steps_most, acked_steps_none, after_no_step, after_steps_append, steps_append, steps_length, steps_one, steps_seen, turns_before}
 pub use Rattle.nb_model.proofs.TrailLaws.{settled_shows, shows_settled}
-pub use Rattle.nb_model.proofs.UsageCauses.{IsOther, other_database, other_first, other_when}
+pub use Rattle.nb_model.proofs.UsageCauses.{IsOther, none_other, other_database, other_first, other_when}
 unfoldable pub use Rattle.nb_model.specs.Account.{with_entry}
 pub use Rattle.nb_model.specs.Account.{Account, Base, Entry, IsBase, Kept, Missing, Plain, base_of}
 unfoldable pub use Rattle.nb_model.specs.Causes.{first_cause, is_free_entry, not_database}
@@ -123,6 +123,7 @@ pub use Rattle.nb_page.proofs.QuietLaws.{quiet_begun, quiet_joined}
 unfoldable pub use Rattle.nb_page.specs.Free.{has_delta, is_free_name}
 pub use Rattle.nb_page.specs.Quiet.{Quiet}
 pub use Rattle.nb_restore.proofs.KeptLaws.{chain_kept, restored_well}
+pub use Rattle.nb_restore.proofs.ParentLaws.{leads_on}
 pub use Rattle.nb_script.proofs.AskedLaws.{answer_is_askable}
 pub use Rattle.nb_script.specs.Asked.{IsAskable, IsFirst, IsFurther}
 pub use Rattle.nb_script.specs.Fits.{FitsFirst, IsFile}
@@ -137,6 +138,7 @@ pub use Rattle.nb_session.proofs.OthersLaws.{leaves_among, leaves_changes, leave
 pub use Rattle.nb_session.proofs.ReadyLaws.{free_same, own_entry}
 pub use Rattle.nb_session.proofs.SaysLaws.{says_other}
 pub use Rattle.nb_session.proofs.StopLaws.{AreApart}
+pub use Rattle.nb_session.proofs.ToldLaws.{status_unsaid}
 pub use Rattle.nb_session.specs.Acts.{AreKept, MadeLeft, Touched}
 pub use Rattle.nb_session.specs.MadeNames.{AnyAsks, AnySessionAsks, Asks, ScriptMakes}
 pub use Rattle.nb_session.specs.Others.{LeavesOthers, OthersLeft}

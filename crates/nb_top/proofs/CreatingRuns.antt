@@ -1,6 +1,6 @@
 -- A run whose first statement creates its database.
 use Rattle.std.proofs.Common.{◌≡◌, ◌≢◌, inl, inr, ⊎_elim, ℕ, List, [], ◌∷◌, ◌++◌, length, take, true, false, refl, sym, ap, subst, ◌∙◌, arith, Bool, None, Some, Result, Ok, Err, Contains, IfOk}
-use Rattle.nb_top.proofs.Common.{true≢false, append-nil, take-append-le, take_all, is_free_file, fresh, Files, is_delta, World, Leaves, AtEachMoment, Fault, Refused, Refusal, FileExists, Usage, RunError, ChangedLeft, Only, weaker, untouched_fewer, is_free_name, Quiet, Pages, Statement, CreateDb, Base, IsBase, base_of, Account, is_free_entry, IsMaking, Image, MadeFile, IsNoneOf, Given, delta_name, Event, IsRun, Opening, base_now, files_made, opening, rounds, Step, steps_in, steps_of, Trail, ShowsIn, StandsIn, settled, created, not_created, run_ends, no_main, acked_steps_none, steps_append, steps_length, steps_one, shows_settled, IsWell, OfFiles, Creates, CreateAnswers, Held, IsOpen, IsAskable, FitsFirst, Plan, MadeLeft, IsSaid, leaves_among, leaves_changes, cache_asked, KnowsNames, MayBeGiven, ReadsAsked, RunReads, RunsTo, HasSmallScn, first_event, opened_reply, pages_first, refused_at, seen_after, target_of, Telling, ToRun}
+use Rattle.nb_top.proofs.Common.{true≢false, append-nil, take-append-le, take_all, is_free_file, fresh, Files, is_delta, World, Leaves, AtEachMoment, Fault, Refused, Refusal, FileExists, RunError, ChangedLeft, Only, weaker, untouched_fewer, is_free_name, Quiet, Pages, Statement, CreateDb, Base, IsBase, base_of, Account, is_free_entry, IsMaking, Image, MadeFile, IsNoneOf, Given, delta_name, Event, IsRun, Opening, base_now, files_made, opening, rounds, Step, steps_in, steps_of, Trail, ShowsIn, StandsIn, settled, created, not_created, run_ends, no_main, acked_steps_none, steps_append, steps_length, steps_one, shows_settled, IsWell, OfFiles, Creates, CreateAnswers, Held, IsOpen, IsAskable, FitsFirst, Plan, MadeLeft, IsSaid, leaves_among, leaves_changes, cache_asked, KnowsNames, MayBeGiven, ReadsAsked, RunReads, RunsTo, HasSmallScn, first_event, opened_reply, pages_first, refused_at, seen_after, target_of, Telling, ToRun}
 use Rattle.nb_model.specs.declared.reply.Reply.TheVariants.{Refused as RefusedReply}
 use Rattle.nb_model.proofs.FreshImageLaws.{fresh_length}
 use Rattle.nb_model.proofs.WellLaws.{fresh_well_base}
@@ -16,6 +16,7 @@ use Rattle.nb_top.proofs.BegunRuns.{later as later_told}
 use Rattle.nb_top.proofs.ByTurnsLaws.{OpensBeside, beside_none, beside_now}
 use Rattle.nb_top.proofs.Beginnings.{Beginning, FirstRefused, FirstDone}
 use Rattle.nb_top.proofs.ToldLaws.{Ran, later_files, told_first_made, told_first_steps, performed_refused}
+use Rattle.nb_top.proofs.ChainRefusals.{exists_usage}
 
 module _ (old : World) (account : Account) (given : Given) (plan : Plan) (telling : Telling) (askable : IsAskable plan) (name : List ℕ) (size raw cache : ℕ) (first_is : plan.first ≡ CreateDb name size raw cache)
     (names : KnowsNames old.files account) where
@@ -222,11 +223,8 @@ module _ (old : World) (account : Account) (given : Given) (plan : Plan) (tellin
               quiet = creates.taken answer.0;
               ran = subst (λ (r : Refusal). Ran account given plan (refused_at plan.first_session r) account given) (sym answer.1) (taken_ran (sym knows ∙ answer.0));
               ends = taken_ends (sym knows ∙ answer.0);
-              not_usage = λ e. exists_usage (sym answer.1 ∙ e);
+              not_usage = λ e. exists_usage name (sym answer.1 ∙ e);
             }
-          where
-            exists_usage : FileExists name ≡ Usage → ⊥
-            exists_usage e = cc
 
         done : (held : Held) → result ≡ Ok held → FirstDone old mid account given plan telling askable held
         done held is =

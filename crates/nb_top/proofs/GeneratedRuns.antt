@@ -1,6 +1,6 @@
 -- A run whose script is written first: what a crash leaves of both, and what stands at the end.
 use Rattle.std.proofs.Common.{◌≡◌, ◌≢◌, ◌⊎◌, ⊎_elim, inl, inr, ℕ, zero, suc, ◌≤◌, List, [], ◌∷◌, ◌++◌, length, take, true, false, true≢false, refl, sym, ap, subst, ◌∙◌, arith, Bool, not, Option, Some, None, is_some, Result, Ok, Err, IfOk, OnOk, Contains}
-use Rattle.nb_top.proofs.Common.{append-nil, is_free_file, File, Files, with_file, is_delta, World, Leaves, LeavesAll, IsTimely, AtEachMoment, Refusal, FileExists, Usage, RunError, Changes, ChangedLeft, Only, Remade, GaveNothing, left_with, joined, left_before, weaker, decide, with_file-same, is_free_name, Quiet, Plain, Entry, Account, is_free_entry, not_free, generated, line_text, MadeFile, IsNoneOf, Given, output, status_after, status_of, delta_name, guids_in, Event, files_made, replies_of, strokes_of, Step, made, steps_of, after_steps, acked_steps, acked_turns, Stroke, base_in, Trail, StandsIn, settled, output-quiet, entry_same, entry_other, no_main, acked_steps_none, status_refused, IsKept, IsUnfinishedOr, Plan, script_of, SaysLine, creates_its_own, generated_text, text_in_use, Status, Sparingly, number_of, EndsIn, Finished, ReadsAsked, RunReads, HasSmallScn, IsEnded, IsPerformed, IsReadRun, IsUnasked, Knows, KnowsNames, KnowsOpened, MayBeGiven, RunLeft, RunsTo, StandsAsked, Target, begins_refused, refused_at, script_made, seen_after, target_named, target_of, Request, ToGenerate, ToRun, free_same}
+use Rattle.nb_top.proofs.Common.{append-nil, is_free_file, File, Files, with_file, is_delta, World, Leaves, LeavesAll, IsTimely, AtEachMoment, Refusal, FileExists, RunError, Changes, ChangedLeft, Only, Remade, GaveNothing, left_with, joined, left_before, weaker, decide, with_file-same, is_free_name, Quiet, Plain, Entry, Account, is_free_entry, not_free, generated, line_text, MadeFile, IsNoneOf, Given, output, status_after, status_of, delta_name, guids_in, Event, files_made, replies_of, strokes_of, Step, made, steps_of, after_steps, acked_steps, acked_turns, Stroke, base_in, Trail, StandsIn, settled, output-quiet, entry_same, entry_other, no_main, acked_steps_none, status_refused, IsKept, IsUnfinishedOr, Plan, script_of, SaysLine, creates_its_own, generated_text, text_in_use, Status, Sparingly, number_of, EndsIn, Finished, ReadsAsked, RunReads, HasSmallScn, IsEnded, IsPerformed, IsReadRun, IsUnasked, Knows, KnowsNames, KnowsOpened, MayBeGiven, RunLeft, RunsTo, StandsAsked, Target, begins_refused, refused_at, script_made, seen_after, target_named, target_of, Request, ToGenerate, ToRun, free_same}
 use Rattle.nb_change.proofs.SettledLaws.{durable_is}
 use Rattle.nb_page.proofs.FreeLaws.{is_free_name-false}
 use Rattle.nb_model.specs.declared.reply.Reply.TheVariants.{Refused}
@@ -10,6 +10,7 @@ use Rattle.nb_top.proofs.MadeRuns.{first_or, none_yet}
 use Rattle.nb_top.proofs.QuietRuns.{given_from, left_quietly, runs_quietly}
 use Rattle.nb_top.proofs.ReadsLaws.{reads_quiet}
 use Rattle.nb_top.proofs.RefusedRuns.{refused_runs}
+use Rattle.nb_top.proofs.ChainRefusals.{exists_usage}
 
 -- the file, and what a run does after it
 module _ (name bytes : List ℕ) (es : List Event) where
@@ -267,11 +268,8 @@ module _ (old : World) (number : ℕ) (name : List ℕ) (account : Account) (giv
       finished = tt;
     }
 
-    exists_usage : FileExists name ≡ Usage → ⊥
-    exists_usage e = cc
-
     taken_number : (result : Result Status RunError) → IfOk result (λ status. status ≡ RefusedStatus) → IfOk result (λ status. number_of status ≡ status_after (Refused (FileExists name)))
-    taken_number (Ok status) ended = ap number_of ended ∙ sym (status_refused (FileExists name) exists_usage)
+    taken_number (Ok status) ended = ap number_of ended ∙ sym (status_refused (FileExists name) (exists_usage name))
     taken_number (Err e) ended = tt
 
     pub taken_refused : {S E : Type 0} (told : Result S E) (result : Result Status RunError) (mid new : World) → Quiet old mid → SaysLine told mid new (line_text 1 (Refused (FileExists name))) → IfOk result (λ status. status ≡ RefusedStatus)

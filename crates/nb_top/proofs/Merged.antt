@@ -1,6 +1,6 @@
 -- The job of a merge in place: its call serves it, and it keeps what stands.
 use Rattle.std.proofs.Common.{true≢false, ◌≡◌, ◌≢◌, ◌⊎◌, inl, inr, ℕ, List, [], ◌∷◌, true, false, refl, sym, ap, subst, ◌∙◌, Some, None, Result, Ok, Err}
-use Rattle.nb_top.proofs.Common.{append-nil, is_free_file, File, Files, is_delta, World, Leaves, LeavesAll, Fault, Refused, Device, Memory, Refusal, Unfinished, Only, weaker_has, Quiet, Pages, Base, base_of, Entry, Plain, IsBase, Account, with_entry, Image, image_in, in_place, apply_turn, account_behind, Contents, HoldsMain, delta_name, entry_of_files, owner_in, Event, account_after, with_made, as_standby, merge, merged, on_base, base_after, base_in, records_after, records_of, ShowsIn, IsWellBaseIn, owner-formed, owner_main, with_kept, owner_applying, opened_entry, IsMergeable, OneTurn, TakesKept, leaves_all, merging, ServedAs, Serves, HoldsKept, StandsFor}
+use Rattle.nb_top.proofs.Common.{append-nil, is_free_file, File, Files, is_delta, World, Leaves, LeavesAll, Fault, Refused, Device, Memory, Unfinished, Only, weaker_has, Quiet, Pages, Base, base_of, Entry, Plain, IsBase, Account, with_entry, Image, image_in, in_place, apply_turn, account_behind, Contents, HoldsMain, delta_name, entry_of_files, owner_in, Event, account_after, with_made, as_standby, merge, merged, on_base, base_after, base_in, records_after, records_of, ShowsIn, IsWellBaseIn, owner-formed, owner_main, with_kept, owner_applying, opened_entry, IsMergeable, OneTurn, TakesKept, leaves_all, merging, ServedAs, Serves, HoldsKept, StandsFor, ok_same, some_same}
 use Rattle.nb_inplace.specs.Apply.{Applies, ApplyAnswers, ApplyLeft, base_with}
 use Rattle.nb_inplace.specs.Kept.{MergesBackup}
 use Rattle.nb_inplace.proofs.ClosedLaws.{closed_entry, half_in_use}
@@ -85,13 +85,7 @@ module _ (old : World) (account : Account) (db name : List ℕ) (stands : Stands
     level : c ≡ d
 
   same_merge : (bytes other : List ℕ) (c d : Contents) → IsMergeable old.files db name bytes c → IsMergeable old.files db name other d → IsSame bytes other c d
-  same_merge bytes other c d m n = record { standby = some_same bytes other (old.files db) m.there n.there; level = ok_same c d (in_place old.files db name) m.accepted n.accepted }
-    where
-      some_same : (a b : List ℕ) (file : File) → file ≡ Some a → file ≡ Some b → a ≡ b
-      some_same a b file e f = cc
-
-      ok_same : (a b : Contents) (answer : Result Contents Refusal) → answer ≡ Ok a → answer ≡ Ok b → a ≡ b
-      ok_same a b answer e f = cc
+  same_merge bytes other c d m n = record { standby = some_same bytes other (sym m.there ∙ n.there); level = ok_same c d (in_place old.files db name) m.accepted n.accepted }
 
   -- the image of what was merged
   shown : (bytes : List ℕ) (c : Contents) (m : IsMergeable old.files db name bytes c) (files : Files) → sound_job.done files → ShowsIn db (base_of (as_standby (takes bytes c m).backup.image)) files

@@ -1,6 +1,6 @@
 -- The first reply of a run is said, if it says one, and then turns are taken.
 use Rattle.std.proofs.Common.{◌≡◌, ℕ, List, [], ◌∷◌, ◌++◌, Bool, false, length, take, refl, sym, ap, subst, ◌∙◌, arith, None, Result, Ok, Err, IfOk}
-use Rattle.nb_top.proofs.Common.{IsErr, take_all, Files, World, RunError, weaker, untouched_fewer, is_free_name, Base, IsMaking, MadeFile, NamesOnce, output, status_of, guids_in, Event, Now, Played, base_now, begun, replies_of, files_made, rounds, strokes_of, after_steps, steps_in, steps_of, acked_turns, Trail, StandsIn, settled, made_once, steps_one, acked_steps_most, Held, name_of, IsAskable, Plan, IsReady, FrontSaid, SaysLine, StopLeft, PlayedOut, Plays, given_nothing, AreApart, Telling, PlaysOpened, PlaysTold, played_behind, told_turns, take_self}
+use Rattle.nb_top.proofs.Common.{IsErr, take_all, Files, World, RunError, weaker, untouched_fewer, is_free_name, Base, IsMaking, MadeFile, NamesOnce, output, status_of, guids_in, Event, Now, Played, base_now, begun, replies_of, files_made, rounds, strokes_of, after_steps, steps_in, steps_of, acked_turns, Trail, StandsIn, settled, made_once, steps_one, acked_steps_most, Held, name_of, IsAskable, Plan, IsReady, FrontSaid, SaysLine, StopLeft, PlayedOut, Plays, given_nothing, AreApart, Telling, PlaysOpened, PlaysTold, played_behind, told_turns, take_self, no_err}
 use Rattle.nb_host.specs.Calls.{IsStill}
 use Rattle.nb_state.proofs.MakesLaws.{still_open}
 use Rattle.nb_session.proofs.PlayLaws.{plays_then, plays_failed, plays_cut, plays_wider}
@@ -11,10 +11,7 @@ use Rattle.nb_top.proofs.MadeRuns.{no_file, none_front, none_made}
 
 -- a result that is a failure
 pub opened_err : (result : Result Bool RunError) (P : Result Bool RunError → Type 0) → IsErr result → ((e : RunError) → P (Err e)) → P result
-opened_err (Ok x) P is plays = absurd (no_err is)
-  where
-    no_err : IsErr {T = Bool} {E = RunError} (Ok x) → ⊥
-    no_err h = cc
+opened_err (Ok x) P is plays = absurd (no_err Bool RunError x is)
 opened_err (Err e) P is plays = plays e
 
 -- what stands ready stays so while something is said

@@ -1,16 +1,13 @@
 -- A script is run, from its first statement on.
 use Rattle.std.proofs.Common.{◌≡◌, ℕ, ◌<◌, List, refl, subst, Result, Ok, Err, IfOk, IfErr}
-use Rattle.nb_top.proofs.Common.{IsErr, fresh, World, Fault, Refusal, RunError, GaveNothing, Quiet, Statement, CreateDb, OpenDb, Account, Given, Attaches, Creates, Held, IsFirst, IsAskable, Plan, Status, cache_asked, RunsTo, Knows, KnowsOpened, MayBeGiven, Telling, ToRun, quiet_gave, false_true}
+use Rattle.nb_top.proofs.Common.{IsErr, fresh, World, Fault, Refusal, RunError, GaveNothing, Quiet, Statement, CreateDb, OpenDb, Account, Given, Attaches, Creates, Held, IsFirst, IsAskable, Plan, Status, cache_asked, RunsTo, Knows, KnowsOpened, MayBeGiven, Telling, ToRun, quiet_gave, false_true, no_err}
 use Rattle.nb_top.proofs.Beginnings.{Beginning}
 use Rattle.nb_top.proofs.CreatingRuns.{creates_begins, creating_unbegun}
 use Rattle.nb_top.proofs.ReopeningRuns.{attaches_begins, open_fails}
 
 -- a result that is a failure
 pub runs_err : (result : Result Status RunError) → IsErr result → (P : Result Status RunError → Type 0) → ((e : RunError) → P (Err e)) → P result
-runs_err (Ok x) is P runs = absurd (no_err is)
-  where
-    no_err : IsErr {T = Status} {E = RunError} (Ok x) → ⊥
-    no_err h = cc
+runs_err (Ok x) is P runs = absurd (no_err Status RunError x is)
 runs_err (Err e) is P runs = runs e
 
 -- what was settled

@@ -1,6 +1,6 @@
 -- Where the files stand for the account as a run begins, and the GUIDs that it takes are new, they stand for one at each moment.
 use Rattle.std.proofs.Common.{◌≡◌, ℕ, zero, suc, ◌<◌, ◌≤◌, List, [], ◌∷◌, ◌++◌, length, take, true, false, refl, sym, ap, subst, ◌∙◌, arith, Bool, Result, Ok, Err, Option, Some, None, Contains}
-use Rattle.nb_top.proofs.Common.{fresh, Files, is_delta, World, Leaves, IsTimely, AtEachMoment, Refusal, FileExists, Reply, Statement, CreateDb, OpenDb, Base, base_of, IsBase, Account, is_free_entry, Image, image_scn, MadeFile, IsNoneOf, Given, delta_name, owner, not_opened, Event, Opening, IsRun, IsRest, opening, refused_opening, files_made, Step, makes, settles, after_step, after_steps, made, steps_of, strokes_in, make, base_in, on_base, records_of, records_after, Trail, StandsIn, settled, settles_at, after_stroke, IsGrown, opened_trail, IsCreated, created, not_created, IsReopened, reopened, not_reopened, base_in_base, settled_shows, IsAskable, FitsFirst, Plan, Status, RunLeft, RunReads, Finished, HasSmallScn, IsScriptRun, IsSure, MayBeGiven, Target, begins_refused, kept_after, pages_first, seen_after, target_named, target_of, HoldsKept, StandsFor, Telling, Request, ToRun, false_true, after_no_step}
+use Rattle.nb_top.proofs.Common.{fresh, Files, is_delta, World, Leaves, IsTimely, AtEachMoment, Refusal, FileExists, Reply, Statement, CreateDb, OpenDb, Base, base_of, IsBase, Account, is_free_entry, Image, image_scn, MadeFile, IsNoneOf, Given, delta_name, owner, not_opened, Event, Opening, IsRun, IsRest, opening, refused_opening, files_made, Step, makes, settles, after_step, after_steps, made, steps_of, strokes_in, make, base_in, on_base, records_of, records_after, Trail, StandsIn, settled, settles_at, after_stroke, IsGrown, opened_trail, IsCreated, created, not_created, IsReopened, reopened, not_reopened, base_in_base, settled_shows, IsAskable, FitsFirst, Plan, Status, RunLeft, RunReads, Finished, HasSmallScn, IsScriptRun, IsSure, MayBeGiven, Target, begins_refused, kept_after, pages_first, seen_after, target_named, target_of, HoldsKept, StandsFor, Telling, Request, ToRun, false_true, after_no_step, none_some, some_none, some_same}
 use Rattle.nb_model.specs.declared.reply.Reply.TheVariants.{Refused}
 use Rattle.nb_model.proofs.UnseenLaws.{unseen}
 use Rattle.nb_model.proofs.WellTrailLaws.{fresh_trail}
@@ -171,15 +171,12 @@ module _ (old : World) (account : Account) (given : Given) (plan : Plan) (askabl
       Runs : Statement → Type 0
       Runs first = IsRun account given plan.first_session first plan.schedule plan.sessions events last left
 
-      same : (a c : Target) → Some a ≡ Some c → a ≡ c
-      same a c e = cc
-
       by : Opens plan.first → IsSureRun account target events last
       by (creates name size raw cache is) =
-          subst (λ (d : Target). IsSureRun account d events last) (same (record { name = name; creates = true }) target (ap target_named (sym is) ∙ named))
+          subst (λ (d : Target). IsSureRun account d events last) (some_same {X = Target} (record { name = name; creates = true }) target (ap target_named (sym is) ∙ named))
           (creating_sure account given plan askable events last left sixteen not_refused name size raw cache is (subst Runs is runs))
       by (opens name cache is) =
-          let its : record { name = name; creates = false } ≡ target = same (record { name = name; creates = false }) target (ap target_named (sym is) ∙ named) in
+          let its : record { name = name; creates = false } ≡ target = some_same {X = Target} (record { name = name; creates = false }) target (ap target_named (sym is) ∙ named) in
           subst (λ (d : Target). IsSureRun account d events last) its (opening_sure name cache is (subst Runs is runs) (subst (λ (d : Target). HasSmallScn account (Some d)) (sym its) small refl))
 
 -- A run whose first statement is refused leaves the account, and makes no file.
@@ -253,9 +250,6 @@ module _ (old : World) (plan : Plan) (telling : Telling) (askable : IsAskable pl
   abbrev asked : Result Request Refusal
   asked = Ok (ToRun plan telling)
 
-  none_some : (target : Target) → None ≡ Some target → ⊥
-  none_some target h = cc
-
   whole_steps : steps_of performed.whole ≡ steps_of events
   whole_steps = sym (ap steps_of performed.said ∙ told_steps telling (pages_first account plan.first) performed.whole)
 
@@ -277,16 +271,13 @@ module _ (old : World) (plan : Plan) (telling : Telling) (askable : IsAskable pl
   refused_run : target_of asked events ≡ None → (files_made events ≡ []) × (last ≡ account)
   refused_run is = by (begins_refused events) refl is
     where
-      some_none : (target : Target) → Some target ≡ None → ⊥
-      some_none target h = cc
-
       by : (t : Bool) → begins_refused events ≡ t → elim t as (λ z. Option Target) [ true ↦ None | false ↦ target_named plan.first ] ≡ None → (files_made events ≡ []) × (last ≡ account)
       by true refused h =
           let leaves = refused_leaves old account given plan askable performed.whole last left sure.stands (whole_begins ∙ refused) performed.run in
           (sym whole_files ∙ leaves.0, leaves.1)
       by false allowed h = elim (first_opens plan.first askable.first) [
-        | creates name size raw cache first ↦ absurd (some_none (record { name = name; creates = true }) (sym (ap target_named first) ∙ h))
-        | opens name cache first ↦ absurd (some_none (record { name = name; creates = false }) (sym (ap target_named first) ∙ h))
+        | creates name size raw cache first ↦ absurd (some_none {X = Target} (record { name = name; creates = true }) (sym (ap target_named first) ∙ h))
+        | opens name cache first ↦ absurd (some_none {X = Target} (record { name = name; creates = false }) (sym (ap target_named first) ∙ h))
       ]
 
   none_made : target_of asked events ≡ None → (m : List ℕ) → IsNoneOf (files_made events) m

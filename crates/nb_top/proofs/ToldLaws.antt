@@ -1,6 +1,6 @@
 -- What is told of a run: the same events, a quiet one with no reply of the first but a refusal, and with the number of pages where a begin tells it.
 use Rattle.std.proofs.Common.{◌≡◌, ℕ, List, [], ◌∷◌, false, refl, sym, ap, ◌∙◌, Bool, Option, Some, None, if◌then◌else◌}
-use Rattle.nb_top.proofs.Common.{normal_state, Refusal, Reply, PagesShown, Statement, OpenDb, Account, last_or_refusal, said_by_generated, all_sized, quiet, refusal_in, sized, line_text, Given, output, status_of, status_after, Event, IsRun, files_made, replies_of, steps_in, steps_of, Stroke, output_one, status_one, output-quiet, output_no_event, Plan, is_refusal, Telling, All, Quietly, WithSize, Sparingly, IsScriptRun, begins_refused, first_event, is_all, opened_reply, pages_first, refused_at, told, told_first, told_later}
+use Rattle.nb_top.proofs.Common.{normal_state, Refusal, Reply, PagesShown, Statement, OpenDb, Account, last_or_refusal, said_by_generated, all_sized, quiet, refusal_in, sized, line_text, Given, output, status_of, status_after, Event, IsRun, files_made, replies_of, steps_in, steps_of, Stroke, output_one, status_one, output-quiet, output_no_event, Plan, is_refusal, Telling, All, Quietly, WithSize, Sparingly, IsScriptRun, begins_refused, first_event, is_all, opened_reply, pages_first, refused_at, told, told_first, told_later, status_unsaid}
 use Rattle.nb_model.specs.declared.reply.Reply.TheVariants.{Refused}
 use Rattle.nb_session.specs.declared.told.Told.TheVariants.{Sparingly as SparinglyTold}
 use Rattle.nb_session.proofs.ToldLaws.{told_steps as later_steps, told_files as files_as, sized_files, sized_steps}
@@ -127,18 +127,6 @@ unshown : (first : Statement) (pages state : ℕ) → last_or_refusal (Some (ope
 unshown (OpenDb name cache) pages state = refl
 unshown other pages state = refl
 
-none_status : (session : ℕ) (reply : Option Reply) → reply ≡ None → status_of (elim reply as (λ z. List (ℕ × Reply)) [ Some r ↦ (session, r) ∷ [] | None ↦ [] ]) ≡ 0
-unfolding status_of
-none_status session None is = refl
-none_status session (Some r) is = absurd (some_none is)
-  where
-    some_none : Some r ≡ None → ⊥
-    some_none h = cc
-
-quiet_status : (e : Event) → e.reply ≡ None → status_of (replies_of (e ∷ [])) ≡ 0
-unfolding replies_of
-quiet_status e none = none_status e.session e.reply none
-
 -- the line of a first reply, where it is told
 module _ (session : ℕ) (strokes : List Stroke) (first : Statement) (pages state : ℕ) where
   abbrev reply : Reply
@@ -152,6 +140,6 @@ module _ (session : ℕ) (strokes : List Stroke) (first : Statement) (pages stat
 
   pub told_status : (telling : Telling) → status_of (replies_of (told_first telling (first_event session strokes reply) ∷ [])) ≡ 0
   told_status All = status_one (first_event session strokes reply) reply refl ∙ opened_fine first pages state
-  told_status Quietly = quiet_status (told_first Quietly (first_event session strokes reply)) (untold first pages state)
-  told_status WithSize = quiet_status (told_first WithSize (first_event session strokes reply)) (untold first pages state)
-  told_status Sparingly = quiet_status (told_first Sparingly (first_event session strokes reply)) (unshown first pages state)
+  told_status Quietly = status_unsaid (told_first Quietly (first_event session strokes reply)) (untold first pages state)
+  told_status WithSize = status_unsaid (told_first WithSize (first_event session strokes reply)) (untold first pages state)
+  told_status Sparingly = status_unsaid (told_first Sparingly (first_event session strokes reply)) (unshown first pages state)

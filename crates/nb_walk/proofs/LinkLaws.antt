@@ -1,6 +1,6 @@
 -- Whether a page is one of a chain, by the tests of it in their order.
 use Rattle.std.proofs.Common.{◌≡◌, ℕ, length, refl, ap, ◌∙◌, Bool, true, false, not, ◌&&◌, ◌==◌, nat_lt, Some, None}
-use Rattle.nb_walk.proofs.Common.{list_all, data_kind, Refusal, NotDatabase, Page, Image, page_at, when, Chain, owner_of, is_slot, slots_in, is_in_chain, owner_in, and_no_right, is_data, not_data, not_linked, is_so}
+use Rattle.nb_walk.proofs.Common.{list_all, data_kind, Refusal, NotDatabase, Page, Image, page_at, when, Chain, owner_of, is_slot, slots_in, is_in_chain, owner_in, is_data, not_data, not_linked, is_so, and_right}
 use Rattle.nb_fields.specs.Page.{kind_of}
 use Rattle.nb_model.specs.Forms.{is_kind}
 use Rattle.nb_alloc.proofs.DataLaws.{by_kind}
@@ -30,7 +30,7 @@ module _ (chain : Chain) (image : Image) (p : ℕ) where
 
   -- a slot is of no form
   pub slots_not : all ≡ false → not_linked chain image p ≡ Some (NotDatabase p)
-  slots_not bad = by_tests ∙ ap (λ (t : Bool). when (not t) (NotDatabase p)) (and_no_right is_its all bad)
+  slots_not bad = by_tests ∙ ap (λ (t : Bool). when (not t) (NotDatabase p)) (and_right is_its all bad)
 
   -- it is one
   pub linked_yes : not_data image (owner_of chain) p ≡ None → all ≡ true → not_linked chain image p ≡ None

@@ -12,6 +12,7 @@ pub use Rattle.clap.specs.Words.{App, HasMatchesOf, Kinds, Row, Rule, Text, app_
 pub use Rattle.clap.specs.declared.error.Error.{Error}
 pub use Rattle.clap.specs.declared.parser.matches.ArgMatches.{ArgMatches}
 pub use Rattle.clap.specs.declared.parser.matches.ValueSource.TheVariants.{CommandLine, DefaultValue}
+pub use Rattle.nb_host.proofs.PlainLaws.{some_same}
 pub use Rattle.nb_host.specs.Names.{same_name}
 unfoldable pub use Rattle.nb_model.specs.Words.{job_of, job_of_flags, job_read, number_in_word, read_words}
 pub use Rattle.nb_model.specs.Words.{Read, Word, apply_job, are_flags, ask_job, asks_one, backup_job, fixup_job, fold_job, is_database, is_file, is_flag, is_flags, job_if, named_job, plain_job, restore_job, with_flags, with_word}

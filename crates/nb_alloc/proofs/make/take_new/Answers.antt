@@ -1,5 +1,5 @@
 use Rattle.std.proofs.Common.{◌+◌, ◌≤◌, ℕ, List, length, subst, arith, None, Ok}
-use Rattle.nb_alloc.proofs.Common.{code_of, image_size, Base, Stroke, Draft, drafted, put, on_ok, after_strokes, entry_cause, IsMap, page_strokes, content, SizeFacts, size_facts, plain_unkept}
+use Rattle.nb_alloc.proofs.Common.{code_of, image_size, Base, Stroke, Draft, drafted, put, after_strokes, entry_cause, IsMap, page_strokes, content, SizeFacts, size_facts, plain_unkept, on_ok}
 use Rattle.nb_alloc.proofs.PageLaws.{seen_after}
 use Rattle.nb_alloc.proofs.ReadyLaws.{entry_ready, mark_put, page_strokes_are}
 use Rattle.nb_alloc.proofs.ContentLaws.{content_short}

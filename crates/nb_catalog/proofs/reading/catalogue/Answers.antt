@@ -1,5 +1,5 @@
 use Rattle.std.proofs.Common.{ℕ, ◌+◌, List, [], ◌∷◌, length, ap, subst, ◌∙◌, length-append, arith, Ok, Err}
-use Rattle.nb_catalog.proofs.Common.{File, Files, LevelHead, passed, Says, read_file, read_files, all_reads, reads_of}
+use Rattle.nb_catalog.proofs.Common.{File, Files, LevelHead, Says, read_file, read_files, all_reads, reads_of, passed}
 use Rattle.nb_page.proofs.QuietLaws.{quiet_joined}
 use Rattle.nb_catalog.proofs.ChainLaws.{points_chained}
 use Rattle.nb_catalog.proofs.FileLaws.{reads_more, reads_all, read_more, read_fault, read_all}

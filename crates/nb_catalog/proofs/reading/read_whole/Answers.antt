@@ -1,5 +1,5 @@
 use Rattle.std.proofs.Common.{ℕ, List}
-use Rattle.nb_catalog.proofs.Common.{File, LevelHead, passed, Says, read_file}
+use Rattle.nb_catalog.proofs.Common.{File, LevelHead, Says, read_file, passed}
 use Rattle.nb_catalog.proofs.HeadLaws.{whole_fault, whole_read}
 use Rattle.nb_catalog.proofs.reading.read_whole.Goals as goal
 

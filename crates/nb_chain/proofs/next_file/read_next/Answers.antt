@@ -1,7 +1,7 @@
 use Rattle.std.proofs.Common.{ℕ, List, take, ap, ◌∙◌, sym, subst, arith, Err}
-use Rattle.nb_chain.proofs.Common.{Fault, File, Files, Tip, LevelSays, IsRead, NextSays}
+use Rattle.nb_chain.proofs.Common.{Fault, File, Files, Tip, LevelSays, IsRead, NextSays, passed}
 use Rattle.nb_chain.proofs.StartLaws.{first_begins, first_number}
-use Rattle.nb_chain.proofs.AnswerLaws.{passed, next_unmarked, next_unread_there, next_apart, next_is}
+use Rattle.nb_chain.proofs.AnswerLaws.{next_unmarked, next_unread_there, next_apart, next_is}
 use Rattle.nb_chain.proofs.next_file.read_next.Goals as goal
 
 pub returns-then-not-begins_level-clause-answer : goal.returns-then-not-begins_level-clause-answer

@@ -1,6 +1,6 @@
 use Rattle.std.proofs.Common.{◌≡◌, inl, inr, ℕ, ◌+◌, ◌-◌, length, refl, sym, ap, subst, ◌∙◌, arith, IsTrue}
-use Rattle.nb_check.proofs.Common.{is_page_size, quiet_begun, quiet_joined, page_at, Held, IsFirstBelow, HoldsTaken, AreSized, IsMapOf, HasEntryOf}
-use Rattle.nb_check.proofs.PassLaws.{below_more, page_read}
+use Rattle.nb_check.proofs.Common.{is_page_size, quiet_begun, quiet_joined, page_at, Held, IsFirstBelow, HoldsTaken, AreSized, IsMapOf, HasEntryOf, first_twice}
+use Rattle.nb_check.proofs.PassLaws.{below_more}
 use Rattle.nb_check.proofs.pass.pass_pages.Goals as goal
 
 pub loop-number-preserved : goal.loop-number-preserved
@@ -26,7 +26,7 @@ loop-number-preserved g c =
       sized = omega (arith, c.pass_page.auto.page, loop.sized);
       map_sized = omega (arith, c.pass_page.auto.map, loop.map_sized);
       entries_sized = omega (arith, c.pass_page.auto.entries, loop.entries_sized);
-      once = λ tells. page_read _ _ _ n (passed.once tells) (passed.twice tells) (loop.once tells);
+      once = λ tells. first_twice _ _ _ n (passed.once tells) (passed.twice tells) (loop.once tells);
       cause = passed.cause ∙ loop.cause;
     }
 
@@ -75,7 +75,7 @@ returns-in_err-pass_page-clause-open g c t tells is = c.in_err-pass_page.ensures
 pub returns-in_err-pass_page-clause-once : goal.returns-in_err-pass_page-clause-once
 returns-in_err-pass_page-clause-once g c tells =
     let passed = c.in_err-pass_page.ensures in
-    let one = page_read _ _ _ c.loop-number.number (passed.once tells) (passed.twice tells) (c.loop-number.invariant.once tells) in
+    let one = first_twice _ _ _ c.loop-number.number (passed.once tells) (passed.twice tells) (c.loop-number.invariant.once tells) in
     omega (arith, one, c.loop-number-test.true, c.count-count.ensures.value)
 
 pub returns-clause-broken : goal.returns-clause-broken

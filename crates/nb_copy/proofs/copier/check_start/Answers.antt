@@ -1,5 +1,5 @@
 use Rattle.std.proofs.Common.{[], ◌∷◌, subst}
-use Rattle.nb_copy.proofs.Common.{LevelHead, Cause, first_cause, Tested, open_quiet, tested_on, earlier_cause, file_cause, on_ok, first_here}
+use Rattle.nb_copy.proofs.Common.{LevelHead, Cause, first_cause, Tested, open_quiet, tested_on, earlier_cause, file_cause, first_here, on_ok}
 use Rattle.nb_copy.proofs.StartCauses.{after_none}
 use Rattle.nb_copy.proofs.copier.check_start.Goals as goal
 

@@ -1,5 +1,5 @@
 use Rattle.std.proofs.Common.{◌≡◌, ℕ, ◌+◌, ◌*◌, ◌<◌, List, length, replicate, sym, ap, ◌∙◌, subst, IsTrue}
-use Rattle.nb_delta.proofs.Common.{length-replicate, Files, is_page_size, slots_in, Only, Changes, Moved, kept_on, on_ok, Stays, Empties}
+use Rattle.nb_delta.proofs.Common.{length-replicate, Files, is_page_size, slots_in, Only, Changes, Moved, kept_on, Stays, Empties, on_ok}
 use Rattle.nb_delta.proofs.waiting.make_ready.Goals as goal
 
 pub empty_groups-requires-clause-size : goal.empty_groups-requires-clause-size

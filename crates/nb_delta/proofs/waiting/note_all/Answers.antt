@@ -1,5 +1,5 @@
 use Rattle.std.proofs.Common.{length, sym, subst}
-use Rattle.nb_delta.proofs.Common.{Files, Only, Moved, kept_on, on_ok, NotesSome, NotesAll}
+use Rattle.nb_delta.proofs.Common.{Files, Only, Moved, kept_on, NotesSome, NotesAll, on_ok}
 use Rattle.nb_delta.proofs.waiting.note_all.Goals as goal
 
 pub returns-clause-changes : goal.returns-clause-changes

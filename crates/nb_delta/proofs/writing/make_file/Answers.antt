@@ -1,5 +1,5 @@
 use Rattle.std.proofs.Common.{◌≡◌, ℕ, ◌*◌, List, [], length, replicate, inl, inr, refl, ap, ◌∙◌, Some}
-use Rattle.nb_delta.proofs.Common.{on_ok_weaker, Files, Only, Remade, with_file-same, still_more, remade_alone, on_ok, IsBlank}
+use Rattle.nb_delta.proofs.Common.{on_ok_weaker, Files, Only, Remade, with_file-same, still_more, remade_alone, IsBlank, on_ok}
 use Rattle.nb_delta.proofs.MoveLaws.{written, durable_now}
 use Rattle.nb_delta.proofs.BlankLaws.{blank_put, blank_table, blank_made}
 use Rattle.nb_delta.proofs.writing.make_file.Goals as goal

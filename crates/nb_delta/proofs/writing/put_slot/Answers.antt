@@ -1,5 +1,5 @@
 use Rattle.std.proofs.Common.{ℕ, List, length, sym, subst}
-use Rattle.nb_delta.proofs.Common.{File, Files, Only, Moved, kept_on, moved_weaker, on_ok, Keeps, SlotStep, MakesRoom, Prepared}
+use Rattle.nb_delta.proofs.Common.{File, Files, Only, Moved, kept_on, moved_weaker, Keeps, SlotStep, MakesRoom, Prepared, on_ok}
 use Rattle.nb_delta.proofs.StepLaws.{keeps_slot, prepared}
 use Rattle.nb_delta.proofs.NoteLaws.{slot_then_room}
 use Rattle.nb_delta.proofs.writing.put_slot.Goals as goal

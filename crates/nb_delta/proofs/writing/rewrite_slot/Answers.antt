@@ -1,5 +1,5 @@
 use Rattle.std.proofs.Common.{length, sym, subst}
-use Rattle.nb_delta.proofs.Common.{Files, Only, Moved, kept_on, on_ok, SlotStep, SlotPut}
+use Rattle.nb_delta.proofs.Common.{Files, Only, Moved, kept_on, SlotStep, SlotPut, on_ok}
 use Rattle.nb_delta.proofs.writing.rewrite_slot.Goals as goal
 
 pub returns-clause-changes : goal.returns-clause-changes

@@ -1,6 +1,6 @@
 use Rattle.std.proofs.Common.{◌≡◌, ℕ, ap, sym, ◌∙◌, Some, is_some}
-use Rattle.nb_fixup.proofs.Common.{Files, DeltaPresent, delta_name, fixup_cause, Tested, file_cause}
-use Rattle.nb_fixup.proofs.AnswerLaws.{passed, tested_by, some_length}
+use Rattle.nb_fixup.proofs.Common.{Files, DeltaPresent, delta_name, fixup_cause, Tested, file_cause, passed}
+use Rattle.nb_fixup.proofs.AnswerLaws.{tested_by, some_length}
 use Rattle.nb_fixup.proofs.CauseLaws.{file_unfit, file_beside, file_alone}
 use Rattle.nb_fixup.proofs.copy.read_copy.Goals as goal
 

@@ -1,5 +1,5 @@
 use Rattle.std.proofs.Common.{sym, ap, ◌∙◌}
-use Rattle.nb_inplace.proofs.Common.{Files, not_standby, head_of, Reading, Standby, passed, AcceptSays}
+use Rattle.nb_inplace.proofs.Common.{Files, not_standby, head_of, Reading, Standby, AcceptSays, passed}
 use Rattle.nb_inplace.proofs.AcceptLaws.{standby_fails, standby_there, reader_fails, level_fails, reader_of, head_fails}
 use Rattle.nb_inplace.proofs.VerdictLaws.{standby_state}
 use Rattle.nb_inplace.proofs.accepting.accept.Goals as goal

@@ -1,5 +1,5 @@
 use Rattle.std.proofs.Common.{◌≡◌, ℕ, List, length, take, length-take-le, sym, ap, subst, ◌∙◌, arith, Ok, Err, IsTrue}
-use Rattle.nb_inplace.proofs.Common.{with_items_is, is_page_size, size_facts, Leaves, IsDurable, Files, Memory, LevelHead, first_page, quiet_begun, quiet_joined, passed, Applies, applying_page, ReadySays, stamp_cause}
+use Rattle.nb_inplace.proofs.Common.{with_items_is, is_page_size, size_facts, Leaves, IsDurable, Files, Memory, LevelHead, first_page, quiet_begun, quiet_joined, Applies, applying_page, ReadySays, stamp_cause, passed}
 use Rattle.std.specs.Global.{Vec}
 use Rattle.std.specs.Vec.{with_items}
 use Rattle.nb_inplace.proofs.ApplyLaws.{pages, sizes, there, long, apply_memory, apply_refused, ready_fails, apply_done}

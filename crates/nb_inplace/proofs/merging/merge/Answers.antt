@@ -1,5 +1,5 @@
 use Rattle.std.proofs.Common.{◌≡◌, ℕ, List, [], ◌∷◌, length, refl, ap, ◌∙◌, replicate, IsTrue}
-use Rattle.nb_inplace.proofs.Common.{with_part, Page, Numbered, standby_page, passed, IsDoneBy, KeepsMerged, IsDurable, IsPlan}
+use Rattle.nb_inplace.proofs.Common.{with_part, Page, Numbered, standby_page, IsDoneBy, KeepsMerged, IsDurable, IsPlan, passed}
 use Rattle.nb_fields.specs.Bytes.{bytes_of}
 use Rattle.nb_inplace.proofs.MergeLaws.{begun_on, records_on, level_there, counted_on, written, part_left, ended_on, ended_kept, IsWritten}
 use Rattle.nb_inplace.proofs.RecordLaws.{fails_so}

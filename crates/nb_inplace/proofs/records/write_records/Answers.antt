@@ -1,5 +1,5 @@
 use Rattle.std.proofs.Common.{◌≡◌, ℕ, List, length, refl, ap, subst, ◌∙◌, arith, Contains}
-use Rattle.nb_inplace.proofs.Common.{Files, World, Changes, Only, Moved, gave_begun, nothing_joined, Numbered, Reading, Overwrites, passed, IsDoneBy, KeepsHalf, pages_with}
+use Rattle.nb_inplace.proofs.Common.{Files, World, Changes, Only, Moved, gave_begun, nothing_joined, Numbered, Reading, Overwrites, IsDoneBy, KeepsHalf, pages_with, passed}
 use Rattle.nb_inplace.proofs.RecordLaws.{half_none, half_joined, half_still, none_written, is_record, one_written, all_written, reader_stops, number_low}
 use Rattle.nb_inplace.proofs.records.write_records.Goals as goal
 

@@ -7,8 +7,8 @@ pub returns-clause-test : goal.returns-clause-test
 returns-clause-test g c tells =
     let name : List ℕ = c.args.name.now in
     let here : IsLong ((g.H.Host.world c.args.host.now).files name) c.in-Some.len = long_file _ _ _ (c.in_ok-len.ensures.answer tells) c.in-Some.is in
-    let read = (c.in_ok-got.ensures.answer tells).bytes ∙ ap (λ (f : Files). take 66 (bytes_of (f name))) c.size.ensures.files.files ∙ ap (λ (x : File). take 66 (bytes_of x)) here.there in
-    subst (λ (x : File). Tested (not_standby name x) c.standby_in.result) (sym here.there) (c.standby_in.ensures.test name here.bytes here.same read)
+    let read = (c.in_ok-got.ensures.answer tells).bytes ∙ ap (λ (f : Files). take 66 (bytes_of (f name))) c.size.ensures.files.files ∙ ap (λ (x : File). take 66 (bytes_of x)) here.is in
+    subst (λ (x : File). Tested (not_standby name x) c.standby_in.result) (sym here.is) (c.standby_in.ensures.test name here.bytes here.long read)
 
 pub returns-in_default-clause-test : goal.returns-in_default-clause-test
 returns-in_default-clause-test g c tells =

@@ -1,5 +1,5 @@
 use Rattle.std.proofs.Common.{◌≡◌, ℕ, sym, ap, subst, ◌∙◌, rules, true, not, nat_eq, ◌==◌, Some, None}
-use Rattle.nb_inplace.proofs.Common.{is_header, WrongState, not_database, not_standby, OnApply, size_is, state_is, passed, refused, tested_by, unheaded, Tested, Standby}
+use Rattle.nb_inplace.proofs.Common.{is_header, WrongState, not_database, not_standby, OnApply, size_is, state_is, refused, tested_by, Tested, Standby, unheaded, passed}
 use denote.Enum.Bare.{same_true, same_false}
 use Rattle.nb_cases.specs.contracts.events.Case.{the_type}
 use Rattle.nb_cases.specs.declared.events.Case.TheVariants as case

@@ -1,5 +1,5 @@
 use Rattle.std.proofs.Common.{◌≡◌, length, refl, sym, ap, subst, ◌∙◌, arith, Err}
-use Rattle.nb_restore.proofs.Common.{with_items_is, passed, split, first_page, IsDone, PlanSays, IsUnfinishedPage}
+use Rattle.nb_restore.proofs.Common.{with_items_is, split, first_page, IsDone, PlanSays, IsUnfinishedPage, passed}
 use Rattle.std.specs.Vec.{with_items}
 use Rattle.nb_restore.proofs.PreparedLaws.{taken_fails, done_fails, behind_now, page_0_of, prepared}
 use Rattle.nb_restore.proofs.plan.prepare.Goals as goal

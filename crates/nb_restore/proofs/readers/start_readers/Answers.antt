@@ -1,5 +1,5 @@
 use Rattle.std.proofs.Common.{List, refl, sym, subst, ◌∙◌, arith}
-use Rattle.nb_restore.proofs.Common.{drop_all, Reading, passed, AreReady, AreOfPages, IsReady, IsTaken}
+use Rattle.nb_restore.proofs.Common.{drop_all, Reading, AreReady, AreOfPages, IsReady, IsTaken, passed}
 use Rattle.nb_page.proofs.QuietLaws.{quiet_begun, quiet_joined}
 use Rattle.nb_restore.proofs.SourceLaws.{started_none, started_more, started_fails, started_all, names_from, of_pages_more}
 use Rattle.nb_restore.proofs.readers.start_readers.Goals as goal

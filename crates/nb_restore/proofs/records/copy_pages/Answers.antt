@@ -1,5 +1,5 @@
 use Rattle.std.proofs.Common.{◌≡◌, ◌*◌, ◌++◌, length, take, drop, refl, ap, sym, ◌∙◌, arith, Some}
-use Rattle.nb_restore.proofs.Common.{length-take-le, with_bytes, gave_begun, nothing_joined, joined, length-joined, passed, IsDone}
+use Rattle.nb_restore.proofs.Common.{length-take-le, with_bytes, gave_begun, nothing_joined, joined, length-joined, IsDone, passed}
 use Rattle.nb_restore.proofs.FrontLaws.{front_begun, front_joined}
 use Rattle.nb_restore.proofs.LevelLaws.{fails_alike}
 use Rattle.nb_restore.proofs.PieceLaws.{copied_none, copied_next, copied_all}

@@ -1,5 +1,5 @@
 use Rattle.std.proofs.Common.{inl, inr, ⊎_elim, length, refl}
-use Rattle.nb_restore.proofs.Common.{reads_has, passed, IsDone, OverwritesAll, KeepsImage, restored}
+use Rattle.nb_restore.proofs.Common.{reads_has, IsDone, OverwritesAll, KeepsImage, restored, passed}
 use Rattle.nb_restore.proofs.FrontLaws.{front_joined}
 use Rattle.nb_restore.proofs.LevelLaws.{fails_alike}
 use Rattle.nb_restore.proofs.WholeLaws.{begun_by, part_since, since_left, level_0_there, readers_ready, written_by, all_since, all_kept}

@@ -1,7 +1,6 @@
 use Rattle.std.proofs.Common.{◌≡◌, ℕ, ◌+◌, ◌<◌, ◌++◌, suc, length, take, ap, subst, ◌∙◌, arith}
-use Rattle.nb_shown.proofs.Common.{Holds256, quiet_joined, Page, page_at, bytes_of_image}
+use Rattle.nb_shown.proofs.Common.{Holds256, quiet_joined, Page, page_at, bytes_of_image, first_twice}
 use Rattle.nb_shown.proofs.DigestLaws.{bytes_more}
-use Rattle.nb_shown.proofs.ReadCounts.{fed_read}
 use Rattle.nb_shown.proofs.digest.feed_pages.Goals as goal
 
 pub loop-number-preserved : goal.loop-number-preserved
@@ -20,6 +19,6 @@ loop-number-preserved g c =
           let next : suc n ≡ n + 1 = omega arith in
           let bytes = ap (λ (p : Page). bytes_of_image (take n image) ++ p) page ∙ bytes_more image n low ∙ ap (λ (k : ℕ). bytes_of_image (take k image)) next in
           subst (Holds256 c.update.new.self) bytes (c.update.ensures (bytes_of_image (take n image)) (loop.holds t tells is none));
-      reads = λ tells. fed_read _ _ _ c.loop-number.number (read.once tells) (read.twice tells) (loop.reads tells);
+      reads = λ tells. first_twice _ _ _ c.loop-number.number (read.once tells) (read.twice tells) (loop.reads tells);
       cause = read.cause ∙ loop.cause;
     }

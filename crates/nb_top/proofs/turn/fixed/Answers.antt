@@ -1,5 +1,5 @@
 use Rattle.std.proofs.Common.{Ok, Err}
-use Rattle.nb_top.proofs.Common.{passed, fixup_turn, fixing, Serves}
+use Rattle.nb_top.proofs.Common.{fixup_turn, fixing, Serves, passed}
 use Rattle.nb_top.proofs.Fixed.{fix_serves}
 use Rattle.nb_top.proofs.turn.fixed.Goals as goal
 

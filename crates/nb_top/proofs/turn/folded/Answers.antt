@@ -1,5 +1,5 @@
 use Rattle.std.proofs.Common.{arith, Ok, Err}
-use Rattle.nb_top.proofs.Common.{passed, fold_turn, folding, Serves}
+use Rattle.nb_top.proofs.Common.{fold_turn, folding, Serves, passed}
 use Rattle.nb_top.proofs.Folded.{fold_serves}
 use Rattle.nb_top.proofs.turn.folded.Goals as goal
 

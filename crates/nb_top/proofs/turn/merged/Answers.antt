@@ -1,5 +1,5 @@
 use Rattle.std.proofs.Common.{Ok, Err}
-use Rattle.nb_top.proofs.Common.{passed, apply_turn, merging, Serves}
+use Rattle.nb_top.proofs.Common.{apply_turn, merging, Serves, passed}
 use Rattle.nb_top.proofs.Merged.{merge_serves}
 use Rattle.nb_top.proofs.turn.merged.Goals as goal
 

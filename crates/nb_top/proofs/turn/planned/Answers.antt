@@ -1,5 +1,5 @@
 use Rattle.std.proofs.Common.{◌∙◌, List, ℕ, ap, ap₂}
-use Rattle.nb_top.proofs.Common.{passed, plan_turn, Planned, planning, Serves}
+use Rattle.nb_top.proofs.Common.{plan_turn, Planned, planning, Serves, passed}
 use Rattle.nb_catalog.specs.Chained.{names_at}
 use Rattle.nb_top.proofs.Planned.{failed_plan, lacking_plan, plan_serves}
 use Rattle.nb_top.proofs.turn.planned.Goals as goal

@@ -1,5 +1,5 @@
 use Rattle.std.proofs.Common.{Ok, Err}
-use Rattle.nb_top.proofs.Common.{passed, restore_turn, restoring, Serves}
+use Rattle.nb_top.proofs.Common.{restore_turn, restoring, Serves, passed}
 use Rattle.nb_top.proofs.Restored.{restore_serves}
 use Rattle.nb_top.proofs.turn.restored.Goals as goal
 

@@ -1,5 +1,5 @@
 use Rattle.std.proofs.Common.{◌≡◌, ℕ, List, [], ◌∷◌, length, refl, sym, ap, subst, ◌∙◌, arith, None, OnOk}
-use Rattle.nb_base.proofs.Common.{Files, World, Changes, Only, Remade, on_ok, Known, File, delta_name, finish, Held, IsOpen, AreMerged, StrikesFirm}
+use Rattle.nb_base.proofs.Common.{Files, World, Changes, Only, Remade, Known, File, delta_name, finish, Held, IsOpen, AreMerged, StrikesFirm, on_ok}
 use Rattle.nb_base.proofs.StrokeLaws.{h0, waits, durable_main}
 use Rattle.nb_base.proofs.EndLaws.{size, finish_room, finish_struck, removed_struck, finish_open}
 use Rattle.nb_base.proofs.WriteLaws.{not_done}

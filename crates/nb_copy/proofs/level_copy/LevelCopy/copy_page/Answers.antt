@@ -1,6 +1,6 @@
 use Rattle.std.proofs.Common.{◌<◌, List, length, ap, subst, ◌∙◌, arith, sym, Bool, Ok, OnOk}
-use Rattle.nb_copy.proofs.Common.{Numbered, LevelWriting, HasTaken, LevelCopying, taken_below, IsUnfinished, Fetched, renamed, quiet_then, quiet_alone, touches_named, touches_then, touches_quiet}
-use Rattle.nb_copy.proofs.LevelLaws.{next_passed, taken_quiet, may_next, taken_next}
+use Rattle.nb_copy.proofs.Common.{Numbered, LevelWriting, HasTaken, LevelCopying, taken_below, IsUnfinished, Fetched, renamed, quiet_then, quiet_alone, touches_named, touches_then, touches_quiet, taken_quiet}
+use Rattle.nb_copy.proofs.LevelLaws.{next_passed, may_next, taken_next}
 use Rattle.nb_copy.proofs.level_copy.LevelCopy.copy_page.Goals as goal
 
 pub returns-then-may_be_changed-clause-left : goal.returns-then-may_be_changed-clause-left

@@ -1,5 +1,5 @@
 use Rattle.std.proofs.Common.{inl}
-use Rattle.nb_copy.proofs.Common.{remade_weaker, joined, IsBlank, IsFreeOr, blank_free, quiet_alone, touches_quiet}
+use Rattle.nb_copy.proofs.Common.{remade_weaker, joined, IsBlank, IsFreeOr, quiet_alone, touches_quiet, blank_free}
 use Rattle.nb_copy.proofs.page_copy.PageCopy.turn.Goals as goal
 
 pub returns-in_err-take_first-clause-left : goal.returns-in_err-take_first-clause-left

@@ -1,6 +1,6 @@
 use Rattle.std.proofs.Common.{◌≡◌, ℕ, length, ap, ◌∙◌, subst, arith, Err}
-use Rattle.nb_delta.proofs.Common.{File, Files, table_of, Known, Reads}
-use Rattle.nb_delta.proofs.AttachLaws.{IsLong, long_file, not_attached}
+use Rattle.nb_delta.proofs.Common.{File, Files, table_of, Known, Reads, IsLong, long_file}
+use Rattle.nb_delta.proofs.AttachLaws.{not_attached}
 use Rattle.nb_delta.proofs.delta.Delta.attach.Goals as goal
 
 pub returns-in_err-read_table-clause-answer : goal.returns-in_err-read_table-clause-answer

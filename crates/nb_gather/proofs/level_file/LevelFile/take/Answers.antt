@@ -1,7 +1,7 @@
 use Rattle.std.proofs.Common.{◌≡◌, ◌<◌, ◌≤◌, List, ◌++◌, sym, ap, subst, ◌∙◌, arith, OnOk}
-use Rattle.nb_gather.proofs.Common.{append-nil, stamp_of, Numbered, Only, remade_begun, LevelWriting, HasTaken, MayHave, IsUnfinished}
+use Rattle.nb_gather.proofs.Common.{append-nil, stamp_of, Numbered, Only, remade_begun, LevelWriting, HasTaken, MayHave, IsUnfinished, stamp_in}
 use Rattle.nb_page.specs.declared.page.PageHead.{PageHead}
-use Rattle.nb_gather.proofs.CloseLaws.{taken_one, taken_none, stamp_in}
+use Rattle.nb_gather.proofs.CloseLaws.{taken_one, taken_none}
 use Rattle.nb_gather.proofs.TouchLaws.{touches_none}
 use Rattle.nb_gather.proofs.level_file.LevelFile.take.Goals as goal
 

@@ -1,5 +1,5 @@
 use Rattle.std.proofs.Common.{◌≡◌, inl, inr, refl, sym, ap, ◌∙◌, arith}
-use Rattle.nb_owner.proofs.Common.{normal_state, stalled_state, Only, weakened, on_ok, image_state, delta_name, StandsIn, OfFiles, touched, main_in, delta_in, Held}
+use Rattle.nb_owner.proofs.Common.{normal_state, stalled_state, Only, weakened, image_state, delta_name, StandsIn, OfFiles, touched, main_in, delta_in, Held, on_ok}
 use Rattle.nb_owner.proofs.pair.Pair.flush_all.Goals as goal
 
 pub returns-then-state-eq-STALLED-clause-takes : goal.returns-then-state-eq-STALLED-clause-takes

@@ -1,5 +1,5 @@
 use Rattle.std.proofs.Common.{List, ℕ, sym, subst, ap}
-use Rattle.nb_owner.proofs.Common.{Only, Changes, composed, on_ok, delta_name, StandsIn, NoneWaits, Pages}
+use Rattle.nb_owner.proofs.Common.{Only, Changes, composed, delta_name, StandsIn, NoneWaits, Pages, on_ok}
 use Rattle.nb_owner.proofs.SlotLaws.{start_slots}
 use Rattle.nb_owner.proofs.pair.Pair.flush_delta.Goals as goal
 

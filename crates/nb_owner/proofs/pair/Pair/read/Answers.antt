@@ -1,7 +1,7 @@
 use Rattle.std.proofs.Common.{◌≡◌, ◌<◌, refl, ap, sym, subst, ◌∙◌, None, IsSome}
-use Rattle.nb_owner.proofs.Common.{on_ok_weaker, on_err_weaker, dropped, NoneWaits, Held, Pages, IsOpen, AreOf, cache_of, bare, used, the_view}
+use Rattle.nb_owner.proofs.Common.{on_ok_weaker, on_err_weaker, dropped, NoneWaits, Held, Pages, IsOpen, AreOf, cache_of, bare, used, the_view, not_there}
 use Rattle.nb_owner.proofs.RankLaws.{rank_promoted}
-use Rattle.nb_owner.proofs.OpenLaws.{of_read, valid_looked, found_put, found_slot, missed_slot, missed_same, found_page, put_page, first_block, bare_put, looked_none, kept_drops}
+use Rattle.nb_owner.proofs.OpenLaws.{of_read, valid_looked, found_put, found_slot, missed_same, found_page, put_page, first_block, bare_put, looked_none, kept_drops}
 use Rattle.nb_owner.proofs.WaitLaws.{open_with}
 use Rattle.nb_owner.proofs.pair.Pair.read.Goals as goal
 
@@ -59,34 +59,34 @@ returns-then-look-clause-full g c full =
 
 pub fetch-requires-clause-absent : goal.fetch-requires-clause-absent
 fetch-requires-clause-absent g c =
-    let none = missed_slot _ (sym c.look.ensures.found ∙ c.if-look.false) in
+    let none = not_there _ (sym c.look.ensures.found ∙ c.if-look.false) in
     ap (λ (k : Rattle.nb_cache.specs.Held.Held). Rattle.nb_cache.specs.Held.slot_of k.pages c.args.number)
     (missed_same c.self.inside.cache c.look.new.self c.self.inside.files.page_size c.self.inside.files.page_size c.self.invariant.0 refl c.args.number c.look.ensures.moved none) ∙ none
 
 pub returns-clause-failed : goal.returns-clause-failed
 returns-clause-failed g c =
-    let none = missed_slot _ (sym c.look.ensures.found ∙ c.if-look.false) in
+    let none = not_there _ (sym c.look.ensures.found ∙ c.if-look.false) in
     let missed = missed_same c.self.inside.cache c.look.new.self c.self.inside.files.page_size c.self.inside.files.page_size c.self.invariant.0 refl c.args.number c.look.ensures.moved none in
     let same = ap (λ (k : Rattle.nb_cache.specs.Held.Held). let h : Held = record { files = c.self.inside.files; pages = k.pages; cap = k.cap } in h) missed ∙ c.self.view_is in
     on_err_weaker c.fetch.result (λ failed. failed ∙ same) c.fetch.ensures.failed
 
 pub returns-clause-page : goal.returns-clause-page
 returns-clause-page g c t tells given low =
-    let none = missed_slot _ (sym c.look.ensures.found ∙ c.if-look.false) in
+    let none = not_there _ (sym c.look.ensures.found ∙ c.if-look.false) in
     let missed = missed_same c.self.inside.cache c.look.new.self c.self.inside.files.page_size c.self.inside.files.page_size c.self.invariant.0 refl c.args.number c.look.ensures.moved none in
     let same = ap (λ (k : Rattle.nb_cache.specs.Held.Held). let h : Held = record { files = c.self.inside.files; pages = k.pages; cap = k.cap } in h) missed ∙ c.self.view_is in
     c.fetch.ensures.page t tells (subst (λ (h : Held). IsOpen (g.H.Host.world c.args.host.now) h t) (sym same) given) low
 
 pub returns-clause-open : goal.returns-clause-open
 returns-clause-open g c t tells given =
-    let none = missed_slot _ (sym c.look.ensures.found ∙ c.if-look.false) in
+    let none = not_there _ (sym c.look.ensures.found ∙ c.if-look.false) in
     let missed = missed_same c.self.inside.cache c.look.new.self c.self.inside.files.page_size c.self.inside.files.page_size c.self.invariant.0 refl c.args.number c.look.ensures.moved none in
     let same = ap (λ (k : Rattle.nb_cache.specs.Held.Held). let h : Held = record { files = c.self.inside.files; pages = k.pages; cap = k.cap } in h) missed ∙ c.self.view_is in
     c.fetch.ensures.open t tells (subst (λ (h : Held). IsOpen (g.H.Host.world c.args.host.now) h t) (sym same) given)
 
 pub returns-clause-used : goal.returns-clause-used
 returns-clause-used g c low drops =
-    let none = missed_slot _ (sym c.look.ensures.found ∙ c.if-look.false) in
+    let none = not_there _ (sym c.look.ensures.found ∙ c.if-look.false) in
     let missed = missed_same c.self.inside.cache c.look.new.self c.self.inside.files.page_size c.self.inside.files.page_size c.self.invariant.0 refl c.args.number c.look.ensures.moved none in
     let same = ap (λ (k : Rattle.nb_cache.specs.Held.Held). let h : Held = record { files = c.self.inside.files; pages = k.pages; cap = k.cap } in h) missed ∙ c.self.view_is in
     on_ok_weaker c.fetch.result (λ put. put ∙ ap (λ (h : Held). used (bare h.pages) h.cap c.args.number c.fetch.new.into) same)
@@ -94,7 +94,7 @@ returns-clause-used g c low drops =
 
 pub returns-clause-full : goal.returns-clause-full
 returns-clause-full g c full =
-    let none = missed_slot _ (sym c.look.ensures.found ∙ c.if-look.false) in
+    let none = not_there _ (sym c.look.ensures.found ∙ c.if-look.false) in
     let missed = missed_same c.self.inside.cache c.look.new.self c.self.inside.files.page_size c.self.inside.files.page_size c.self.invariant.0 refl c.args.number c.look.ensures.moved none in
     let same = ap (λ (k : Rattle.nb_cache.specs.Held.Held). let h : Held = record { files = c.self.inside.files; pages = k.pages; cap = k.cap } in h) missed ∙ c.self.view_is in
     c.fetch.ensures.full (subst (λ (h : Held). IsSome (dropped (cache_of h) c.args.number)) (sym same) full) ∙ same
@@ -106,7 +106,7 @@ returns-then-look-clause-ranks g c p =
 
 pub returns-clause-ranks : goal.returns-clause-ranks
 returns-clause-ranks g c p =
-    let none = missed_slot _ (sym c.look.ensures.found ∙ c.if-look.false) in
+    let none = not_there _ (sym c.look.ensures.found ∙ c.if-look.false) in
     let missed = missed_same c.self.inside.cache c.look.new.self c.self.inside.files.page_size c.self.inside.files.page_size c.self.invariant.0 refl c.args.number c.look.ensures.moved none in
     let same = ap (λ (k : Rattle.nb_cache.specs.Held.Held). let h : Held = record { files = c.self.inside.files; pages = k.pages; cap = k.cap } in h) missed ∙ c.self.view_is in
     c.fetch.ensures.ranks p ∙ ap (λ (h : Held). Rattle.nb_cache.specs.Held.rank_of h.pages p) same

@@ -1,4 +1,4 @@
-use Rattle.nb_owner.proofs.Common.{on_ok, StandsIn, OfFiles, touched_joined, quiet_touched, not_done}
+use Rattle.nb_owner.proofs.Common.{StandsIn, OfFiles, touched_joined, quiet_touched, not_done, on_ok}
 use Rattle.nb_owner.proofs.OutLaws.{quiet_more}
 use Rattle.nb_owner.proofs.pair.Pair.sync.Goals as goal
 

@@ -1,5 +1,5 @@
 use Rattle.std.proofs.Common.{◌≡◌, [], sym, subst, ◌∙◌, None, Some, true}
-use Rattle.nb_owner.proofs.Common.{true≢false, World, is_forced, Trail, on_ok, NoneWaits, Held, Pages, IsOpen, none_there}
+use Rattle.nb_owner.proofs.Common.{true≢false, World, is_forced, Trail, NoneWaits, Held, Pages, IsOpen, none_there, on_ok}
 use Rattle.nb_owner.proofs.RankLaws.{none_found}
 use Rattle.nb_owner.proofs.WaitLaws.{none_drafted, settled_none, forced_none}
 use Rattle.nb_owner.proofs.pair.Pair.write_out.Goals as goal
