@@ -20,6 +20,16 @@ shaped_of w held t is size least = record { size = subst (λ (n : ℕ). IsTrue (
 pub searchable_of : (w : World) (held : Held) (t : Trail) → IsOpen w held t → IsTrue (is_page_size held.files.page_size) → 5 ≤ length t.base.image → IsSearchable t.base.image
 searchable_of w held t is size long = record { shaped = shaped_of w held t is size (omega (arith, long)); long = long }
 
+-- an open database of which a call knows the number of pages
+pub count_of : (w : World) (a b : Held) (t : Trail) (count : ℕ) → a ≡ b → IsOpen w b t → count ≡ a.files.count → count ≡ length t.base.image
+count_of w a b t count same is counted = let here = subst (λ (h : Held). IsOpen w h t) (sym same) is in counted ∙ here.files.agrees.count
+
+-- and has enough of them
+pub ready_of : (w : World) (a b : Held) (t : Trail) (count : ℕ) → a ≡ b → IsOpen w b t → IsTrue (is_page_size a.files.page_size) → count ≡ a.files.count → 5 ≤ count → IsOpen w a t × IsSearchable t.base.image
+ready_of w a b t count same is size counted enough =
+    let here = subst (λ (h : Held). IsOpen w h t) (sym same) is in
+    (here, searchable_of w a t here size (omega (arith, here.files.agrees.count, counted, enough)))
+
 -- the turn, by its causes
 module _ (s : Seen) where
   abbrev image : Image
