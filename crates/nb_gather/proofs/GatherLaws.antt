@@ -135,11 +135,15 @@ module _ (outer self : LevelWriting) (view : self ≡ outer) (w : World) (rs : L
   fits = subst (λ (v : LevelWriting). MayHave v.head (rs ++ r ∷ [])) (sym view) may
 
   -- into the run that waits
-  pub run_still : (new : Waiting) → Joined self.run new r → may_join self.run r ≡ true → (new.count == 16) ≡ false → HasTaken w (record { name = self.name; head = self.head; written = self.written + 1; run = new }) (rs ++ r ∷ [])
-  run_still new joined takes short = joins_still self.head rs r fits self.run inside.waits new joined w self.name self.written inside.counted inside.stands takes short
+  module _ (new : Waiting) (first : self.run.count ≡ 0 → new.first ≡ r.0) (more : 0 < self.run.count → new.first ≡ self.run.first) (alone : self.run.count ≡ 0 → new.bytes ≡ r.1) (bytes : new.bytes ≡ self.run.bytes ++ r.1) (count : new.count ≡ self.run.count + 1) where
+    joined : Joined self.run new r
+    joined = record { first = first; more = more; alone = alone; bytes = bytes; count = count }
 
-  pub run_full : (new : Waiting) → Joined self.run new r → may_join self.run r ≡ true → (new.count == 16) ≡ true → Completes new rs r []
-  run_full new joined takes full = joins_full self.head rs r fits self.run inside.waits new joined takes full
+    pub run_still : may_join self.run r ≡ true → (new.count == 16) ≡ false → HasTaken w (record { name = self.name; head = self.head; written = self.written + 1; run = new }) (rs ++ r ∷ [])
+    run_still takes short = joins_still self.head rs r fits self.run inside.waits new joined w self.name self.written inside.counted inside.stands takes short
+
+    pub run_full : may_join self.run r ≡ true → (new.count == 16) ≡ true → Completes new rs r []
+    run_full takes full = joins_full self.head rs r fits self.run inside.waits new joined takes full
 
   -- or not
   pub run_other : may_join self.run r ≡ false → Completes self.run rs r (one_run r ∷ [])
