@@ -439,10 +439,10 @@ pub begins_at : (x : Image) (from made fresh : ℕ) → from ≡ 5 → made ≡ 
 begins_at x from made fresh a b c may =
     subst (λ (n : ℕ). IsOnTheWay x x n made fresh) (sym a) (subst (λ (m : ℕ). IsOnTheWay x x 5 m fresh) (sym b) (subst (λ (f : ℕ). IsOnTheWay x x 5 0 f) (sym c) (way_begins x may.shaped may.long)))
 
-pub place_begins : (x : Image) (from fresh : ℕ) → from ≡ 5 → fresh ≡ 0 → IsTrue (is_page_size (image_size x)) → (inventory_of x from ≢ fresh) × (next_place x from fresh ≡ lowest_free x)
+pub place_begins : (x : Image) (from fresh size : ℕ) → from ≡ 5 → fresh ≡ 0 → size ≡ image_size x → IsTrue (is_page_size size) → (inventory_of x from ≢ fresh) × (next_place x from fresh ≡ lowest_free x)
 unfolding lowest_free
-place_begins x from fresh a b size =
-    let some = inventory_place_some (image_size x) (from / bits_in (image_size x)) size in
+place_begins x from fresh size a b same sized =
+    let some = inventory_place_some (image_size x) (from / bits_in (image_size x)) (subst (λ (s : ℕ). IsTrue (is_page_size s)) same sized) in
     let other : inventory_of x from ≢ fresh = λ e. absurd (omega (arith, some, e, b)) in
     (other, place_free x from fresh other ∙ ap (λ (n : ℕ). free_from (length x - n) n x) a)
 

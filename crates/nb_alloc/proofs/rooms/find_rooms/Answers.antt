@@ -1,5 +1,5 @@
-use Rattle.std.proofs.Common.{ℕ, sym, ap, subst, ◌∙◌, arith, IsTrue, Ok}
-use Rattle.nb_alloc.proofs.Common.{true≢false, is_page_size, image_size, new_of, Behind, IsKnown, is_kind}
+use Rattle.std.proofs.Common.{ℕ, sym, ap, ◌∙◌, arith, Ok}
+use Rattle.nb_alloc.proofs.Common.{true≢false, new_of, Behind, IsKnown, is_kind}
 use Rattle.nb_alloc.proofs.RoomsLaws.{not_lost, ends_judged, second_judged, twice_judged}
 use Rattle.nb_alloc.proofs.WayLaws.{begins_at, place_begins, ends_passed}
 use Rattle.nb_alloc.proofs.rooms.find_rooms.Goals as goal
@@ -30,14 +30,12 @@ returns-then-not-second-clause-two g c t first second tells is shaped short smal
 
 pub returns-then-not-second-clause-value : goal.returns-then-not-second-clause-value
 returns-then-not-second-clause-value g c t tells is =
-    let size : IsTrue (is_page_size (image_size t.base.image)) = subst (λ (s : ℕ). IsTrue (is_page_size s)) (c.page_size-page_size.ensures.value ∙ is.files.agrees.page_size) c.page_size-page_size.ensures.one_of in
-    let begins = place_begins t.base.image _ _ c.begin-way.ensures.from c.begin-way.ensures.fresh size in
+    let begins = place_begins t.base.image _ _ c.page_size-page_size.result c.begin-way.ensures.from c.begin-way.ensures.fresh (c.page_size-page_size.ensures.value ∙ is.files.agrees.page_size) c.page_size-page_size.ensures.one_of in
     c.in_ok-first.ensures.value t tells is ∙ begins.1
 
 pub returns-then-not-second-clause-map : goal.returns-then-not-second-clause-map
 returns-then-not-second-clause-map g c t tells is count_is =
-    let size : IsTrue (is_page_size (image_size t.base.image)) = subst (λ (s : ℕ). IsTrue (is_page_size s)) (c.page_size-page_size.ensures.value ∙ is.files.agrees.page_size) c.page_size-page_size.ensures.one_of in
-    let begins = place_begins t.base.image _ _ c.begin-way.ensures.from c.begin-way.ensures.fresh size in
+    let begins = place_begins t.base.image _ _ c.page_size-page_size.result c.begin-way.ensures.from c.begin-way.ensures.fresh (c.page_size-page_size.ensures.value ∙ is.files.agrees.page_size) c.page_size-page_size.ensures.one_of in
     c.in_ok-first.ensures.map t tells is begins.0
 
 pub returns-in_err-find_room-clause-one : goal.returns-in_err-find_room-clause-one
@@ -75,8 +73,7 @@ returns-clause-still g c t first tells is shaped short known count_is kept =
 
 pub returns-clause-value : goal.returns-clause-value
 returns-clause-value g c t tells is =
-    let size : IsTrue (is_page_size (image_size t.base.image)) = subst (λ (s : ℕ). IsTrue (is_page_size s)) (c.page_size-page_size.ensures.value ∙ is.files.agrees.page_size) c.page_size-page_size.ensures.one_of in
-    let begins = place_begins t.base.image _ _ c.begin-way.ensures.from c.begin-way.ensures.fresh size in
+    let begins = place_begins t.base.image _ _ c.page_size-page_size.result c.begin-way.ensures.from c.begin-way.ensures.fresh (c.page_size-page_size.ensures.value ∙ is.files.agrees.page_size) c.page_size-page_size.ensures.one_of in
     c.in_ok-first.ensures.value t tells is ∙ begins.1
 
 pub returns-clause-map : goal.returns-clause-map
