@@ -27,7 +27,7 @@ pub use Rattle.nb_copy.specs.FileStarting.{IsNewFile, IsStartedFile}
 pub use Rattle.nb_copy.specs.LevelCopying.{HasEntriesOf, IsLevelCopying, IsLevelOf, LevelCopying, taken_below, whole_level}
 unfoldable pub use Rattle.nb_copy.specs.Reading.{is_above, loads_entries, reads_at, sum_below}
 pub use Rattle.nb_copy.specs.Reading.{asked_scn, earlier_scn, one_if, page_reads}
-pub use Rattle.nb_copy.specs.Starting.{Backed, BeginsFor, HasNotBegun, IsBackingUp, IsItsLevel, IsNotMemory, IsStarted, OfStart, StartLeft, StartMakes, StartsBackup, ask_by, ask_in, earlier_cause, earlier_row, file_cause, row_cause, turn_since}
+pub use Rattle.nb_copy.specs.Starting.{Backed, BeginsFor, HasNotBegun, IsBackingUp, IsItsLevel, IsNotMemory, IsStarted, KnowsFree, OfStart, StartLeft, StartMakes, StartsBackup, ask_by, ask_in, earlier_cause, earlier_row, file_cause, row_cause, turn_since}
 pub use Rattle.nb_copy.specs.Turns.{CopyTurn, Fetched}
 pub use Rattle.nb_copy.specs.declared.file_copy.FileCopy.{FileCopy}
 pub use Rattle.nb_copy.specs.declared.file_copy.FileCopy.TheVariants.{Pages}
@@ -99,6 +99,7 @@ unfoldable pub use Rattle.nb_model.specs.Trail.{after_stroke}
 pub use Rattle.nb_model.specs.Trail.{ShowsIn, StandsIn, StandsOn, Trail}
 pub use Rattle.nb_model.specs.declared.reply.Reply.TheVariants.{Refused}
 pub use Rattle.nb_page.proofs.BlankLaws.{blank_free, blank_left}
+unfoldable pub use Rattle.nb_page.specs.Free.{is_free_name}
 pub use Rattle.nb_page.specs.Quiet.{Quiet}
 unfoldable pub use Rattle.nb_scn.specs.Entries.{entries}
 pub use Rattle.nb_state.proofs.MakesLaws.{after_base, goes_nowhere, goes_on, open_quiet, open_running, open_still, still_open}
@@ -106,6 +107,7 @@ pub use Rattle.nb_state.proofs.ShownLaws.{open_beside}
 pub use Rattle.nb_state.proofs.TurnLaws.{given_guid, still_struck, struck_front, unless_none}
 pub use Rattle.nb_state.specs.Does.{Tested, WhereEnded, has_only_told, unless_by}
 pub use Rattle.nb_state.specs.Open.{Held, IsOpen, but_pages, name_of}
+pub use Rattle.nb_state.specs.Turns.{GaveAtMost}
 pub use Rattle.nb_state.specs.declared.turns.Progress.{Progress}
 pub use Rattle.std.proofs.Math.Nat.{div-eq_of_lt, div-mul-le_self, mod-eq-sub-div-mul, mod-eq_of_lt}
 pub use Rattle.std.proofs.lemmas.Bool.{and_from, and_left, and_parts, eq-eqb, eqb-true, lt-ltb, ne_eqb, or_left, or_right, true≢false}

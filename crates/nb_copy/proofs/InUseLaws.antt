@@ -1,8 +1,7 @@
 -- The name of a database that is open isn't free.
 use Rattle.std.proofs.Common.{◌≡◌, inl, inr, List, ℕ, sym, ap, ◌∙◌, true, false}
-use Rattle.nb_copy.proofs.Common.{true≢false, File, Files, World, Base, delta_name, owner, Trail, ShowsIn, OfFiles, Held, IsOpen, name_of}
+use Rattle.nb_copy.proofs.Common.{true≢false, is_free_name, File, Files, World, Base, delta_name, owner, Trail, ShowsIn, OfFiles, Held, IsOpen, name_of}
 use Rattle.nb_fields.specs.Free.{is_free_file}
-use Rattle.nb_page.specs.Free.{is_free_name}
 use Rattle.nb_page.proofs.FreeLaws.{is_free_name-false}
 use Rattle.nb_model.proofs.OpenedLaws.{HasMain, has_main}
 use Rattle.nb_model.proofs.OpeningLaws.{opened_in_use}

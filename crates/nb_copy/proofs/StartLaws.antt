@@ -1,8 +1,7 @@
 -- The start of a backup: tests, room in the history, and the begin.
 use Rattle.std.proofs.Common.{◌≡◌, ◌⊎◌, inl, ℕ, zero, suc, List, [], ◌∷◌, ◌++◌, length, replicate, refl, sym, ap, subst, ◌∙◌, true, Option, Some, None, is_none, Err, IsErr, IsErrAnd, Result}
-use Rattle.nb_copy.proofs.Common.{normal_state, World, Fault, Device, Memory, Refusal, NoHistory, NoGuid, Quiet, GaveNothing, Strikes, LevelHead, Refused, Ask, Base, room_in, starts, backup_turn, since_turn, Cause, first_cause, when, read_only, not_state, not_free, no_scn, no_room, not_of_form, broken_at, short_for, History, Spot, pages_of, spots, free_spot, Image, image_scn, Outcome, Copies, ClosesBackup, Seen, next_guid, without_guid, says, unless, Stroke, begin, Trail, Held, IsOpen, but_pages, name_of, Tested, has_only_told, unless_by, struck_front, room_cause, told_some, unless_refused, unless_allowed, HasNotBegun, StartsBackup, earlier_row, row_cause, earlier_cause, file_cause, ask_in, turn_since, Backed, Since, Level, Guid, passed_on, first_here}
+use Rattle.nb_copy.proofs.Common.{normal_state, GaveAtMost, World, Fault, Device, Memory, Refusal, NoHistory, NoGuid, Quiet, GaveNothing, Strikes, LevelHead, Refused, Ask, Base, room_in, starts, backup_turn, since_turn, Cause, first_cause, when, read_only, not_state, not_free, no_scn, no_room, not_of_form, broken_at, short_for, History, Spot, pages_of, spots, free_spot, Image, image_scn, Outcome, Copies, ClosesBackup, Seen, next_guid, without_guid, says, unless, Stroke, begin, Trail, Held, IsOpen, but_pages, name_of, Tested, has_only_told, unless_by, struck_front, room_cause, told_some, unless_refused, unless_allowed, HasNotBegun, StartsBackup, earlier_row, row_cause, earlier_cause, file_cause, ask_in, turn_since, Backed, Since, Level, Guid, passed_on, first_here}
 use Rattle.nb_host.specs.declared.faults.Fault.TheVariants.{Refused as RefusedFault}
-use Rattle.nb_state.specs.Turns.{GaveAtMost}
 use Rattle.nb_copy.proofs.BesideLaws.{starts_quiet}
 use Rattle.nb_copy.proofs.StartCauses.{after_none}
 use Rattle.nb_engine.proofs.BackupLaws.{strokes_by}
