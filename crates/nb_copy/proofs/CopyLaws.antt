@@ -1,6 +1,6 @@
 -- The file of a copy: made, with a page more, and made whole by page 0.
 use Rattle.std.proofs.Common.{◌≡◌, inl, inr, ℕ, ◌+◌, ◌*◌, ◌<◌, ◌≤◌, List, [], length, sym, ap, subst, ◌∙◌, arith, Bool, IsTrue, Some, Result, Ok, OnOk}
-use Rattle.nb_copy.proofs.Common.{File, Files, World, PageLeft, IsDurable, Remakes, WritesPage, Syncs, IsTimely, Passes, Changes, Only, Remade, page_others, remade_alone, remade_step, remade_begun, Quiet, Page, Image, page_at, first_page, joined, IsBlank, IsFreeOr, IsKept, IsMade, Copying, front_pages, IsOf, IsBegun, quiet_then, sync_then, sync_kept, zeros-behind, with_file-named, far_behind, blank_free, blank_left, blank_empty, is_page_size, size_facts, named}
+use Rattle.nb_copy.proofs.Common.{File, Files, World, PageLeft, IsDurable, Remakes, WritesPage, Syncs, IsTimely, Passes, Changes, Only, Remade, page_others, remade_alone, remade_step, remade_begun, Quiet, Page, Image, page_at, first_page, joined, IsBlank, IsFreeOr, IsKept, IsMade, Copying, front_pages, IsOf, IsBegun, quiet_then, sync_then, sync_kept, zeros-behind, with_file-named, far_behind, blank_free, blank_left, blank_empty, is_page_size, size_facts}
 use Rattle.nb_host.specs.Files.{with_page}
 use Rattle.nb_copy.proofs.FrontLaws.{front_next, front_whole, front_blank}
 
