@@ -229,5 +229,5 @@ behind-next entries k low = ap behind_entries (take_more entries k 0 low) ∙ be
 pub counted-next : {E : Type 0} (entries kept : List ℕ) (k page count main next : ℕ) → kept ≡ entries → ◌≡◌ {A = Result ℕ E} (Ok page) (Ok (get_or kept k 0)) → k < length entries → next ≡ max count (page + 1) → count ≡ max main (behind_entries (take k entries))
     → next ≡ max main (behind_entries (take (k + 1) entries))
 counted-next {E} entries kept k page count main next same told low is so_far =
-    let named : page ≡ get_or entries k 0 = ok_equal {E = E} page (get_or entries k 0) told ∙ ap (λ (l : List ℕ). get_or l k 0) same in
+    let named : page ≡ get_or entries k 0 = ok_equal {E = E} page (get_or kept k 0) told ∙ ap (λ (l : List ℕ). get_or l k 0) same in
     omega (arith, named, is, so_far, behind-next entries k low)
