@@ -1,6 +1,6 @@
 -- Where the SCN entry of a page stands, and which pages need none.
-use Rattle.std.proofs.Common.{◌≡◌, ◌⊎◌, inl, inr, ℕ, zero, suc, ◌*◌, ◌/◌, ◌%◌, ◌<◌, ◌≤◌, length, refl, sym, ap, ◌∙◌, arith, Bool, true, false, slice_index, IsTrue, ◌==◌, ◌&&◌, ◌||◌, not, nat_lt}
-use Rattle.nb_copy.proofs.Common.{div-eq_of_lt, mod-eq-sub-div-mul, div-mul-le_self, and_parts, or_right, eqb-true, is_page_size, entries_in, scn_place, is_scn_place, size_facts, Page, Image, image_size, page_at, may_have_changed, entries, other-with, scn_page_of, scn_entry, has_entry, scn_page-is, entry-is, lt_holds, scn_place_of}
+use Rattle.std.proofs.Common.{◌≡◌, ◌⊎◌, inl, inr, ℕ, zero, suc, ◌*◌, ◌/◌, ◌%◌, ◌<◌, ◌≤◌, length, refl, sym, ap, ◌∙◌, arith, Bool, true, false, slice_index, IsTrue, ◌==◌, ◌||◌, not, nat_lt}
+use Rattle.nb_copy.proofs.Common.{div-eq_of_lt, mod-eq-sub-div-mul, div-mul-le_self, or_right, is_page_size, entries_in, scn_place, is_scn_place, size_facts, Page, Image, image_size, page_at, may_have_changed, entries, other-with, scn_page_of, scn_entry, has_entry, scn_page-is, entry-is, scn_place_of}
 use Rattle.nb_model.proofs.ReadLaws.{lt_no}
 
 -- an SCN page that isn't the first stands at the first page that it has an entry for
@@ -15,10 +15,6 @@ own_place size p some first =
 -- the first stands at page 2
 pub first_place : (size p : ℕ) → p < entries_in size → scn_place size (p / entries_in size) ≡ 2
 first_place size p low = ap (scn_place size) (div-eq_of_lt low)
-
-    by : ((p == 2) ≡ true) ⊎ ((nat_lt 0 p && p % entries_in size == 0) ≡ true) → scn_place size (p / entries_in size) ≡ p
-    by (inl two) = let e = eqb-true p 2 two in first_place size p (omega (arith, e, wide)) ∙ sym e
-    by (inr own) = let both = and_parts (nat_lt 0 p) (p % entries_in size == 0) own in own_place size p (let l = lt_holds 0 p both.0 in l) (eqb-true (p % entries_in size) 0 both.1)
 
 -- where the SCN page is that is read
 pub loaded_place : (image : Image) (size p k index place : ℕ) → size ≡ image_size image → IsTrue (is_page_size size) → 1 ≤ p → k ≡ p / entries_in size → index ≡ p % entries_in size → place ≡ scn_place size k → (p ≡ 1) ⊎ (index ≡ 0)
