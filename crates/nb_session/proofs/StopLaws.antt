@@ -1,6 +1,6 @@
 -- How what a crash leaves goes on from turn to turn.
-use Rattle.std.proofs.Common.{◌≡◌, ◌⊎◌, inl, inr, ℕ, zero, suc, ◌+◌, ◌-◌, ◌≤◌, List, ◌++◌, length, take, sym, ap, subst, ◌∙◌, arith, append_assoc, length-append, length-take, Contains, Bool, true, false, Option, Some, None, nat_le}
-use Rattle.nb_session.proofs.Common.{take-append-add, take-append-le, Contains-append_cases, File, Files, World, Leaves, Untouched, IsDurable, Remade, left_before, Reply, line_text, MadeFile, AreAmong, NamesOnce, Event, files_made, output, Step, steps_of, after_steps, acked_turns, acked_steps, Trail, StandsIn, front_more, front_behind, steps_length, steps_front, steps_behind, after_steps_append, turns_front, turns_behind, acked_steps_front, acked_steps_behind, turns_most, made_append, OfFiles, IsUnfinishedOr, Touched, MadeLeft, StopLeft, AreWhole}
+use Rattle.std.proofs.Common.{◌≡◌, ◌⊎◌, inl, inr, ℕ, ◌+◌, ◌-◌, ◌≤◌, List, ◌++◌, length, take, sym, ap, subst, ◌∙◌, arith, append_assoc, length-append, length-take, Contains, Some}
+use Rattle.nb_session.proofs.Common.{take-append-add, take-append-le, Contains-append_cases, File, Files, World, Leaves, Untouched, IsDurable, Remade, left_before, MadeFile, AreAmong, NamesOnce, Event, files_made, output, Step, steps_of, after_steps, acked_turns, acked_steps, Trail, StandsIn, front_more, front_behind, steps_length, steps_front, steps_behind, after_steps_append, turns_front, turns_behind, acked_steps_front, acked_steps_behind, turns_most, made_append, OfFiles, IsUnfinishedOr, Touched, MadeLeft, StopLeft, AreWhole}
 use Rattle.nb_change.specs.Changes.{Other}
 use Rattle.nb_session.proofs.MadeLaws.{named_tells, made_grow}
 
@@ -49,18 +49,6 @@ module _ (name : List ℕ) (few many : List MadeFile) (among : AreAmong few many
 
 part_fits : (part : List ℕ) (all : List ℕ) → part ≡ take (length part) all → length part ≤ length all
 part_fits part all is = omega (arith, ap length is, length-take (length part) all)
-
-    line : (whole : Bool) (n : ℕ) → n ≤ length es → elim whole as (λ z. ℕ) [ true ↦ suc n | false ↦ 0 ] ≤ suc (length es)
-    line true n most = omega arith
-    line false n most = omega arith
-
-    by : (reply : Option Reply) → ((n : ℕ) → acked_turns es n ≤ length es)
-        → elim reply as (λ z. ℕ) [
-          | None ↦ elim (acked_turns es said) as (λ z. ℕ) [ zero ↦ 0 | suc k ↦ suc (suc k) ]
-          | Some r ↦ elim (nat_le (length (line_text e.session r)) said) as (λ z. ℕ) [ true ↦ suc (acked_turns es (said - length (line_text e.session r))) | false ↦ 0 ]
-        ] ≤ suc (length es)
-    by None most = quiet (acked_turns es said) (most said)
-    by (Some r) most = line (nat_le (length (line_text e.session r)) said) (acked_turns es (said - length (line_text e.session r))) (most (said - length (line_text e.session r)))
 
 -- the files of the turns that are acknowledged once so much was said
 abbrev acked_files : List Event → (said : ℕ) → List MadeFile
