@@ -76,9 +76,11 @@ pub use Rattle.nb_page.specs.Quiet.{Quiet}
 pub use Rattle.nb_pip.proofs.BitLaws.{get_or-bits}
 unfoldable pub use Rattle.nb_pip.specs.Bits.{bits}
 pub use Rattle.nb_pip.specs.Bits.{AreUsed}
+pub use Rattle.nb_state.proofs.LooksLaws.{looks_begun, looks_then}
 pub use Rattle.nb_state.proofs.MakesLaws.{after_base, goes_nowhere, goes_on, makes_after, makes_before, makes_front, makes_none, makes_not, makes_then, none_refused, none_yet, where_ended}
 pub use Rattle.nb_state.proofs.TurnLaws.{unless_none}
 pub use Rattle.nb_state.specs.Does.{Answers, Does, Goes, Makes, Tested, WhereEnded, has_only_told, only_tells, unless_by}
+pub use Rattle.nb_state.specs.Looks.{Looks}
 pub use Rattle.nb_state.specs.Open.{Held, IsOpen, but_pages, name_of}
 pub use Rattle.std.proofs.Math.Nat.{div-mul-le_self, div-zero, lt-div-mul-add, mod-eq_of_lt, mul-add-mod_self_right, mul-div_cancel}
 pub use Rattle.std.proofs.lemmas.Bool.{and_left, and_parts, eq-eqb, eqb-true, lt-ltb, ltb-true, ne_eqb, or_cases, or_from, or_left, or_parts, or_right, true≢false}

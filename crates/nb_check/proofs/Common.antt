@@ -70,8 +70,10 @@ pub use Rattle.nb_page.specs.Quiet.{Quiet}
 pub use Rattle.nb_page.specs.declared.page.PageHead.{PageHead}
 pub use Rattle.nb_pip.proofs.BitLaws.{SetsBit, SetsBit-clear, SetsBit-or, get_or-bits}
 unfoldable pub use Rattle.nb_scn.specs.Entries.{entries}
+pub use Rattle.nb_state.proofs.LooksLaws.{looks_begun, looks_then}
 pub use Rattle.nb_state.proofs.MakesLaws.{goes_nowhere, goes_on, makes_front, makes_none, makes_then}
 pub use Rattle.nb_state.specs.Does.{Does, Goes, Makes, Tested, unless_by}
+pub use Rattle.nb_state.specs.Looks.{Looks}
 pub use Rattle.nb_state.specs.Open.{Held, IsOpen, but_pages}
 pub use Rattle.nb_walk.proofs.SlotLaws.{slot_inside, slots_step}
 pub use Rattle.nb_walk.proofs.WalkLaws.{Walks, so, walks_all, walks_broken, walks_first, walks_length, walks_next, walks_none, walks_over, walks_split}

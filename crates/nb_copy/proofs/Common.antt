@@ -102,6 +102,7 @@ pub use Rattle.nb_page.proofs.BlankLaws.{blank_free, blank_left}
 unfoldable pub use Rattle.nb_page.specs.Free.{is_free_name}
 pub use Rattle.nb_page.specs.Quiet.{Quiet}
 unfoldable pub use Rattle.nb_scn.specs.Entries.{entries}
+pub use Rattle.nb_state.proofs.LooksLaws.{looks_quiet, looks_then}
 pub use Rattle.nb_state.proofs.MakesLaws.{after_base, goes_nowhere, goes_on, open_quiet, open_running, open_still, still_open}
 pub use Rattle.nb_state.proofs.ShownLaws.{open_beside}
 pub use Rattle.nb_state.proofs.TurnLaws.{given_guid, still_struck, struck_front, unless_none}

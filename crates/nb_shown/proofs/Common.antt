@@ -21,7 +21,9 @@ pub use Rattle.nb_page.specs.Quiet.{Quiet}
 pub use Rattle.nb_shown.specs.Counts.{counts_below, inventories_below, is_taken_of, one_if, sum_of, with_page}
 pub use Rattle.nb_shown.specs.Replies.{bytes_of_image, image_shown, pages_shown}
 pub use Rattle.nb_shown.specs.declared.counts.PageCounts.{PageCounts}
+pub use Rattle.nb_state.proofs.LooksLaws.{looks_begun, looks_then}
 pub use Rattle.nb_state.proofs.MakesLaws.{goes_nowhere}
+pub use Rattle.nb_state.specs.Looks.{Looks}
 pub use Rattle.nb_state.specs.Open.{Held, IsOpen, but_pages}
 pub use Rattle.sha2.specs.Hashers.{Holds256}
 pub use Rattle.std.proofs.Math.Nat.{le-div_iff_mul-le}

@@ -21,6 +21,7 @@ pub use Rattle.nb_fields.specs.States.{merge_state, normal_state, stalled_state}
 pub use Rattle.nb_host.specs.Calls.{IsStill}
 pub use Rattle.nb_host.specs.Faults.{as_answer, as_fault}
 pub use Rattle.nb_host.specs.Files.{File, Files, bytes_of}
+pub use Rattle.nb_host.specs.Moments.{IsTimely}
 pub use Rattle.nb_host.specs.World.{World}
 pub use Rattle.nb_host.specs.declared.faults.Fault.{Fault}
 pub use Rattle.nb_host.specs.declared.faults.Fault.TheVariants.{Device, Memory, Refused}
@@ -46,8 +47,10 @@ unfoldable pub use Rattle.nb_model.specs.Trail.{after_stroke}
 pub use Rattle.nb_model.specs.Trail.{ShowsIn, StandsIn, Trail, settled}
 pub use Rattle.nb_owner.proofs.WaitLaws.{files_open, files_shown, open_of, open_settled, settled_none}
 pub use Rattle.nb_owner.specs.Open.{AreOf, Pages, but_drafts}
+pub use Rattle.nb_page.proofs.QuietLaws.{quiet_begun, quiet_joined}
 pub use Rattle.nb_page.specs.Quiet.{Quiet}
 pub use Rattle.nb_state.specs.Does.{Goes, Makes, Tested, WhereEnded, unless_by}
+pub use Rattle.nb_state.specs.Looks.{Looks}
 pub use Rattle.nb_state.specs.Open.{AgreesWith, HasBlock, Held, IsOpen, NoPageWaits, but_pages, name_of, pair_of}
 pub use Rattle.nb_state.specs.Turns.{Begins, Ends, Merges, begin_cause, end_cause}
 pub use Rattle.std.proofs.lemmas.Bool.{eq-eqb, ne_eqb}

@@ -1,4 +1,5 @@
 pub mod MakesLaws
+pub mod LooksLaws
 pub mod TestLaws
 pub mod ShownLaws
 pub mod AgreeLaws

@@ -60,9 +60,11 @@ pub use Rattle.nb_model.specs.Trail.{Trail}
 pub use Rattle.nb_model.specs.declared.reply.Reply.TheVariants.{Done, Refused, Value}
 pub use Rattle.nb_page.proofs.QuietLaws.{quiet_begun, quiet_joined}
 pub use Rattle.nb_page.specs.Quiet.{Quiet}
+pub use Rattle.nb_state.proofs.LooksLaws.{looks_begun, looks_then}
 pub use Rattle.nb_state.proofs.MakesLaws.{goes_nowhere, goes_on, makes_after, makes_front, makes_none, makes_then}
 pub use Rattle.nb_state.proofs.TurnLaws.{unless_none}
 pub use Rattle.nb_state.specs.Does.{Does, Goes, Makes, Tested}
+pub use Rattle.nb_state.specs.Looks.{Looks}
 pub use Rattle.nb_state.specs.Open.{Held, IsOpen, but_pages}
 pub use Rattle.nb_table.specs.Creates.{created_behind, created_in, first_made, new_cause}
 pub use Rattle.nb_table.specs.Drops.{IsGivable, IsWholeTable, drop_broken, dropped}

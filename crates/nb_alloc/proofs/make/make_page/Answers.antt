@@ -7,7 +7,7 @@ use Rattle.nb_alloc.proofs.make.make_page.Goals as goal
 
 pub returns-in_err-take_old-clause-tries : goal.returns-in_err-take_old-clause-tries
 returns-in_err-take_old-clause-tries g c t tells is =
-    tries_fault _ _ _ _ _ t (entry_cause t.base.image c.args.number) _ c.from_residual.ensures c.in_err-take_old.ensures.same c.in_err-take_old.ensures.quiet is
+    tries_fault _ _ _ _ _ t (entry_cause t.base.image c.args.number) _ c.from_residual.ensures c.in_err-take_old.ensures.looks.same c.in_err-take_old.ensures.looks.quiet is
 
 pub returns-clause-tries : goal.returns-clause-tries
 returns-clause-tries g c t tells is =
@@ -19,8 +19,8 @@ returns-clause-tries g c t tells is =
     let filled : c.put_content.new.page ≡ with_payload (old_page p image) payload = c.put_content.ensures ∙ ap (λ (x : Page). with_payload x payload) page in
     let facts = size_facts (length c.args.page.now) c.requires.size in
     let room : 16 + length payload ≤ length (old_page p image) = omega (arith, content_short c.args.own c.args.payload.now p c.requires.owner, c.requires.short, ap length page, c.take_old.auto.into, facts.at_least) in
-    tries_after c.put_page.result _ (g.H.Host.world c.take_old.new.host) _ _ c.take_old.new.store _ t _ _ old.same old.quiet is
-    (c.put_page.ensures.tries t payload tells (old.open t tells is) room filled)
+    tries_after c.put_page.result _ (g.H.Host.world c.take_old.new.host) _ _ c.take_old.new.store _ t _ _ old.looks.same old.looks.quiet is
+    (c.put_page.ensures.tries t payload tells (old.looks.opened t tells is) room filled)
 
 pub put_page-requires-clause-inside : goal.put_page-requires-clause-inside
-put_page-requires-clause-inside g c = omega (arith, c.requires.inside, ap (λ (h : Held). h.files.count) c.in_ok-take_old.ensures.same)
+put_page-requires-clause-inside g c = omega (arith, c.requires.inside, ap (λ (h : Held). h.files.count) c.in_ok-take_old.ensures.looks.same)

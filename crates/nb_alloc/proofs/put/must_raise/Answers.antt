@@ -46,7 +46,7 @@ returns-clause-tells g c t tells is =
     let entry = entry-is image _ p c.covers-k.result.1 c.read.new.self size c.covers-k.ensures.index long c.covers-k.ensures.inside read in
     record {
       test = sym same ∙ reads.test;
-      value = ap (λ (n : ℕ). nat_lt n c.scn.result) (c.entry.ensures ∙ entry) ∙ ap (λ (n : ℕ). nat_lt (scn_entry image p) n) (c.scn.ensures ∙ ap (λ (h : _). h.scn) c.in_ok-read.ensures.same ∙ is.agrees.scn) ∙ sym (must_raise-is image p has);
+      value = ap (λ (n : ℕ). nat_lt n c.scn.result) (c.entry.ensures ∙ entry) ∙ ap (λ (n : ℕ). nat_lt (scn_entry image p) n) (c.scn.ensures ∙ ap (λ (h : _). h.scn) c.in_ok-read.ensures.looks.same ∙ is.agrees.scn) ∙ sym (must_raise-is image p has);
       page = λ e. read;
     }
 

@@ -40,13 +40,13 @@ returns-in_err-check_unless-clause-test g c t tells is =
     let at = (goal.at.returns-in_err-check_unless-clause-test g c).After-is_there in
     let none : is_kind t.base.image (system_kind t.base.image c.args.place) c.args.place ≡ false = sym (c.in_ok-there.ensures.value t tells is) ∙ c.if-there.false in
     tested_on (Unit {0}) (Unit {0}) _ _ _ _ c.from_residual-in_err-check_unless.ensures (λ r e. ap need_cause (own_asked _ _ _ (kept_there _ _ false (system g at t is) none)) ∙ e)
-    (c.in_err-check_unless.ensures.test t tells (c.in_ok-there.ensures.open t tells is))
+    (c.in_err-check_unless.ensures.test t tells (c.in_ok-there.ensures.looks.opened t tells is))
 
 pub returns-then-is_place-clause-test : goal.returns-then-is_place-clause-test
 returns-then-is_place-clause-test g c t tells is =
     let at = (goal.at.returns-then-is_place-clause-test g c).After-is_there in
     let none : is_kind t.base.image (system_kind t.base.image c.args.place) c.args.place ≡ false = sym (c.in_ok-there.ensures.value t tells is) ∙ c.if-there.false in
-    ap need_cause (own_asked _ _ _ (kept_there _ _ false (system g at t is) none)) ∙ c.in_ok-check_unless.ensures.test t tells (c.in_ok-there.ensures.open t tells is)
+    ap need_cause (own_asked _ _ _ (kept_there _ _ false (system g at t is) none)) ∙ c.in_ok-check_unless.ensures.test t tells (c.in_ok-there.ensures.looks.opened t tells is)
 
 pub returns-then-is_place-clause-made : goal.returns-then-is_place-clause-made
 returns-then-is_place-clause-made g c t tells is =
@@ -63,7 +63,7 @@ pub returns-clause-test : goal.returns-clause-test
 returns-clause-test g c t tells is =
     let at = (goal.at.returns-clause-test g c).After-is_there in
     let none : is_kind t.base.image (system_kind t.base.image c.args.place) c.args.place ≡ false = sym (c.in_ok-there.ensures.value t tells is) ∙ c.if-there.false in
-    ap need_cause (own_asked _ _ _ (kept_there _ _ false (system g at t is) none)) ∙ c.in_ok-check_unless.ensures.test t tells (c.in_ok-there.ensures.open t tells is)
+    ap need_cause (own_asked _ _ _ (kept_there _ _ false (system g at t is) none)) ∙ c.in_ok-check_unless.ensures.test t tells (c.in_ok-there.ensures.looks.opened t tells is)
 
 pub returns-clause-made : goal.returns-clause-made
 returns-clause-made g c t tells is =

@@ -11,4 +11,4 @@ returns-clause-map g c t tells is more =
 pub returns-clause-entries : goal.returns-clause-entries
 returns-clause-entries g c t tells is more =
     let valid : IsTrue (is_page_size (image_size t.base.image)) = subst (λ (s : ℕ). IsTrue (is_page_size s)) (c.page_size-size.ensures.value ∙ is.files.agrees.page_size) c.page_size-size.ensures.one_of in
-    c.in_ok-read_there-2.ensures.page t tells (c.in_ok-read_there.ensures.open t tells is) more ∙ ap (page_at t.base.image) (sym (first_entries_are (image_size t.base.image) valid))
+    c.in_ok-read_there-2.ensures.page t tells (c.in_ok-read_there.ensures.looks.opened t tells is) more ∙ ap (page_at t.base.image) (sym (first_entries_are (image_size t.base.image) valid))

@@ -1,5 +1,5 @@
 use Rattle.std.proofs.Common.{[], ◌∷◌, subst}
-use Rattle.nb_copy.proofs.Common.{LevelHead, Cause, first_cause, Tested, open_quiet, tested_on, earlier_cause, file_cause, first_here, on_ok}
+use Rattle.nb_copy.proofs.Common.{LevelHead, Cause, first_cause, Tested, open_quiet, looks_quiet, looks_then, tested_on, earlier_cause, file_cause, first_here, on_ok}
 use Rattle.nb_copy.proofs.StartCauses.{after_none}
 use Rattle.nb_copy.proofs.copier.check_start.Goals as goal
 
@@ -21,9 +21,8 @@ pub returns-clause-head : goal.returns-clause-head
 returns-clause-head g c t tells is =
     c.find.ensures.head t tells (open_quiet (g.H.Host.world c.args.host.now) (g.H.Host.world c.check_file.new.host) c.args.engine.now t c.check_file.ensures.quiet is)
 
-pub returns-clause-open : goal.returns-clause-open
-returns-clause-open g c t tells is =
-    c.find.ensures.open t tells (open_quiet (g.H.Host.world c.args.host.now) (g.H.Host.world c.check_file.new.host) c.args.engine.now t c.check_file.ensures.quiet is)
+pub returns-clause-looks : goal.returns-clause-looks
+returns-clause-looks g c = looks_then (looks_quiet c.check_file.ensures.quiet) c.find.ensures.looks
 
 pub returns-clause-free : goal.returns-clause-free
 returns-clause-free g c tells = on_ok c.find.result (c.in_ok-check_file.ensures.free tells)

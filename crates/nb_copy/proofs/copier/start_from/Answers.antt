@@ -94,51 +94,51 @@ made_since there made new a b d u name result session bare own plain is reads fi
 pub returns-in_err-head-clause-turn : goal.returns-in_err-head-clause-turn
 returns-in_err-head-clause-turn g c s t tells same runs is free plain given =
     let check = c.check_start.ensures in
-    failed_before c.from_residual.result c.in_err-head.field-0.0 _ _ c.args.engine.now c.check_start.new.engine t s c.args.session c.args.since c.args.name.now c.from_residual.ensures same runs is check.same check.quiet (check.open t tells is)
+    failed_before c.from_residual.result c.in_err-head.field-0.0 _ _ c.args.engine.now c.check_start.new.engine t s c.args.session c.args.since c.args.name.now c.from_residual.ensures same runs is check.looks.same check.looks.quiet (check.looks.opened t tells is)
     (c.in_err-head.ensures.test (record s { base = t.base }) t tells refl is (knows_seen (g.H.Host.world c.args.host.now).files s t.base c.args.name.now same free))
 
 pub returns-in_err-file-clause-turn : goal.returns-in_err-file-clause-turn
 returns-in_err-file-clause-turn g c s t tells same runs is free plain given =
     let check = c.check_start.ensures in
-    failed_before c.from_residual-in_err-file.result Memory _ _ c.args.engine.now c.check_start.new.engine t s c.args.session c.args.since c.args.name.now c.from_residual-in_err-file.ensures same runs is check.same check.quiet (check.open t tells is) tt
+    failed_before c.from_residual-in_err-file.result Memory _ _ c.args.engine.now c.check_start.new.engine t s c.args.session c.args.since c.args.name.now c.from_residual-in_err-file.ensures same runs is check.looks.same check.looks.quiet (check.looks.opened t tells is) tt
 
 pub returns-in_err-head-clause-asks : goal.returns-in_err-head-clause-asks
-returns-in_err-head-clause-asks g c t tells is = (replicate 16 0, refl, inl c.check_start.ensures.quiet.guids)
+returns-in_err-head-clause-asks g c t tells is = (replicate 16 0, refl, inl c.check_start.ensures.looks.quiet.guids)
 
 pub returns-in_err-file-clause-asks : goal.returns-in_err-file-clause-asks
-returns-in_err-file-clause-asks g c t tells is = (replicate 16 0, refl, inl c.check_start.ensures.quiet.guids)
+returns-in_err-file-clause-asks g c t tells is = (replicate 16 0, refl, inl c.check_start.ensures.looks.quiet.guids)
 
 pub returns-in_err-room-clause-turn : goal.returns-in_err-room-clause-turn
 returns-in_err-room-clause-turn g c s t tells same runs is free plain given =
     let check = c.in_ok-head.ensures in
-    roomless _ _ c.args.engine.now c.check_start.new.engine t s c.args.session c.args.since c.args.name.now same runs is check.same check.quiet (check.free tells) plain (check.test (record s { base = t.base }) t tells refl is (knows_seen (g.H.Host.world c.args.host.now).files s t.base c.args.name.now same free))
-    c.from_residual-in_err-room.result c.in_err-room.field-0.0 _ c.history_room.new.self c.from_residual-in_err-room.ensures (c.in_err-room.ensures.makes t tells (check.open t tells is))
+    roomless _ _ c.args.engine.now c.check_start.new.engine t s c.args.session c.args.since c.args.name.now same runs is check.looks.same check.looks.quiet (check.free tells) plain (check.test (record s { base = t.base }) t tells refl is (knows_seen (g.H.Host.world c.args.host.now).files s t.base c.args.name.now same free))
+    c.from_residual-in_err-room.result c.in_err-room.field-0.0 _ c.history_room.new.self c.from_residual-in_err-room.ensures (c.in_err-room.ensures.makes t tells (check.looks.opened t tells is))
 
 pub returns-in_err-room-clause-asks : goal.returns-in_err-room-clause-asks
 returns-in_err-room-clause-asks g c t tells is =
-    let here = c.check_start.ensures.open t tells is in
-    (replicate 16 0, refl, inl ((c.in_err-room.ensures.makes t tells here).makes.gave.guids ∙ c.check_start.ensures.quiet.guids))
+    let here = c.check_start.ensures.looks.opened t tells is in
+    (replicate 16 0, refl, inl ((c.in_err-room.ensures.makes t tells here).makes.gave.guids ∙ c.check_start.ensures.looks.quiet.guids))
 
 pub returns-in_err-make-clause-turn : goal.returns-in_err-make-clause-turn
 returns-in_err-make-clause-turn g c s t tells same runs is free plain given =
     let check = c.in_ok-head.ensures in
     let make = c.in_err-make.ensures in
-    unmade _ _ c.args.engine.now c.check_start.new.engine t s c.args.session c.args.since c.args.name.now same runs is check.same check.quiet (check.free tells) plain (check.test (record s { base = t.base }) t tells refl is (knows_seen (g.H.Host.world c.args.host.now).files s t.base c.args.name.now same free))
-    (g.H.Host.world c.history_room.new.host) (g.H.Host.world c.make.new.self) c.history_room.new.self c.in_ok-room.room (c.in_ok-room.ensures.makes t tells (check.open t tells is))
+    unmade _ _ c.args.engine.now c.check_start.new.engine t s c.args.session c.args.since c.args.name.now same runs is check.looks.same check.looks.quiet (check.free tells) plain (check.test (record s { base = t.base }) t tells refl is (knows_seen (g.H.Host.world c.args.host.now).files s t.base c.args.name.now same free))
+    (g.H.Host.world c.history_room.new.host) (g.H.Host.world c.make.new.self) c.history_room.new.self c.in_ok-room.room (c.in_ok-room.ensures.makes t tells (check.looks.opened t tells is))
     (remade_alone _ _ (g.H.Host.world c.history_room.new.host) (g.H.Host.world c.make.new.self) c.args.name.now _ IsEmpty tells (g.met.H.Host.timely _) make.files make.log.said make.time refl) (record { guids = make.log.guids; times = make.log.times }) (λ n. g.met.H.Host.reads_left _ tells n)
     c.from_residual-in_err-make.result c.from_residual-in_err-make.ensures
 
 pub returns-in_err-make-clause-asks : goal.returns-in_err-make-clause-asks
 returns-in_err-make-clause-asks g c t tells is =
-    let here = c.check_start.ensures.open t tells is in
-    (replicate 16 0, refl, inl (c.in_err-make.ensures.log.guids ∙ (c.in_ok-room.ensures.makes t tells here).makes.gave.guids ∙ c.check_start.ensures.quiet.guids))
+    let here = c.check_start.ensures.looks.opened t tells is in
+    (replicate 16 0, refl, inl (c.in_err-make.ensures.log.guids ∙ (c.in_ok-room.ensures.makes t tells here).makes.gave.guids ∙ c.check_start.ensures.looks.quiet.guids))
 
 pub returns-in_err-head-2-clause-turn : goal.returns-in_err-head-2-clause-turn
 returns-in_err-head-2-clause-turn g c s t tells same runs is free plain given =
     let check = c.in_ok-head.ensures in
     let make = c.in_ok-make.ensures in
-    unbegun _ _ c.args.engine.now c.check_start.new.engine t s c.args.session c.args.since c.args.name.now same runs is check.same check.quiet (check.free tells) plain (check.test (record s { base = t.base }) t tells refl is (knows_seen (g.H.Host.world c.args.host.now).files s t.base c.args.name.now same free))
-    (g.H.Host.world c.history_room.new.host) (g.H.Host.world c.make.new.self) c.history_room.new.self c.in_ok-room.room (c.in_ok-room.ensures.makes t tells (check.open t tells is))
+    unbegun _ _ c.args.engine.now c.check_start.new.engine t s c.args.session c.args.since c.args.name.now same runs is check.looks.same check.looks.quiet (check.free tells) plain (check.test (record s { base = t.base }) t tells refl is (knows_seen (g.H.Host.world c.args.host.now).files s t.base c.args.name.now same free))
+    (g.H.Host.world c.history_room.new.host) (g.H.Host.world c.make.new.self) c.history_room.new.self c.in_ok-room.room (c.in_ok-room.ensures.makes t tells (check.looks.opened t tells is))
     (remade_alone _ _ (g.H.Host.world c.history_room.new.host) (g.H.Host.world c.make.new.self) c.args.name.now _ IsEmpty tells (g.met.H.Host.timely _) make.files make.log.said make.time refl) (record { guids = make.log.guids; times = make.log.times }) (λ n. g.met.H.Host.reads_left _ tells n)
     (g.H.Host.world c.begin.new.host) c.begin.new.engine (is_made _ _ _ _ c.args.name.now tells make.files) (λ n. g.met.H.Host.reads_left _ tells n) c.in_ok-head.head given
     c.from_residual-in_err-head-2.result c.in_err-head-2.field-0.0 c.from_residual-in_err-head-2.ensures c.in_err-head-2.ensures.takes_none (λ opened late. c.in_err-head-2.ensures.begins (after_strokes t (room_in t.base.image).draft.strokes) (next_guid s.given) (Some (ask_in c.args.since t.base.image)) tells opened late)
@@ -146,21 +146,21 @@ returns-in_err-head-2-clause-turn g c s t tells same runs is free plain given =
 pub returns-in_err-head-2-clause-asks : goal.returns-in_err-head-2-clause-asks
 returns-in_err-head-2-clause-asks g c t tells is =
     let log = c.in_ok-make.ensures.log in
-    asked_before (g.H.Host.world c.args.host.now) (g.H.Host.world c.check_start.new.host) (g.H.Host.world c.history_room.new.host) (g.H.Host.world c.make.new.self) (g.H.Host.world c.begin.new.host) c.check_start.ensures.quiet
-    (c.in_ok-room.ensures.makes t tells (c.check_start.ensures.open t tells is)).makes.gave (record { guids = log.guids; times = log.times }) (c.begin.ensures.asks tells)
+    asked_before (g.H.Host.world c.args.host.now) (g.H.Host.world c.check_start.new.host) (g.H.Host.world c.history_room.new.host) (g.H.Host.world c.make.new.self) (g.H.Host.world c.begin.new.host) c.check_start.ensures.looks.quiet
+    (c.in_ok-room.ensures.makes t tells (c.check_start.ensures.looks.opened t tells is)).makes.gave (record { guids = log.guids; times = log.times }) (c.begin.ensures.asks tells)
 
 pub returns-clause-asks : goal.returns-clause-asks
 returns-clause-asks g c t tells is =
     let log = c.in_ok-make.ensures.log in
-    asked_before (g.H.Host.world c.args.host.now) (g.H.Host.world c.check_start.new.host) (g.H.Host.world c.history_room.new.host) (g.H.Host.world c.make.new.self) (g.H.Host.world c.begin.new.host) c.check_start.ensures.quiet
-    (c.in_ok-room.ensures.makes t tells (c.check_start.ensures.open t tells is)).makes.gave (record { guids = log.guids; times = log.times }) (c.begin.ensures.asks tells)
+    asked_before (g.H.Host.world c.args.host.now) (g.H.Host.world c.check_start.new.host) (g.H.Host.world c.history_room.new.host) (g.H.Host.world c.make.new.self) (g.H.Host.world c.begin.new.host) c.check_start.ensures.looks.quiet
+    (c.in_ok-room.ensures.makes t tells (c.check_start.ensures.looks.opened t tells is)).makes.gave (record { guids = log.guids; times = log.times }) (c.begin.ensures.asks tells)
 
 pub returns-clause-turn : goal.returns-clause-turn
 returns-clause-turn g c s t tells same runs is free plain given =
     let check = c.in_ok-head.ensures in
     let make = c.in_ok-make.ensures in
-    let here = check.open t tells is in
-    begun _ _ c.args.engine.now c.check_start.new.engine t s c.args.session c.args.since c.args.name.now same runs is check.same check.quiet (check.free tells) plain (check.test (record s { base = t.base }) t tells refl is (knows_seen (g.H.Host.world c.args.host.now).files s t.base c.args.name.now same free))
+    let here = check.looks.opened t tells is in
+    begun _ _ c.args.engine.now c.check_start.new.engine t s c.args.session c.args.since c.args.name.now same runs is check.looks.same check.looks.quiet (check.free tells) plain (check.test (record s { base = t.base }) t tells refl is (knows_seen (g.H.Host.world c.args.host.now).files s t.base c.args.name.now same free))
     (g.H.Host.world c.history_room.new.host) (g.H.Host.world c.make.new.self) c.history_room.new.self c.in_ok-room.room (c.in_ok-room.ensures.makes t tells here)
     (remade_alone _ _ (g.H.Host.world c.history_room.new.host) (g.H.Host.world c.make.new.self) c.args.name.now _ IsEmpty tells (g.met.H.Host.timely _) make.files make.log.said make.time refl) (record { guids = make.log.guids; times = make.log.times }) (λ n. g.met.H.Host.reads_left _ tells n)
     (g.H.Host.world c.begin.new.host) c.begin.new.engine (is_made _ _ _ _ c.args.name.now tells make.files) (λ n. g.met.H.Host.reads_left _ tells n) c.in_ok-head.head given
@@ -172,32 +172,32 @@ pub returns-clause-its_level : goal.returns-clause-its_level
 returns-clause-its_level g c = subst (IsItsLevel c.args.since) (sym c.in_ok-head-2.ensures.level) c.in_ok-head.ensures.its_level
 
 pub returns-in_err-head-clause-made_first : goal.returns-in_err-head-clause-made_first
-returns-in_err-head-clause-made_first g c t tells is plain = let check = c.in_err-head.ensures in inl (quiet_gave _ _ check.quiet, goes_nowhere _ _ check.same)
+returns-in_err-head-clause-made_first g c t tells is plain = let check = c.in_err-head.ensures in inl (quiet_gave _ _ check.looks.quiet, goes_nowhere _ _ check.looks.same)
 
 pub returns-in_err-file-clause-made_first : goal.returns-in_err-file-clause-made_first
-returns-in_err-file-clause-made_first g c t tells is plain = let check = c.in_ok-head.ensures in inl (quiet_gave _ _ check.quiet, goes_nowhere _ _ check.same)
+returns-in_err-file-clause-made_first g c t tells is plain = let check = c.in_ok-head.ensures in inl (quiet_gave _ _ check.looks.quiet, goes_nowhere _ _ check.looks.same)
 
 pub returns-in_err-room-clause-made_first : goal.returns-in_err-room-clause-made_first
 returns-in_err-room-clause-made_first g c t tells is plain =
     let check = c.in_ok-head.ensures in
-    let makes = (c.in_err-room.ensures.makes t tells (check.open t tells is)).makes in
-    inl (nothing_joined _ _ _ (quiet_gave _ _ check.quiet) makes.gave, goes_on _ _ _ (goes_nowhere _ _ check.same) makes.goes)
+    let makes = (c.in_err-room.ensures.makes t tells (check.looks.opened t tells is)).makes in
+    inl (nothing_joined _ _ _ (quiet_gave _ _ check.looks.quiet) makes.gave, goes_on _ _ _ (goes_nowhere _ _ check.looks.same) makes.goes)
 
 pub returns-in_err-make-clause-made_first : goal.returns-in_err-make-clause-made_first
 returns-in_err-make-clause-made_first g c t tells is plain =
     let check = c.in_ok-head.ensures in
     let log = c.in_err-make.ensures.log in
-    let makes = (c.in_ok-room.ensures.makes t tells (check.open t tells is)).makes in
-    inl (nothing_joined _ _ _ (nothing_joined _ _ _ (quiet_gave _ _ check.quiet) makes.gave) (record { guids = log.guids; times = log.times }), goes_on _ _ _ (goes_nowhere _ _ check.same) makes.goes)
+    let makes = (c.in_ok-room.ensures.makes t tells (check.looks.opened t tells is)).makes in
+    inl (nothing_joined _ _ _ (nothing_joined _ _ _ (quiet_gave _ _ check.looks.quiet) makes.gave) (record { guids = log.guids; times = log.times }), goes_on _ _ _ (goes_nowhere _ _ check.looks.same) makes.goes)
 
 pub returns-in_err-head-2-clause-made_first : goal.returns-in_err-head-2-clause-made_first
 returns-in_err-head-2-clause-made_first g c t tells is plain =
     let check = c.in_ok-head.ensures in
     let make = c.in_ok-make.ensures in
-    let makes = (c.in_ok-room.ensures.makes t tells (check.open t tells is)).makes in
+    let makes = (c.in_ok-room.ensures.makes t tells (check.looks.opened t tells is)).makes in
     let fault = c.in_err-head-2.field-0.0 in
     let sure = subst (λ (r : Result Backed Fault). IsNotMemory r) (sym (passed_on c.from_residual-in_err-head-2.result fault c.from_residual-in_err-head-2.ensures)) c.in_err-head-2.ensures.takes_none in
-    inr (made_since (g.H.Host.world c.history_room.new.host) (g.H.Host.world c.make.new.self) (g.H.Host.world c.begin.new.host) c.args.engine.now c.history_room.new.self c.begin.new.engine _ c.args.name.now (Err fault) c.args.session c.in_ok-head.head (makes.goes.name ∙ ap name_of check.same)
+    inr (made_since (g.H.Host.world c.history_room.new.host) (g.H.Host.world c.make.new.self) (g.H.Host.world c.begin.new.host) c.args.engine.now c.history_room.new.self c.begin.new.engine _ c.args.name.now (Err fault) c.args.session c.in_ok-head.head (makes.goes.name ∙ ap name_of check.looks.same)
     (free_apart (g.H.Host.world c.args.host.now) c.args.engine.now t c.args.name.now is (check.free tells) plain) makes.opened (λ n. g.met.H.Host.reads_left _ tells n) (remade_alone _ _ (g.H.Host.world c.history_room.new.host) (g.H.Host.world c.make.new.self) c.args.name.now _ IsEmpty tells (g.met.H.Host.timely _) make.files make.log.said make.time refl)
     (is_made _ _ _ _ c.args.name.now tells make.files) (c.begin.ensures.asks tells) (λ guid opened given. c.in_err-head-2.ensures.begins _ guid None tells opened given), sure)
 
@@ -205,7 +205,7 @@ pub returns-clause-made_first : goal.returns-clause-made_first
 returns-clause-made_first g c t tells is plain =
     let check = c.in_ok-head.ensures in
     let make = c.in_ok-make.ensures in
-    let makes = (c.in_ok-room.ensures.makes t tells (check.open t tells is)).makes in
-    inr (made_since (g.H.Host.world c.history_room.new.host) (g.H.Host.world c.make.new.self) (g.H.Host.world c.begin.new.host) c.args.engine.now c.history_room.new.self c.begin.new.engine _ c.args.name.now (Ok c.in_ok-head-2.head) c.args.session c.in_ok-head.head (makes.goes.name ∙ ap name_of check.same)
+    let makes = (c.in_ok-room.ensures.makes t tells (check.looks.opened t tells is)).makes in
+    inr (made_since (g.H.Host.world c.history_room.new.host) (g.H.Host.world c.make.new.self) (g.H.Host.world c.begin.new.host) c.args.engine.now c.history_room.new.self c.begin.new.engine _ c.args.name.now (Ok c.in_ok-head-2.head) c.args.session c.in_ok-head.head (makes.goes.name ∙ ap name_of check.looks.same)
     (free_apart (g.H.Host.world c.args.host.now) c.args.engine.now t c.args.name.now is (check.free tells) plain) makes.opened (λ n. g.met.H.Host.reads_left _ tells n) (remade_alone _ _ (g.H.Host.world c.history_room.new.host) (g.H.Host.world c.make.new.self) c.args.name.now _ IsEmpty tells (g.met.H.Host.timely _) make.files make.log.said make.time refl)
     (is_made _ _ _ _ c.args.name.now tells make.files) (c.begin.ensures.asks tells) (λ guid opened given. c.in_ok-head-2.ensures.begins _ guid None tells opened given), tt)

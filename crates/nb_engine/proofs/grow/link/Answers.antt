@@ -10,7 +10,7 @@ returns-then-last-count-clause-tries g c t tells is =
     (quiet_begun w (g.met.H.Host.timely c.args.host.now)) is is
 
 pub returns-in_err-read-clause-tries : goal.returns-in_err-read-clause-tries
-returns-in_err-read-clause-tries g c t tells is = tries_fault _ _ _ _ _ t (write_cause t.base.image c.args.last) _ c.from_residual.ensures c.in_err-read.ensures.same c.in_err-read.ensures.quiet is
+returns-in_err-read-clause-tries g c t tells is = tries_fault _ _ _ _ _ t (write_cause t.base.image c.args.last) _ c.from_residual.ensures c.in_err-read.ensures.looks.same c.in_err-read.ensures.looks.quiet is
 
 pub returns-clause-tries : goal.returns-clause-tries
 returns-clause-tries g c t tells is =
@@ -29,8 +29,8 @@ returns-clause-tries g c t tells is =
     let filled : c.put.new.page ≡ with_payload (old_page p image) payload = now ∙ written_payload 16 bytes (page_at image p) (omega arith) inside long ∙ ap (λ (x : Page). with_payload x payload) (sym here) in
     let room : 16 + length payload ≤ length (old_page p image) = omega (arith, payload_inside 16 bytes (page_at image p) (omega arith) inside long, ap length here) in
     tries_named c.put_page.result _ _ _ _ t _ _ _ _ (write_low image p low) refl
-    (tries_after c.put_page.result _ (g.H.Host.world c.read.new.host) _ _ c.read.new.self _ t _ _ old.same old.quiet is
-    (c.put_page.ensures.tries t payload tells (old.open t tells is) room filled))
+    (tries_after c.put_page.result _ (g.H.Host.world c.read.new.host) _ _ c.read.new.self _ t _ _ old.looks.same old.looks.quiet is
+    (c.put_page.ensures.tries t payload tells (old.looks.opened t tells is) room filled))
 
 pub put_page-requires-clause-inside : goal.put_page-requires-clause-inside
-put_page-requires-clause-inside g c = omega (arith, c.count.ensures.value, c.if-last-count.false, ap (λ (h : Held). h.files.count) c.in_ok-read.ensures.same)
+put_page-requires-clause-inside g c = omega (arith, c.count.ensures.value, c.if-last-count.false, ap (λ (h : Held). h.files.count) c.in_ok-read.ensures.looks.same)

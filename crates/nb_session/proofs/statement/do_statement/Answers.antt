@@ -117,6 +117,6 @@ pub returns-in_ok-sha256-in-ShowImage-clause-turn : goal.returns-in_ok-sha256-in
 unfolding first_turn
 returns-in_ok-sha256-in-ShowImage-clause-turn g c now t session tells ready =
     let shown = c.in_ok-sha256-in-ShowImage.ensures in
-    let pages = c.count.ensures.value ∙ ap (λ (h : Held). h.files.count) shown.same in
+    let pages = c.count.ensures.value ∙ ap (λ (h : Held). h.files.count) shown.looks.same in
     does_replied (image_shown c.args.engine.now.files.count) (Ok c.in_ok-sha256-in-ShowImage.sha256) (Ok (ImageShown c.count.result c.in_ok-sha256-in-ShowImage.sha256)) (ap (λ (n : ℕ). ImageShown n c.in_ok-sha256-in-ShowImage.sha256) pages) _ _ _ _ t now session c.args.statement.now _ c.in-ShowImage.is refl refl refl _ refl ready
     (shown.turn (seen_now now) t tells ready.base ready.opened)

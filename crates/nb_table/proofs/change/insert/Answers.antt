@@ -10,7 +10,7 @@ returns-in_err-rows-clause-turn g c s t tells same is =
     let table : List ℕ = c.args.table.now in
     let text : List ℕ = c.args.text.now in
     let found = c.in_err-rows.ensures in
-    tested_does Rows (Unit {0}) done _ _ _ _ _ _ t s (λ (x : Seen). insert_turn x table c.args.key text) (rows_cause image (read_only image) table (too_long text)) c.from_residual.ensures same found.same found.quiet is (found.open t tells is)
+    tested_does Rows (Unit {0}) done _ _ _ _ _ _ t s (λ (x : Seen). insert_turn x table c.args.key text) (rows_cause image (read_only image) table (too_long text)) c.from_residual.ensures same found.looks.same found.looks.quiet is (found.looks.opened t tells is)
     (found.test t tells is) (insert_refused (seeing s t.base) table c.args.key text)
 
 pub returns-then-is_some-clause-turn : goal.returns-then-is_some-clause-turn
@@ -24,7 +24,7 @@ returns-then-is_some-clause-turn g c s t tells same is =
     let bytes : Slot = row_slot key text in
     let known : is_some (row_spot key (spots (RowsFrom rows.first) image)) ≡ true =
     sym (walked_key rows.first key (spots (RowsFrom rows.first) image) rows.walked (found.walked t tells is)) ∙ sym c.is_some.ensures ∙ c.if-is_some.true in
-    refused_does done (KeyExists key) _ _ _ _ t s (λ (x : Seen). insert_turn x table key text) same found.same found.quiet is (found.open t tells is)
+    refused_does done (KeyExists key) _ _ _ _ t s (λ (x : Seen). insert_turn x table key text) same found.looks.same found.looks.quiet is (found.looks.opened t tells is)
     (insert_goes (seeing s t.base) table key text (found.test t tells is) (spot_of rows.table) (found.table t tells is) rows.first found.first bytes refl ∙ key_known (seeing s t.base) (RowsFrom rows.first) key bytes known)
 
 pub returns-clause-turn : goal.returns-clause-turn
@@ -46,4 +46,4 @@ returns-clause-turn g c s t tells same is =
     let turn = insert_goes (seeing s t.base) table key text none (spot_of rows.table) at rows.first found.first bytes c.row_bytes-bytes.ensures ∙ key_new (seeing s t.base) chain key bytes new in
     let into = place_slot chain (found_pages chain image) bytes (drafted image) in
     tries_does done c.add_slot.result _ _ _ _ t s (λ (x : Seen). insert_turn x table key text) (place_cause chain image bytes) Done refl into.strokes same turn (said c.add_slot.result)
-    (tries_after c.add_slot.result _ _ _ _ _ _ t (place_cause chain image bytes) into.strokes found.same found.quiet is (c.add_slot.ensures.tries t chain tells (found.open t tells is) refl formed room (found.last t tells is)))
+    (tries_after c.add_slot.result _ _ _ _ _ _ t (place_cause chain image bytes) into.strokes found.looks.same found.looks.quiet is (c.add_slot.ensures.tries t chain tells (found.looks.opened t tells is) refl formed room (found.last t tells is)))

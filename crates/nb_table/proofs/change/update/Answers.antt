@@ -9,7 +9,7 @@ returns-in_err-rows-clause-turn g c s t tells same is =
     let image = t.base.image in
     let table : List ℕ = c.args.table.now in
     let found = c.in_err-rows.ensures in
-    tested_does Rows (Unit {0}) done _ _ _ _ _ _ t s (λ (x : Seen). update_turn x table c.args.key c.args.text.now) (rows_cause image (read_only image) table (too_long c.args.text.now)) c.from_residual.ensures same found.same found.quiet is (found.open t tells is)
+    tested_does Rows (Unit {0}) done _ _ _ _ _ _ t s (λ (x : Seen). update_turn x table c.args.key c.args.text.now) (rows_cause image (read_only image) table (too_long c.args.text.now)) c.from_residual.ensures same found.looks.same found.looks.quiet is (found.looks.opened t tells is)
     (found.test t tells is) (update_refused (seeing s t.base) table c.args.key c.args.text.now)
 
 pub returns-clause-turn : goal.returns-clause-turn
@@ -26,5 +26,5 @@ returns-clause-turn g c s t tells same is =
     let formed = chain_formed_from image (read_only image) table (too_long text) none (spot_of rows.table) at rows.first found.first in
     let row = walked_found rows.first key (spots chain image) rows.walked (found.walked t tells is) in
     let now = seeing s t.base in
-    table_does done c.put_found.result _ _ _ _ _ _ t s (λ (x : Seen). update_turn x table key text) same found.same found.quiet is (in_row now chain key c.row_bytes-bytes.result)
-    (update_goes now table key text none (spot_of rows.table) at rows.first found.first c.row_bytes-bytes.result c.row_bytes-bytes.ensures) (c.put_found.ensures.turn now t chain tells refl (found.open t tells is) formed row)
+    table_does done c.put_found.result _ _ _ _ _ _ t s (λ (x : Seen). update_turn x table key text) same found.looks.same found.looks.quiet is (in_row now chain key c.row_bytes-bytes.result)
+    (update_goes now table key text none (spot_of rows.table) at rows.first found.first c.row_bytes-bytes.result c.row_bytes-bytes.ensures) (c.put_found.ensures.turn now t chain tells refl (found.looks.opened t tells is) formed row)

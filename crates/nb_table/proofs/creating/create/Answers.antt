@@ -20,7 +20,7 @@ returns-in_err-free-clause-turn g c s t tells same is =
     let table : List ℕ = c.args.table.now in
     let closed : c.is_read_only.result ≡ is_read_only image = c.is_read_only.ensures ∙ ap (λ (h : Held). h.read_only) c.store.ensures ∙ is.agrees.read_only in
     let tests = c.in_err-free.ensures in
-    tested_does (Option Place × ℕ) (Unit {0}) done _ _ _ _ _ _ t s (λ (x : Seen). create_turn x table) (new_cause image table) c.from_residual-in_err-free.ensures same tests.same tests.quiet is (tests.open t tells is) (tests.test t tells is)
+    tested_does (Option Place × ℕ) (Unit {0}) done _ _ _ _ _ _ t s (λ (x : Seen). create_turn x table) (new_cause image table) c.from_residual-in_err-free.ensures same tests.looks.same tests.looks.quiet is (tests.looks.opened t tells is) (tests.test t tells is)
     (create_refused (seeing s t.base) table (c.in_ok-check_access.ensures.test image closed))
 
 pub returns-in-Some-clause-turn : goal.returns-in-Some-clause-turn
@@ -36,7 +36,7 @@ returns-in-Some-clause-turn g c s t tells same is =
     let made = created_in image table place in
     tries_does done c.create_in.result _ _ _ _ t s (λ (x : Seen). create_turn x table) (unmade image made) Done refl made.strokes same
     (create_at (seeing s t.base) table (c.in_ok-check_access.ensures.test image closed) new place at) (said c.create_in.result)
-    (tries_after c.create_in.result _ _ _ _ _ _ t (unmade image made) made.strokes tests.same tests.quiet is (c.create_in.ensures.tries t tells (tests.open t tells is) kind))
+    (tries_after c.create_in.result _ _ _ _ _ _ t (unmade image made) made.strokes tests.looks.same tests.looks.quiet is (c.create_in.ensures.tries t tells (tests.looks.opened t tells is) kind))
 
 pub returns-in-None-clause-turn : goal.returns-in-None-clause-turn
 returns-in-None-clause-turn g c s t tells same is =
@@ -50,7 +50,7 @@ returns-in-None-clause-turn g c s t tells same is =
     let made = created_behind image table in
     tries_does done c.create_behind.result _ _ _ _ t s (λ (x : Seen). create_turn x table) (unmade image made) Done refl made.strokes same
     (create_last (seeing s t.base) table (c.in_ok-check_access.ensures.test image closed) new (sym c.in-None.is ∙ tests.room t tells is)) (said c.create_behind.result)
-    (tries_after c.create_behind.result _ _ _ _ _ _ t (unmade image made) made.strokes tests.same tests.quiet is (c.create_behind.ensures.tries t tells (tests.open t tells is) (record { is = last; kind = kind })))
+    (tries_after c.create_behind.result _ _ _ _ _ _ t (unmade image made) made.strokes tests.looks.same tests.looks.quiet is (c.create_behind.ensures.tries t tells (tests.looks.opened t tells is) (record { is = last; kind = kind })))
 
 pub create_behind-requires-clause-name : goal.create_behind-requires-clause-name
 create_behind-requires-clause-name g c = omega (arith, name_short c.args.table.now c.as_str-name.ensures.name)

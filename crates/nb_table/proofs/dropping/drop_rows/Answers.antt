@@ -16,7 +16,7 @@ returns-in_err-check_drop-clause-tries g c t table tells is has =
     let check = c.in_err-check_drop.ensures in
     tries_early (Unit {0}) (Unit {0}) _ _ _ _ _ _ t (lowest_broken (drop_broken image pages (entry_broken image spot.page))) (not_of_form (dropped image spot)) (dropped image spot).strokes c.from_residual.ensures
     (λ r e. drop_cause image header shaped table spot has ∙ e)
-    (check.test t pages tells is (its_chain t header shaped table spot has c.args.rows.now.first c.requires.first)) check.same check.quiet is (check.open t tells is)
+    (check.test t pages tells is (its_chain t header shaped table spot has c.args.rows.now.first c.requires.first)) check.looks.same check.looks.quiet is (check.looks.opened t tells is)
 
 pub returns-in_err-put_slot-clause-tries : goal.returns-in_err-put_slot-clause-tries
 returns-in_err-put_slot-clause-tries g c t table tells is has =
@@ -33,9 +33,9 @@ returns-in_err-put_slot-clause-tries g c t table tells is has =
     let shaped = shaped_of _ _ t is size (table_least image table spot has) in
     let check = c.in_ok-check_drop.ensures in
     let none = check.test t pages tells is (its_chain t header shaped table spot has c.args.rows.now.first c.requires.first) in
-    let still = check.open t tells is in
+    let still = check.looks.opened t tells is in
     tries_passed c.from_residual-in_err-put_slot.result fault (λ r. Tries r w new c.args.engine.now c.put_slot.new.engine t (not_of_form (dropped image spot)) (dropped image spot).strokes) c.from_residual-in_err-put_slot.ensures
-    (tries_after {T = Unit {0}} (Err fault) w mid new c.args.engine.now c.check_drop.new.engine c.put_slot.new.engine t (not_of_form (dropped image spot)) (dropped image spot).strokes check.same check.quiet is
+    (tries_after {T = Unit {0}} (Err fault) w mid new c.args.engine.now c.check_drop.new.engine c.put_slot.new.engine t (not_of_form (dropped image spot)) (dropped image spot).strokes check.looks.same check.looks.quiet is
     (drop_front t header shaped table spot has none fault mid new c.check_drop.new.engine c.put_slot.new.engine (c.in_err-put_slot.ensures.tries t tells still (its_kind t header shaped table spot has))))
 
 pub returns-clause-tries : goal.returns-clause-tries
@@ -54,9 +54,9 @@ returns-clause-tries g c t table tells is has =
     let shaped = shaped_of _ _ t is size (table_least image table spot has) in
     let check = c.in_ok-check_drop.ensures in
     let none = check.test t pages tells is (its_chain t header shaped table spot has first c.requires.first) in
-    let still = check.open t tells is in
+    let still = check.looks.opened t tells is in
     let one = c.in_ok-put_slot.ensures.tries t tells still (its_kind t header shaped table spot has) in
-    tries_after c.give_all_back.result w mid new c.args.engine.now c.check_drop.new.engine c.give_all_back.new.engine t (not_of_form (dropped image spot)) (dropped image spot).strokes check.same check.quiet is
+    tries_after c.give_all_back.result w mid new c.args.engine.now c.check_drop.new.engine c.give_all_back.new.engine t (not_of_form (dropped image spot)) (dropped image spot).strokes check.looks.same check.looks.quiet is
     (drop_then t header shaped table spot has none c.give_all_back.result mid then new c.check_drop.new.engine c.put_slot.new.engine c.give_all_back.new.engine one
     (c.give_all_back.ensures.tries _ pages tells (drop_opened t header shaped table spot has none mid then c.check_drop.new.engine c.put_slot.new.engine one)
     (drop_shaped t header shaped table spot has none) (drop_chain t header shaped table spot has none first c.requires.first) (drop_givable t header shaped table spot has none)))

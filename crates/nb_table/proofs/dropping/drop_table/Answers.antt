@@ -9,7 +9,7 @@ returns-in_err-rows-clause-turn g c s t tells same is =
     let image = t.base.image in
     let table : List ℕ = c.args.table.now in
     let found = c.in_err-rows.ensures in
-    tested_does Rows (Unit {0}) done _ _ _ _ _ _ t s (λ (x : Seen). drop_turn x table) (rows_cause image (read_only image) table (too_long [])) c.from_residual.ensures same found.same found.quiet is (found.open t tells is)
+    tested_does Rows (Unit {0}) done _ _ _ _ _ _ t s (λ (x : Seen). drop_turn x table) (rows_cause image (read_only image) table (too_long [])) c.from_residual.ensures same found.looks.same found.looks.quiet is (found.looks.opened t tells is)
     (found.test t tells is) (drop_refused (seeing s t.base) table)
 
 pub returns-clause-turn : goal.returns-clause-turn
@@ -27,5 +27,5 @@ returns-clause-turn g c s t tells same is =
     let whole = dropped image spot in
     tries_does done c.drop_rows.result w new c.args.engine.now c.drop_rows.new.engine t s (λ (x : Seen). drop_turn x table) (not_of_form whole) Done refl whole.strokes same
     (drop_says now table none spot has) (said c.drop_rows.result)
-    (tries_after c.drop_rows.result w mid new c.args.engine.now c.find_rows.new.engine c.drop_rows.new.engine t (not_of_form whole) whole.strokes found.same found.quiet is
-    (c.drop_rows.ensures.tries t table tells (found.open t tells is) has))
+    (tries_after c.drop_rows.result w mid new c.args.engine.now c.find_rows.new.engine c.drop_rows.new.engine t (not_of_form whole) whole.strokes found.looks.same found.looks.quiet is
+    (c.drop_rows.ensures.tries t table tells (found.looks.opened t tells is) has))

@@ -21,7 +21,7 @@ returns-in_err-first-clause-makes g c t chain pages tells is owner last is_data 
     let cause : unmade t.base.image grows ≡ behind_cause (new_behind chain slots t.base.image).0 c.args.last = grown_unmade t.base.image chain pages slots ready.1.long ∙ ap (behind_cause (new_behind chain slots t.base.image).0) (sym last) in
     let tests = c.in_err-first.ensures in
     tries_early ℕ ℕ _ _ _ _ _ _ t (behind_cause (new_behind chain slots t.base.image).0 c.args.last) (unmade t.base.image grows) _ c.from_residual.ensures (λ r e. cause ∙ e)
-    (tests.one t (λ p. data_payload 0 (owner_of chain) slots) tells ready.0 ready.1 short is_data refl) (tests.same ∙ ap but_pages c.self.view_is) tests.quiet is (tests.open t tells ready.0)
+    (tests.one t (λ p. data_payload 0 (owner_of chain) slots) tells ready.0 ready.1 short is_data refl) (tests.looks.same ∙ ap but_pages c.self.view_is) tests.looks.quiet is (tests.looks.opened t tells ready.0)
 
 pub returns-clause-makes : goal.returns-clause-makes
 returns-clause-makes g c t chain pages tells is owner last is_data =
@@ -33,11 +33,11 @@ returns-clause-makes g c t chain pages tells is owner last is_data =
     let cause : unmade t.base.image grows ≡ behind_cause (new_behind chain slots t.base.image).0 c.args.last = grown_unmade t.base.image chain pages slots ready.1.long ∙ ap (behind_cause (new_behind chain slots t.base.image).0) (sym last) in
     let tests = c.in_ok-first.ensures in
     let none = tests.one t (λ p. data_payload 0 (owner_of chain) slots) tells ready.0 ready.1 short is_data refl in
-    let still = tests.open t tells ready.0 in
+    let still = tests.looks.opened t tells ready.0 in
     let bytes = c.fill_payload.ensures ∙ ap (λ (n : ℕ). data_payload 0 n slots) owner in
     let new = g.H.Host.world c.grow_from.new.host in
     tries_named c.grow_from.result w new c.args.self.now c.grow_from.new.store t None (unmade t.base.image grows) grows.strokes grows.strokes (sym (cause ∙ none)) refl
-    (tries_after c.grow_from.result w (g.H.Host.world c.check_rooms.new.host) new _ _ _ t _ _ (tests.same ∙ ap but_pages c.self.view_is) tests.quiet is
+    (tries_after c.grow_from.result w (g.H.Host.world c.check_rooms.new.host) new _ _ _ t _ _ (tests.looks.same ∙ ap but_pages c.self.view_is) tests.looks.quiet is
     (c.grow_from.ensures.tries t chain pages slots tells still (record { at = tests.value t tells ready.0; holds = tests.map t tells ready.0 refl; searchable = ready.1; free = none; bytes = bytes }) last))
 
 pub returns-clause-value : goal.returns-clause-value
@@ -48,9 +48,9 @@ returns-clause-value g c t chain pages tells is owner is_data =
     let short : IsShort (λ p. data_payload 0 (owner_of chain) slots) = λ p. data_short (owner_of chain) slots c.requires.short in
     let tests = c.in_ok-first.ensures in
     let none = tests.one t (λ p. data_payload 0 (owner_of chain) slots) tells ready.0 ready.1 short is_data refl in
-    let still = tests.open t tells ready.0 in
+    let still = tests.looks.opened t tells ready.0 in
     let bytes = c.fill_payload.ensures ∙ ap (λ (n : ℕ). data_payload 0 n slots) owner in
     IfOk-weaker c.grow_from.result (IsGrown t.base.image chain pages slots) _ (λ number is. is.is) (c.grow_from.ensures.grown t chain pages slots tells still (record { at = tests.value t tells ready.0; holds = tests.map t tells ready.0 refl; searchable = ready.1; free = none; bytes = bytes }))
 
 pub grow_from-requires-clause-inside : goal.grow_from-requires-clause-inside
-grow_from-requires-clause-inside g c = omega (arith, c.in_ok-first.ensures.within (omega (arith, c.count-count.ensures.value, c.if-count-lt-FIRST_TO_GIVE.false)), ap (λ (h : Held). h.files.count) c.in_ok-first.ensures.same)
+grow_from-requires-clause-inside g c = omega (arith, c.in_ok-first.ensures.within (omega (arith, c.count-count.ensures.value, c.if-count-lt-FIRST_TO_GIVE.false)), ap (λ (h : Held). h.files.count) c.in_ok-first.ensures.looks.same)

@@ -18,7 +18,7 @@ returns-in_err-first-clause-makes g c t tells is =
     let made = new_data c.args.owner c.args.slots.now t.base.image in
     let short : IsShort (λ p. data_payload 0 (owner_by c.args.owner p) c.args.slots.now) = λ p. data_short (owner_by c.args.owner p) c.args.slots.now c.requires.short in
     let tests = c.in_err-first.ensures in
-    tries_early ℕ ℕ _ _ _ _ _ _ t (draft_cause made.0) (unmade t.base.image made.0) _ c.from_residual.ensures (λ r e. unmade_long t.base.image made.0 ready.1.long ∙ e) (tests.test t 5 _ tells ready.0 ready.1 short) (tests.same ∙ ap but_pages c.self.view_is) tests.quiet is (tests.open t tells ready.0)
+    tries_early ℕ ℕ _ _ _ _ _ _ t (draft_cause made.0) (unmade t.base.image made.0) _ c.from_residual.ensures (λ r e. unmade_long t.base.image made.0 ready.1.long ∙ e) (tests.test t 5 _ tells ready.0 ready.1 short) (tests.looks.same ∙ ap but_pages c.self.view_is) tests.looks.quiet is (tests.looks.opened t tells ready.0)
 
 pub returns-clause-makes : goal.returns-clause-makes
 returns-clause-makes g c t tells is =
@@ -33,8 +33,8 @@ returns-clause-makes g c t tells is =
     let new = g.H.Host.world c.make_new.new.host in
     let mid = g.H.Host.world c.check_new.new.host in
     let makes = subst (λ (m : Draft × ℕ). Tries c.make_new.result mid new c.check_new.new.store c.make_new.new.store t None m.0.strokes) same
-    (c.make_new.ensures.makes t tells (tests.open t tells ready.0) (tests.value t tells ready.0) (tests.map t tells ready.0) ready.1 room) in
-    tries_after c.make_new.result w mid new _ _ _ t _ _ (tests.same ∙ ap but_pages c.self.view_is) tests.quiet is
+    (c.make_new.ensures.makes t tells (tests.looks.opened t tells ready.0) (tests.value t tells ready.0) (tests.map t tells ready.0) ready.1 room) in
+    tries_after c.make_new.result w mid new _ _ _ t _ _ (tests.looks.same ∙ ap but_pages c.self.view_is) tests.looks.quiet is
     (tries_named c.make_new.result mid new c.check_new.new.store c.make_new.new.store t None (unmade t.base.image made.0) made.0.strokes made.0.strokes (sym (unmade_long t.base.image made.0 ready.1.long ∙ none)) refl makes)
 
 pub returns-clause-value : goal.returns-clause-value
@@ -45,7 +45,7 @@ returns-clause-value g c t tells is =
     let same = new_named c.args.owner c.is_none.result c.fill_payload.new.into c.args.slots.now c.is_none.ensures (c.fill_payload.ensures ∙ ap (λ (n : ℕ). data_payload 0 n c.args.slots.now) c.unwrap_or.ensures) t.base.image in
     let none = tests.test t 5 (λ p. data_payload 0 (owner_by c.args.owner p) c.args.slots.now) tells ready.0 ready.1 short in
     let room = subst (λ (m : Draft × ℕ). draft_cause m.0 ≡ None) (sym same) none in
-    subst (λ (m : Draft × ℕ). IfOk c.make_new.result (λ number. number ≡ m.1)) same (c.make_new.ensures.value t tells (tests.open t tells ready.0) (tests.value t tells ready.0) (tests.map t tells ready.0) ready.1 room)
+    subst (λ (m : Draft × ℕ). IfOk c.make_new.result (λ number. number ≡ m.1)) same (c.make_new.ensures.value t tells (tests.looks.opened t tells ready.0) (tests.value t tells ready.0) (tests.map t tells ready.0) ready.1 room)
 
 pub make_new-requires-clause-inside : goal.make_new-requires-clause-inside
-make_new-requires-clause-inside g c = omega (arith, c.in_ok-first.ensures.within (omega (arith, c.count-count.ensures.value, c.if-count-lt-FIRST_TO_GIVE.false)), ap (λ (h : Held). h.files.count) c.in_ok-first.ensures.same)
+make_new-requires-clause-inside g c = omega (arith, c.in_ok-first.ensures.within (omega (arith, c.count-count.ensures.value, c.if-count-lt-FIRST_TO_GIVE.false)), ap (λ (h : Held). h.files.count) c.in_ok-first.ensures.looks.same)

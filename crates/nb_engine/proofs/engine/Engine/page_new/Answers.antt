@@ -29,7 +29,7 @@ returns-in_err-first-clause-turn g c s t tells same is =
     let ready = ready_of _ _ _ t c.count-count.result c.self.view_is is c.self.invariant.0 c.count-count.ensures.value (omega (arith, c.if-count-lt-FIRST_TO_GIVE.false)) in
     let free : is_read_only t.base.image ≡ false = sym ready.0.agrees.read_only ∙ sym c.is_read_only.ensures ∙ c.if-is_read_only.false in
     let tests = c.in_err-first.ensures in
-    tested_does ℕ ℕ page_made _ _ _ _ _ _ t s new_turn (draft_cause (new_raw t.base.image).0) c.from_residual.ensures same (tests.same ∙ ap but_pages c.self.view_is) tests.quiet is (tests.open t tells ready.0)
+    tested_does ℕ ℕ page_made _ _ _ _ _ _ t s new_turn (draft_cause (new_raw t.base.image).0) c.from_residual.ensures same (tests.looks.same ∙ ap but_pages c.self.view_is) tests.looks.quiet is (tests.looks.opened t tells ready.0)
     (tests.test t 8 (λ p. text_payload []) tells ready.0 ready.1 empty_text) (new_refused (seeing s t.base) free ready.1.long)
 
 pub returns-clause-turn : goal.returns-clause-turn
@@ -40,10 +40,10 @@ returns-clause-turn g c s t tells same is =
     let tests = c.in_ok-first.ensures in
     let room = tests.test t 8 (λ p. text_payload []) tells ready.0 ready.1 empty_text in
     let for_zeros = tests.test t 8 (λ p. 0 ∷ 0 ∷ []) tells ready.0 ready.1 (λ p. omega arith) in
-    let made = c.make_new.ensures.makes t tells (tests.open t tells ready.0) (tests.value t tells ready.0) (tests.map t tells ready.0) ready.1 for_zeros in
+    let made = c.make_new.ensures.makes t tells (tests.looks.opened t tells ready.0) (tests.value t tells ready.0) (tests.map t tells ready.0) ready.1 for_zeros in
     made_does c.make_new.result w _ c.args.self.now c.make_new.new.store t s (new_raw t.base.image).1 (new_raw t.base.image).0.strokes same (new_says (seeing s t.base) free ready.1.long room)
-    (subst (λ (xs : List ℕ). IfOk c.make_new.result (λ number. number ≡ (new_of 8 (λ p. xs) t.base.image).1)) empty_is (c.make_new.ensures.value t tells (tests.open t tells ready.0) (tests.value t tells ready.0) (tests.map t tells ready.0) ready.1 for_zeros))
-    (tries_after c.make_new.result w _ _ _ _ _ t None (new_raw t.base.image).0.strokes (tests.same ∙ ap but_pages c.self.view_is) tests.quiet is
+    (subst (λ (xs : List ℕ). IfOk c.make_new.result (λ number. number ≡ (new_of 8 (λ p. xs) t.base.image).1)) empty_is (c.make_new.ensures.value t tells (tests.looks.opened t tells ready.0) (tests.value t tells ready.0) (tests.map t tells ready.0) ready.1 for_zeros))
+    (tries_after c.make_new.result w _ _ _ _ _ t None (new_raw t.base.image).0.strokes (tests.looks.same ∙ ap but_pages c.self.view_is) tests.looks.quiet is
     (subst (λ (xs : List ℕ). Tries c.make_new.result (g.H.Host.world c.check_new.new.host) (g.H.Host.world c.make_new.new.host) c.check_new.new.store c.make_new.new.store t None (new_of 8 (λ p. xs) t.base.image).0.strokes) empty_is made))
 
 pub returns-clause-once : goal.returns-clause-once
@@ -52,7 +52,7 @@ returns-clause-once g c t tells is =
     let tests = c.in_ok-first.ensures in
     let for_zeros = tests.test t 8 (λ p. 0 ∷ 0 ∷ []) tells ready.0 ready.1 (λ p. omega arith) in
     new_read c.make_new.result t.base.image c.in_ok-first.first (new_of 8 (λ p. 0 ∷ 0 ∷ []) t.base.image).1 _ _ _ (tests.value t tells ready.0)
-    (c.make_new.ensures.value t tells (tests.open t tells ready.0) (tests.value t tells ready.0) (tests.map t tells ready.0) ready.1 for_zeros) (tests.once t 8 (λ p. 0 ∷ 0 ∷ []) tells ready.0 ready.1 (λ p. omega arith)) (c.make_new.ensures.once tells)
+    (c.make_new.ensures.value t tells (tests.looks.opened t tells ready.0) (tests.value t tells ready.0) (tests.map t tells ready.0) ready.1 for_zeros) (tests.once t 8 (λ p. 0 ∷ 0 ∷ []) tells ready.0 ready.1 (λ p. omega arith)) (c.make_new.ensures.once tells)
 
 pub make_new-requires-clause-inside : goal.make_new-requires-clause-inside
-make_new-requires-clause-inside g c = omega (arith, c.in_ok-first.ensures.within (omega (arith, c.count-count.ensures.value, c.if-count-lt-FIRST_TO_GIVE.false)), ap (λ (h : Held). h.files.count) c.in_ok-first.ensures.same)
+make_new-requires-clause-inside g c = omega (arith, c.in_ok-first.ensures.within (omega (arith, c.count-count.ensures.value, c.if-count-lt-FIRST_TO_GIVE.false)), ap (λ (h : Held). h.files.count) c.in_ok-first.ensures.looks.same)
