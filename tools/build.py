@@ -3,76 +3,52 @@
 
     tools/build.py nb_cli bin/nehumiro
 
-It has `rt ci` prove a copy of those crates without their wrong bodies, so what is built is what was proved; what `rt ci` has proved before of the same
-files, here or as the gate, it takes. A line for each crate says how many of them stand. Where one isn't proved, what was said of it is printed, and no
-program is left.
+A line for each crate says how many of them stand. What was proved is kept in crates/NAME/out, so that the next time only the crates that changed are
+proved, and those above them. Where one isn't proved, what was said of it is printed, and no program is left.
 """
-
 import os
-import re
 import shutil
-import subprocess
 import sys
-import tempfile
+import threading
 
-STANDS = re.compile(r"rt: (\w+) (proved|is kept)\b")
-
-
-def libraries():
-    """What each crate of the repository stands on, by crates.txt."""
-    with open("crates.txt", encoding="utf-8") as lines:
-        rows = [line.split("#")[0].partition(":") for line in lines]
-    return {name.split()[0]: below.split() for name, _, below in rows if name.strip()}
+import rooms
 
 
-def below(name, known):
-    """The crate of that name and all below it."""
-    found = {name}
-    for it in known[name]:
-        if it in known:
-            found |= below(it, known)
-    return found
+class Progress:
+    """Says of each crate that it stands, and keeps what was said of those that don't."""
+
+    def __init__(self, count):
+        self.count, self.stand, self.failed, self.lock = count, 0, [], threading.Lock()
+
+    def __call__(self, name, stands, text):
+        with self.lock:
+            if not stands:
+                self.failed.append(f"{name}: not proved\n{text}")
+                return
+            self.stand += 1
+            print(f"[{self.stand} of {self.count}] {name} {'is proved' if text else 'was proved before'}", flush=True)
 
 
-def copy_crates(names, folder):
-    """Copies what a proof of these crates reads."""
-    for name in names:
-        shutil.copytree(f"crates/{name}", f"{folder}/crates/{name}", ignore=shutil.ignore_patterns("out", "must-fail", "wrong"))
-    shutil.copy("HANDLES", folder)
-    with open("crates.txt", encoding="utf-8") as lines, open(f"{folder}/crates.txt", "w", encoding="utf-8") as to:
-        to.writelines(line for line in lines if line.split(":")[0].split()[:1] and line.split(":")[0].split()[0] in names)
-
-
-def prove(folder, count):
-    """Runs the gate over the copy, and says of each crate that it stands. Answers what was said, where a crate doesn't."""
-    said, stand = [], 0
-    ran = subprocess.Popen(["rt", "ci"], cwd=folder, stdout=subprocess.PIPE, stderr=subprocess.STDOUT, stdin=subprocess.DEVNULL, text=True, errors="replace")
-    for line in ran.stdout:
-        said.append(line)
-        found = STANDS.match(line)
-        if found:
-            stand += 1
-            print(f"[{stand} of {count}] {found[1]} {'is proved' if found[2] == 'proved' else 'was proved before'}", flush=True)
-    return None if ran.wait() == 0 else "".join(said)
-
-
-def failures(said):
-    """What was said of the crates that aren't proved, or all, where it was something else."""
-    parts = [part for part in re.split(r"^(?=== )", said, flags=re.M) if "NOT PROVED" in part]
-    return "".join(parts) or said
+def build(program, to, progress):
+    """Proves the program over its libraries, and leaves it."""
+    with rooms.Room(program) as room:
+        # `rt` builds a program to run it: told nothing, it says how it is used.
+        _, text = room.rt("run")
+        made = f"{room.folder}/out/{program}"
+        stands = os.path.isfile(made)
+        progress(program, stands, text)
+        if stands:
+            room.hand_back()
+            os.makedirs(os.path.dirname(to) or ".", exist_ok=True)
+            shutil.copy(made, to)
 
 
 def main(program, to):
-    names = below(program, libraries())
-    with tempfile.TemporaryDirectory(prefix="build-") as folder:
-        copy_crates(names, folder)
-        said = prove(folder, len(names))
-        if said is not None:
-            print(failures(said), file=sys.stderr)
-            return 1
-        os.makedirs(os.path.dirname(to) or ".", exist_ok=True)
-        shutil.copy(f"{folder}/crates/{program}/out/{program}", to)
-    return 0
+    progress = Progress(len(rooms.below(program)) + 1)
+    if not rooms.prove(rooms.KNOWN[program], progress):
+        build(program, to, progress)
+    print("".join(progress.failed), file=sys.stderr, end="")
+    return 1 if progress.failed else 0
 
 
 if __name__ == "__main__":

@@ -1,5 +1,5 @@
 // What is wrong with one word of the command line.
-use nb_host::{DELTA_SUFFIX, MOST_BASE_NAME, MOST_NAME, Name};
+use nb_host::{DELTA_SUFFIX, MOST_BASE_NAME, MOST_NAME};
 use std::alloc::{AllocError, Global};
 
 /// How many characters of a word are shown at most.

@@ -1,35 +1,7 @@
 -- A page that is written after a search for new pages: what the search leaves of it.
-use Rattle.std.proofs.Common.{◌≡◌, ◌≢◌, ◌⊎◌, inl, inr, ℕ, ◌/◌, ◌<◌, ◌≤◌, List, [], ◌∷◌, length, refl, sym, ap, subst, ◌∙◌, arith}
-use Rattle.std.specs.Prelude.{Bool, true, false, not, ◌==◌, ◌||◌, nat_lt, min, IsTrue, Option, Some, None, Result, Ok, Err, IfOk, IfSome, unwrap_or}
-use Rattle.std.proofs.lemmas.Bool.{true≢false}
-use Rattle.std.proofs.lemmas.Bool.Decides.{eqb_tells, leb_tells}
-use Rattle.nb_fields.specs.Places.{is_page_size, entries_in, scn_place, is_inventory_place, is_scn_place, is_system_place, most_pages}
-use Rattle.nb_fields.specs.Kinds.{data_kind, scn_kind}
-use Rattle.nb_host.specs.declared.faults.Fault.{Fault}
-use Rattle.nb_host.specs.declared.faults.Fault.TheVariants.{Refused, Device, Memory}
-use Rattle.nb_host.specs.declared.refusals.Refusal.{Refusal}
-use Rattle.nb_host.specs.declared.refusals.Refusal.TheVariants.{NotDatabase, Full}
-use Rattle.nb_model.specs.Causes.{first_cause, lowest_of, lowest_broken}
-use Rattle.nb_model.specs.Image.{Image, image_size}
-use Rattle.nb_model.specs.Forms.{is_kind, other_kind, has_entry, scn_page_of}
-use Rattle.nb_model.specs.Way.{IsMadeBehind, same_made, made_here, IsFreshBehind, same_fresh, fresh_here}
-use Rattle.nb_model.proofs.ReadLaws.{eq_no, eq_yes}
-use Rattle.nb_model.proofs.SoundLaws.{scn_page_there, scn_place_some}
-use Rattle.nb_model.proofs.NewSound.{plain_place}
-use Rattle.nb_model.proofs.OnwardLaws.{kind_same}
-use Rattle.nb_model.proofs.StepLaws.{IsVisited, kind_parts, kind_from}
-use Rattle.nb_alloc.specs.declared.behind.Behind.{Behind}
-use Rattle.nb_alloc.specs.Behind.{judged, entry_broken, page_in, page_if, IsKnown, EndsAlike, passed, gone}
-use Rattle.nb_alloc.specs.Find.{need_cause}
+use Rattle.std.proofs.Common.{◌≡◌, ◌≢◌, ◌⊎◌, inl, inr, ℕ, ◌/◌, ◌<◌, ◌≤◌, List, [], ◌∷◌, length, refl, sym, ap, subst, ◌∙◌, arith, Bool, true, false, not, ◌==◌, ◌||◌, nat_lt, min, IsTrue, Option, Some, None, Result, Ok, Err, IfOk, IfSome}
+use Rattle.nb_alloc.proofs.Common.{unwrap_or, true≢false, eqb_tells, leb_tells, is_page_size, entries_in, scn_place, is_inventory_place, is_scn_place, is_system_place, most_pages, data_kind, scn_kind, Fault, Refused, Device, Memory, Refusal, NotDatabase, Full, first_cause, lowest_of, lowest_broken, Image, image_size, is_kind, other_kind, has_entry, scn_page_of, IsMadeBehind, same_made, made_here, IsFreshBehind, same_fresh, fresh_here, eq_no, eq_yes, scn_page_there, plain_place, kind_same, IsVisited, kind_parts, Behind, judged, entry_broken, page_in, page_if, IsKnown, EndsAlike, passed, gone, need_cause, scn_place-some, or_false, or_true, kind_found, none_some, some_none, some_same}
 use Rattle.nb_alloc.proofs.PlaceTests.{system_second}
-
-or_false : (t : Bool) → (t || false) ≡ t
-or_false true = refl
-or_false false = refl
-
-or_true : (t : Bool) → (t || true) ≡ true
-or_true true = refl
-or_true false = refl
 
 -- a page is of one kind
 pub one_kind : (x : Image) (a b p : ℕ) → a ≢ b → is_kind x a p ≡ true → is_kind x b p ≡ false
@@ -70,7 +42,7 @@ module _ (old now next : Image) (p kind : ℕ) (b : Behind) (known : IsKnown old
   next_size = on.size ∙ now_size
 
   here : is_kind next kind p ≡ true
-  here = kind_from next kind p (let long = on.long in omega (arith, long)) on.of_kind
+  here = kind_found next kind p (let long = on.long in omega (arith, long)) on.of_kind
 
   same : (k r : ℕ) → r ≢ p → is_kind next k r ≡ is_kind now k r
   same k r ne = kind_same now next p kind k r on there ne
@@ -87,16 +59,6 @@ module _ (old now next : Image) (p kind : ℕ) (b : Behind) (known : IsKnown old
 
   entry_place : entries ≡ p → is_scn_place (image_size old) p ≡ true
   entry_place e = ap (is_scn_place (image_size old)) (sym e) ∙ scn_page_there (image_size old) (b.page / entries_in (image_size old)) size
-
-  -- no page is named where none is broken
-  none_named : page_if (nat_lt 0 b.entry) b.entry ≡ [] → b.entry ≡ 0
-  none_named e = elim (leb_tells 1 b.entry) [
-    | inl w ↦ absurd (some_none b.entry (sym (ap (λ (t : Bool). page_if t b.entry) w.0) ∙ e))
-    | inr w ↦ omega (arith, w.1)
-  ]
-    where
-      some_none : (n : ℕ) → n ∷ [] ≡ [] → ⊥
-      some_none n h = cc
 
   -- no system page stands at page p, which becomes a data page
   pub known_plain : is_system_place (image_size old) p ≡ false → kind ≡ 5 → IsKnown old next b
@@ -242,7 +204,7 @@ pub known_lacking : (x : Image) (p : ℕ) (lacking : Option ℕ) → IsTrue (is_
     → IsKnown x x (record { page = p; entry = unwrap_or lacking 0; lost = false })
 known_lacking x p None size is broken at = known_begin x p 0 is (sym broken) (λ some. absurd (some refl))
 known_lacking x p (Some q) size is broken at =
-    let low = scn_place_some (image_size x) (p / entries_in (image_size x)) size in
+    let low = scn_place-some (image_size x) (p / entries_in (image_size x)) size in
     let positive : (nat_lt 0 q) ≡ true = elim (leb_tells 1 q) [ inl w ↦ w.0 | inr w ↦ absurd (omega (arith, w.1, low, at)) ] in
     known_begin x p q is (sym broken ∙ sym (ap (λ (t : Bool). page_if t q) positive)) (λ some. at)
 
@@ -250,10 +212,7 @@ known_lacking x p (Some q) size is broken at =
 pub judged_none : (page : ℕ) (pages : List ℕ) (full : Bool) → judged pages full ≡ None → judged (page ∷ pages) full ≡ Some (NotDatabase page)
 unfolding first_cause lowest_broken
 judged_none page [] full none = refl
-judged_none page (q ∷ qs) full none = absurd (some_none none)
-  where
-    some_none : Some (NotDatabase (lowest_of q qs)) ≡ None → ⊥
-    some_none e = cc
+judged_none page (q ∷ qs) full none = absurd (some_none (NotDatabase (lowest_of q qs)) none)
 
 pub lowest_min : (p q : ℕ) (qs : List ℕ) → lowest_of (min p q) qs ≡ min p (lowest_of q qs)
 lowest_min p q [] = refl
@@ -266,10 +225,7 @@ judged_page page other [] true some = absurd (other_cause some)
   where
     other_cause : Some (Full most_pages) ≡ Some (NotDatabase other) → ⊥
     other_cause e = cc
-judged_page page other [] false some = absurd (none_some some)
-  where
-    none_some : None ≡ Some (NotDatabase other) → ⊥
-    none_some e = cc
+judged_page page other [] false some = absurd (none_some (NotDatabase other) some)
 judged_page page other (q ∷ qs) full some = ap (λ (n : ℕ). Some (NotDatabase n)) (lowest_min page q qs ∙ ap (min page) (page_is some))
   where
     page_is : Some (NotDatabase (lowest_of q qs)) ≡ Some (NotDatabase other) → lowest_of q qs ≡ other
@@ -279,10 +235,7 @@ judged_page page other (q ∷ qs) full some = ap (λ (n : ℕ). Some (NotDatabas
 pub judged_other : (page : ℕ) (r : Refusal) (pages : List ℕ) (full : Bool) → ((other : ℕ) → r ≢ NotDatabase other) → judged pages full ≡ Some r → judged (page ∷ pages) full ≡ Some (NotDatabase page)
 unfolding first_cause lowest_broken
 judged_other page r [] full never some = refl
-judged_other page r (q ∷ qs) full never some = absurd (never (lowest_of q qs) (sym (same some)))
-  where
-    same : Some (NotDatabase (lowest_of q qs)) ≡ Some r → NotDatabase (lowest_of q qs) ≡ r
-    same e = cc
+judged_other page r (q ∷ qs) full never some = absurd (never (lowest_of q qs) (sym (some_same (NotDatabase (lowest_of q qs)) r some)))
 
 -- a page that was found to lack is the lowest of its list
 page_cause : (o : Option ℕ) → lowest_broken (page_in o) ≡ need_cause o

@@ -1,14 +1,7 @@
 -- The first of a turn's causes, and the turn that it makes.
-use Rattle.std.proofs.Common.{◌≡◌, List, [], ◌∷◌, ◌++◌, refl, sym, ap, ◌∙◌, true≢false}
-use Rattle.std.specs.Prelude.{true, false, Some, None}
-use Rattle.nb_host.specs.declared.refusals.Refusal.{Refusal}
-use Rattle.nb_model.specs.declared.reply.Reply.{Reply}
+use Rattle.std.proofs.Common.{◌≡◌, List, [], ◌∷◌, ◌++◌, refl, sym, ap, ◌∙◌, true≢false, true, false, Some, None}
+use Rattle.nb_alloc.proofs.Common.{Refusal, Reply, Stroke, Draft, Cause, first_cause, not_of_form, no_room, Seen, Outcome, says, unless, changes, has_only_told}
 use Rattle.nb_model.specs.declared.reply.Reply.TheVariants.{Refused}
-use Rattle.nb_model.specs.Strokes.{Stroke}
-use Rattle.nb_model.specs.Forms.{Draft}
-use Rattle.nb_model.specs.Causes.{Cause, first_cause, not_of_form, no_room}
-use Rattle.nb_model.specs.Outcomes.{Seen, Outcome, says, unless, changes}
-use Rattle.nb_state.specs.Does.{has_only_told}
 
 -- where there is a cause, and where there is none
 pub unless_refused : (s : Seen) (cause : Cause) (o : Outcome) (r : Refusal) → cause ≡ Some r → unless s cause o ≡ says s (Refused r) []
@@ -19,25 +12,7 @@ pub unless_allowed : (s : Seen) (cause : Cause) (o : Outcome) → cause ≡ None
 unfolding unless
 unless_allowed s cause o e = ap (λ (c : Cause). unless s c o) e
 
--- the first of no causes, of causes after one that doesn't apply, and after one that does
-pub first_none : first_cause [] ≡ None
-unfolding first_cause
-first_none = refl
-
-pub first_next : (c : Cause) (cs : List Cause) → c ≡ None → first_cause (c ∷ cs) ≡ first_cause cs
-unfolding first_cause
-first_next c cs e = ap (λ (x : Cause). first_cause (x ∷ cs)) e
-
-pub first_here : (c : Cause) (cs : List Cause) (r : Refusal) → c ≡ Some r → first_cause (c ∷ cs) ≡ Some r
-unfolding first_cause
-first_here c cs r e = ap (λ (x : Cause). first_cause (x ∷ cs)) e
-
--- of one cause alone
-pub one_cause : (c : Cause) → first_cause (c ∷ []) ≡ c
-unfolding first_cause
-one_cause None = refl
-one_cause (Some r) = refl
-
+-- of one cause with none behind it
 pub none_behind : (c : Cause) → first_cause (c ∷ None ∷ []) ≡ c
 unfolding first_cause
 none_behind None = refl

@@ -1,17 +1,6 @@
 -- What a new page has after its head, by its number.
-use Rattle.std.proofs.Common.{◌≡◌, ℕ, zero, suc, ◌+◌, ◌-◌, ◌≤◌, List, ◌∷◌, ◌++◌, length, take, drop, replicate, refl, sym, ap, ◌∙◌, arith, append_assoc, length-append, length-drop}
-use Rattle.std.specs.Prelude.{Bool, true, false, ◌==◌, Option, Some, None, is_some, not, unwrap_or}
-use Rattle.std.proofs.lemmas.List.{replicate-append-replicate, take-append-drop, take_at, drop_at, drop-drop, length-take-le}
-use Rattle.nb_fields.specs.Bytes.{bytes_of, with_part, padded}
-use Rattle.nb_fields.specs.Page.{with_payload}
-use Rattle.nb_fields.specs.Payloads.{data_payload}
-use Rattle.nb_fields.specs.Places.{is_system_place, most_pages}
-use Rattle.nb_fields.proofs.NumberLaws.{length-bytes_of}
-use Rattle.nb_fields.proofs.PartLaws.{length-with_part}
-use Rattle.nb_model.specs.Image.{Image, image_size}
-use Rattle.nb_model.specs.Forms.{Draft, drafted, put, take_page, system_page, first_not, needed_at, no_page, lowest_free, new_within}
-use Rattle.nb_alloc.specs.Data.{owner_by, new_data}
-use Rattle.nb_alloc.specs.Make.{content, new_of}
+use Rattle.std.proofs.Common.{◌≡◌, ℕ, zero, suc, ◌+◌, ◌-◌, ◌≤◌, List, ◌∷◌, ◌++◌, length, take, drop, replicate, refl, sym, ap, ◌∙◌, arith, append_assoc, length-append, length-drop, Bool, true, false, ◌==◌, Option, Some, None, is_some, not}
+use Rattle.nb_alloc.proofs.Common.{unwrap_or, replicate-append-replicate, take-append-drop, take_at, drop_at, drop-drop, length-take-le, bytes_of, with_part, padded, with_payload, data_payload, is_system_place, most_pages, length-bytes_of, length-with_part, Image, image_size, Draft, drafted, put, take_page, system_page, first_not, needed_at, no_page, lowest_free, new_within, owner_by, new_data, content, new_of}
 
 -- it is as long as the bytes that are given
 pub content_short : (own : Bool) (bytes : List ℕ) (p : ℕ) → (own ≡ true → 8 ≤ length bytes) → length (content own bytes p) ≡ length bytes

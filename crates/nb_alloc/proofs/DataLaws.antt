@@ -1,21 +1,10 @@
 -- Whether a page is a data page of an owner.
-use Rattle.std.proofs.Common.{◌≡◌, ℕ, sym, ap, ◌∙◌, refl, arith}
-use Rattle.std.specs.Prelude.{Bool, true, false, not, ◌&&◌, ◌==◌, Some, None}
-use Rattle.nb_fields.specs.Header.{is_header}
-use Rattle.nb_fields.specs.Kinds.{data_kind}
-use Rattle.nb_host.specs.declared.refusals.Refusal.{Refusal}
-use Rattle.nb_host.specs.declared.refusals.Refusal.TheVariants.{NotDatabase}
-use Rattle.nb_model.specs.Image.{Image, page_at, first_page}
-use Rattle.nb_model.specs.Forms.{is_kind}
-use Rattle.nb_model.specs.Causes.{when, not_kind}
-use Rattle.nb_model.specs.Chains.{owner_in}
+use Rattle.std.proofs.Common.{◌≡◌, ℕ, sym, ap, ◌∙◌, refl, arith, Bool, true, false, not, ◌&&◌, ◌==◌, Some, None}
+use Rattle.nb_alloc.proofs.Common.{is_header, data_kind, Refusal, NotDatabase, Image, page_at, first_page, is_kind, when, not_kind, owner_in, eq_yes, kind_parts, not_data}
 use Rattle.nb_model.proofs.HeaderLaws.{header-kind}
-use Rattle.nb_model.proofs.ReadLaws.{eq_yes}
-use Rattle.nb_model.proofs.StepLaws.{kind_parts}
-use Rattle.nb_alloc.specs.Data.{not_data}
 
 -- tests of the owner after tests of the kind
-by_kind : (kind owner : Bool) (r s : Refusal) → when (not kind) r ≡ Some s → when (not (kind && owner)) r ≡ Some s
+pub by_kind : (kind owner : Bool) (r s : Refusal) → when (not kind) r ≡ Some s → when (not (kind && owner)) r ≡ Some s
 by_kind false owner r s e = e
 by_kind true owner r s e = cc
 

@@ -1,30 +1,9 @@
 -- What a call does that may be refused before its strokes, and what it does of its turn.
-use Rattle.std.proofs.Common.{◌≡◌, List, [], ◌++◌, refl, sym, ap, subst, ◌∙◌}
-use Rattle.std.specs.Prelude.{false, Some, None, Result, Ok, Err, OnOk, IfOk, IfErr, IsErr, IsErrAnd}
-use Rattle.nb_host.specs.World.{World}
-use Rattle.nb_host.specs.declared.faults.Fault.{Fault}
-use Rattle.nb_host.specs.declared.faults.Fault.TheVariants.{Refused as RefusedFault, Device, Memory}
-use Rattle.nb_host.specs.declared.refusals.Refusal.{Refusal}
-use Rattle.nb_page.specs.Quiet.{Quiet}
-use Rattle.nb_page.proofs.QuietLaws.{quiet_joined}
-use Rattle.nb_model.specs.declared.reply.Reply.{Reply}
+use Rattle.std.proofs.Common.{◌≡◌, List, [], ◌++◌, refl, sym, ap, subst, ◌∙◌, false, Some, None, Result, Ok, Err, OnOk, IfOk, IfErr, IsErr, IsErrAnd}
+use Rattle.nb_alloc.proofs.Common.{World, Fault, Device, Memory, Refusal, Quiet, quiet_joined, Reply, Base, Stroke, Trail, Cause, Seen, Outcome, says, unless, after_strokes, IsNoRefusal, Held, IsOpen, but_pages, Tested, Answers, WhereEnded, only_tells, unless_by, Makes, Does, passed_on, makes_none, makes_not, makes_then, makes_front, makes_before, makes_after, Tries, none_there, unless_none}
+use Rattle.nb_host.specs.declared.faults.Fault.TheVariants.{Refused as RefusedFault}
 use Rattle.nb_model.specs.declared.reply.Reply.TheVariants.{Refused}
-use Rattle.nb_model.specs.Account.{Base}
-use Rattle.nb_model.specs.Strokes.{Stroke}
-use Rattle.nb_model.specs.Trail.{Trail}
-use Rattle.nb_model.specs.Causes.{Cause}
-use Rattle.nb_model.specs.Outcomes.{Seen, Outcome, says, unless}
-use Rattle.nb_base.specs.Takes.{after_strokes, IsNoRefusal}
-use Rattle.nb_state.specs.Open.{Held, IsOpen, but_pages}
-use Rattle.nb_state.specs.Does.{Tested, Answers, WhereEnded, only_tells, unless_by, Makes, Does}
-use Rattle.nb_change.proofs.ResultLaws.{passed_on}
-use Rattle.nb_state.proofs.MakesLaws.{makes_none, makes_not, makes_then, makes_front, makes_before, makes_after}
-use Rattle.nb_alloc.specs.Tries.{Tries}
 use Rattle.nb_alloc.proofs.CauseLaws.{told_some}
-
--- the strokes by the cause
-pub unless_none : (cause : Cause) (xs : List Stroke) → cause ≡ None → unless_by cause xs ≡ xs
-unless_none cause xs none = ap (λ (c : Cause). unless_by c xs) none
 
 pub unless_some : (cause : Cause) (xs : List Stroke) (r : Refusal) → cause ≡ Some r → unless_by cause xs ≡ []
 unless_some cause xs r some = ap (λ (c : Cause). unless_by c xs) some
@@ -70,13 +49,10 @@ tested_none (Err (RefusedFault r)) cause none never = absurd never
 tested_none (Err Device) cause none never = tt
 tested_none (Err Memory) cause none never = tt
 
-none_some : {r : Refusal} → None ≡ Some r → ⊥
-none_some e = cc
-
 -- a test without a cause refuses nothing
 pub sure_of : {T : Type 0} (result : Result T Fault) (cause : Cause) → cause ≡ None → Tested result cause → IfErr result IsNoRefusal
 sure_of (Ok value) cause none tested = tt
-sure_of (Err (RefusedFault r)) cause none tested = absurd (none_some (sym none ∙ tested))
+sure_of (Err (RefusedFault r)) cause none tested = absurd (none_there (sym none ∙ tested))
 sure_of (Err Device) cause none tested = tt
 sure_of (Err Memory) cause none tested = tt
 
@@ -129,7 +105,7 @@ pub tries_made : {T : Type 0} (result : Result T Fault) (old new : World) (a b :
 tries_made result old new a b t cause xs none never makes = record {
   test = tested_none result cause none never;
   makes = subst (λ (ss : List Stroke). Makes result old new a b t ss) (sym (unless_none cause xs none)) makes;
-  idle = λ r some. absurd (none_some (sym none ∙ some));
+  idle = λ r some. absurd (none_there (sym none ∙ some));
 }
 
 -- what is open after the strokes

@@ -1,19 +1,7 @@
 -- The search for a free page: what it finds, and what one inventory page says of it.
-use Rattle.std.proofs.Common.{◌≡◌, inl, inr, ℕ, zero, suc, ◌+◌, ◌-◌, ◌*◌, ◌/◌, ◌%◌, ◌<◌, ◌≤◌, length, get_or, refl, sym, ap, subst, ◌∙◌, arith}
-use Rattle.std.specs.Prelude.{Bool, true, false, ◌==◌, Option, Some, None, MatchOption, min, max}
-use Rattle.std.proofs.Math.Nat.{mul-add-mod_self_right, mod-eq_of_lt}
-use Rattle.std.proofs.lemmas.Nat.{div-mul-add}
-use Rattle.std.proofs.lemmas.Bool.{true≢false}
-use Rattle.std.proofs.lemmas.Bool.Decides.{eqb_tells, leb_tells}
-use Rattle.nb_fields.specs.Places.{bits_in, inventory_place}
-use Rattle.nb_fields.specs.Payloads.{bit_of}
-use Rattle.nb_fields.specs.Kinds.{inventory_kind}
-use Rattle.nb_pip.specs.Bits.{bits, AreUsed, IsLowestFree}
-use Rattle.nb_pip.proofs.BitLaws.{get_or-bits}
-use Rattle.nb_model.specs.Image.{Page, Image, page_at, image_size}
-use Rattle.nb_model.specs.Forms.{inventory_of, is_free_page, free_from}
-use Rattle.nb_model.specs.Causes.{not_kind}
-use Rattle.nb_alloc.specs.Find.{AreTaken, IsFreeNear, IsMap, IsEnd, EndsAt}
+use Rattle.std.proofs.Common.{◌≡◌, inl, inr, ℕ, zero, suc, ◌+◌, ◌-◌, ◌*◌, ◌/◌, ◌%◌, ◌<◌, ◌≤◌, length, get_or, refl, sym, ap, subst, ◌∙◌, arith, Bool, true, false, ◌==◌, Option, Some, None, MatchOption, min, max}
+use Rattle.nb_alloc.proofs.Common.{mul-add-mod_self_right, mod-eq_of_lt, div-mul-add, true≢false, eqb_tells, leb_tells, bits_in, inventory_place, bit_of, inventory_kind, bits, AreUsed, get_or-bits, Page, Image, page_at, image_size, inventory_of, is_free_page, free_from, not_kind, AreTaken, IsFreeNear, IsMap, IsEnd, EndsAt}
+use Rattle.nb_pip.specs.Bits.{IsLowestFree}
 
 -- what the search from page p on finds, of which `left` pages are left to look at
 pub record Finds (image : Image) (left p q : ℕ) : Type 0 where

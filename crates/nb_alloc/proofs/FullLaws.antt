@@ -1,13 +1,6 @@
 -- System pages apart from each other, and what doesn't change whether a page was left.
-use Rattle.std.proofs.Common.{◌≡◌, inl, inr, ℕ, suc, ◌+◌, ◌*◌, ◌/◌, ◌%◌, ◌<◌, ◌≤◌, List, refl, ◌∙◌, arith, mul-le-mul_right}
-use Rattle.std.specs.Prelude.{Bool, true, false, ◌==◌, ◌&&◌, ◌||◌, nat_lt, IsTrue}
-use Rattle.std.proofs.lemmas.Bool.{and_parts, or_cases, eqb-true}
-use Rattle.std.proofs.lemmas.Bool.Decides.{leb_tells}
-use Rattle.nb_fields.specs.Places.{is_page_size, entries_in, bits_in, is_inventory_place, is_scn_place, is_system_place}
-use Rattle.nb_fields.proofs.PlaceLaws.{entries-least}
-use Rattle.nb_model.specs.Image.{image_scn}
-use Rattle.nb_model.specs.Forms.{Draft, wrote, written, needs, is_kind, scn_page_of, scn_entry, has_entry, entry_written, entry_raised, raised, put}
-use Rattle.nb_model.proofs.DraftLaws.{either}
+use Rattle.std.proofs.Common.{◌≡◌, inl, inr, ℕ, suc, ◌+◌, ◌*◌, ◌/◌, ◌%◌, ◌<◌, ◌≤◌, List, refl, ◌∙◌, arith, mul-le-mul_right, Bool, true, false, ◌==◌, ◌&&◌, ◌||◌, nat_lt, IsTrue}
+use Rattle.nb_alloc.proofs.Common.{and_parts, or_cases, eqb-true, leb_tells, is_page_size, entries_in, bits_in, is_inventory_place, is_scn_place, is_system_place, entries-least, image_scn, Draft, wrote, written, needs, is_kind, scn_page_of, scn_entry, has_entry, entry_written, entry_raised, raised, put, either}
 
 -- a system page stands at a multiple of the entries, or before one
 multiple : (size p : ℕ) → IsTrue (is_page_size size) → 3 ≤ p → is_system_place size p ≡ true → (k : ℕ) × ((p ≤ k * entries_in size) × (k * entries_in size ≤ p + 1))

@@ -22,3 +22,4 @@ pub mod ContentLaws
 pub mod SearchReads
 pub mod NewReads
 pub mod DataLaws
+mod Common

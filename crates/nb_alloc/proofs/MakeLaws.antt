@@ -1,48 +1,12 @@
 -- Making a page: its strokes and what they leave, and what is never refused where the inventories agree with the pages.
-use Rattle.std.proofs.Common.{◌≡◌, ◌≢◌, ℕ, ◌+◌, ◌-◌, ◌/◌, ◌<◌, ◌≤◌, List, [], ◌∷◌, ◌++◌, length, take, drop, replicate, refl, sym, ap, subst, ◌∙◌, arith}
-use Rattle.std.specs.Prelude.{Bool, true, false, not, ◌==◌, IsTrue, None, Result, Ok, IsErr, IsErrAnd, IfErr, max}
-use Rattle.nb_fields.specs.Kinds.{code_of, inventory_kind}
-use Rattle.nb_fields.specs.declared.kinds.PageKind.{PageKind}
-use Rattle.nb_fields.specs.declared.kinds.PageKind.TheVariants.{Header, Inventory, Data, Raw, ScnInventory}
-use Rattle.nb_fields.specs.Header.{size_of}
-use Rattle.nb_fields.specs.Places.{is_page_size, bits_in, entries_in, inventory_place, is_inventory_place, is_scn_place}
-use Rattle.nb_fields.specs.Payloads.{inventory_payload, scn_payload}
-use Rattle.nb_fields.proofs.SizeLaws.{SizeFacts, size_facts}
-use Rattle.nb_fields.proofs.PageLaws.{padded_whole}
-use Rattle.nb_fields.specs.Page.{kind_of, stamped, with_payload}
-use Rattle.nb_host.specs.World.{World}
-use Rattle.nb_host.specs.declared.faults.Fault.{Fault}
-use Rattle.nb_host.specs.declared.faults.Fault.TheVariants.{Device}
-use Rattle.nb_host.specs.declared.refusals.Refusal.TheVariants.{NotDatabase}
-use Rattle.nb_page.specs.Quiet.{Quiet}
-use Rattle.nb_page.proofs.StampLaws.{stamped-with_payload}
-use Rattle.nb_model.specs.Image.{Page, Image, page_at, image_size, image_scn}
-use Rattle.nb_model.specs.Account.{Base}
-use Rattle.nb_model.specs.Strokes.{Stroke, page, on_base, base_after, merged_page}
-use Rattle.nb_model.specs.Trail.{Trail}
-use Rattle.nb_model.specs.Forms.{Draft, drafted, old_page, put, inventory_of, has_entry, scn_page_of, is_kind, system_kind, system_payload, system_page}
-use Rattle.nb_model.specs.Causes.{Cause, when, not_kind}
-use Rattle.nb_model.proofs.StrokeLaws.{base_after-append, stroke_page, stroke_other}
-use Rattle.nb_model.proofs.SoundLaws.{with_page_length, inventory_there, inventory_place_some, scn_page_there, scn_place_some}
+use Rattle.std.proofs.Common.{◌≡◌, ◌≢◌, ℕ, ◌+◌, ◌-◌, ◌/◌, ◌<◌, ◌≤◌, List, [], ◌∷◌, ◌++◌, length, take, drop, replicate, refl, sym, ap, subst, ◌∙◌, arith, Bool, true, false, not, IsTrue, None, Result, Ok, IsErr, IsErrAnd, IfErr, max}
+use Rattle.nb_alloc.proofs.Common.{inventory_kind, size_of, is_page_size, bits_in, entries_in, inventory_place, is_inventory_place, is_scn_place, inventory_payload, scn_payload, SizeFacts, size_facts, padded_whole, kind_of, stamped, with_payload, World, Fault, Device, NotDatabase, Quiet, stamped-with_payload, Page, Image, page_at, image_size, image_scn, Base, Stroke, page, on_base, base_after, merged_page, Trail, Draft, drafted, old_page, put, inventory_of, has_entry, scn_page_of, is_kind, system_kind, system_payload, system_page, Cause, when, not_kind, base_after-append, stroke_page, stroke_other, with_page_length, inventory_there, inventory_place_some, scn_page_there, inventory_before, places_apart, lt_no, kind_parts, after_strokes, IsNoRefusal, Held, IsOpen, but_pages, Makes, unless_by, makes_not, Tries, entry_cause, must_raise, raise_strokes, mark_cause, IsMap, IsWell, page_strokes, system_strokes, system_cause, first_next, scn_place-some, is_so, no_cause}
 use Rattle.nb_model.proofs.PutSound.{IsPlace}
-use Rattle.nb_model.proofs.NewSound.{inventory_before, places_apart}
-use Rattle.nb_model.proofs.ReadLaws.{lt_no}
 use Rattle.nb_model.proofs.FreshSound.{inventory_length, scn_length}
 use Rattle.nb_model.proofs.FitLaws.{IsWhole}
 use Rattle.nb_model.proofs.RoundLaws as rounds
-use Rattle.nb_model.proofs.StepLaws.{kind_parts}
-use Rattle.nb_base.specs.Takes.{after_strokes, IsNoRefusal}
-use Rattle.nb_state.specs.Open.{Held, IsOpen, but_pages}
-use Rattle.nb_state.specs.Does.{Makes, unless_by}
-use Rattle.nb_state.proofs.MakesLaws.{makes_not}
-use Rattle.nb_alloc.specs.Tries.{Tries}
-use Rattle.nb_alloc.specs.Put.{entry_cause, must_raise, raise_strokes}
-use Rattle.nb_alloc.specs.Mark.{mark_cause}
-use Rattle.nb_alloc.specs.Find.{IsMap}
-use Rattle.nb_alloc.specs.Make.{IsWell, page_strokes, system_strokes, system_cause}
-use Rattle.nb_alloc.proofs.CauseLaws.{first_none, first_next}
 use Rattle.nb_alloc.proofs.DoesLaws.{tries_opened, tries_passed, tries_then}
-use Rattle.nb_alloc.proofs.PutLaws.{stroke_long, none_of, may_raise, raised_once, raised_not, no_entry_cause, entry_cause-is}
+use Rattle.nb_alloc.proofs.PutLaws.{stroke_long, may_raise, raised_once, raised_not, no_entry_cause, entry_cause-is}
 use Rattle.nb_alloc.proofs.PageLaws.{makes_one}
 use Rattle.nb_alloc.proofs.TestLaws.{kind_is}
 
@@ -66,7 +30,7 @@ mark_none image p is two low =
     let there : i < length image = omega (arith, before, low) in
     let kind : kind_of (page_at image i) ≡ inventory_kind = is.sound.sound.system.inventories i there (inventory_there (image_size image) (p / bits_in (image_size image)) is.size) in
     let at : IsPlace image i = record { behind = inventory_place_some (image_size image) (p / bits_in (image_size image)) is.size; there = omega (arith, there); most = let most = is.sound.most in omega (arith, there, most) } in
-    first_next (not_kind image inventory_kind i) (entry_cause image i ∷ []) (kind_is image inventory_kind i there kind) ∙ first_next (entry_cause image i) [] (entry_none image i is at) ∙ first_none
+    first_next (not_kind image inventory_kind i) (entry_cause image i ∷ []) (kind_is image inventory_kind i there kind) ∙ first_next (entry_cause image i) [] (entry_none image i is at) ∙ no_cause
 
 -- no inventory page is the SCN page of a page
 map_apart : (x : Image) (p q : ℕ) → IsTrue (is_page_size (image_size x)) → is_inventory_place (image_size x) q ≡ true → q ≢ scn_page_of x p
@@ -147,24 +111,16 @@ module _ (b : Base) (p kind : ℕ) (payload : List ℕ) (none : entry_cause b.im
       let q : ℕ = inventory_of b.image p in
       let before : q < p = inventory_before size p is (omega (arith, five)) in
       let place : is_inventory_place size q ≡ true = inventory_there size (p / bits_in size) is in
-      let two = scn_place_some size (p / entries_in size) is in
+      let two = scn_place-some size (p / entries_in size) is in
       let read : page_at paged.image q ≡ page_at b.image q = page_other q (λ e. absurd (omega (arith, e, before))) (map_apart b.image p q is place) in
       let first : page_at paged.image 0 ≡ page_at b.image 0 = page_other 0 (λ e. absurd (omega (arith, e, five))) (λ e. absurd (omega (arith, e, two))) in
       let same : inventory_of paged.image p ≡ q = ap (λ (s : ℕ). inventory_place s (p / bits_in s)) (ap size_of first) in
-      let parts = kind_parts b.image inventory_kind q (none_of (is_kind b.image inventory_kind q) (NotDatabase q) held.kind) in
+      let parts = kind_parts b.image inventory_kind q (is_so (is_kind b.image inventory_kind q) (NotDatabase q) held.kind) in
       let inside : q < length paged.image = omega (arith, before, page_long) in
       record {
         kind = ap (λ (r : ℕ). not_kind paged.image inventory_kind r) same ∙ kind_is paged.image inventory_kind q inside (ap kind_of read ∙ parts.1);
         page = held.page ∙ sym read ∙ ap (page_at paged.image) (sym same);
       }
-
--- no page is of kind 0
-pub kind_some : (kind : PageKind) → (code_of kind == 0) ≡ false
-kind_some Header = refl
-kind_some Inventory = refl
-kind_some Data = refl
-kind_some Raw = refl
-kind_some ScnInventory = refl
 
 -- the page that was stamped is that of the stroke
 pub stamped_page : (image : Image) (p code kind scn : ℕ) (payload : List ℕ) (before now : Page) → before ≡ with_payload (old_page p image) payload → now ≡ stamped before code (drop 16 before) scn p → code ≡ kind → scn ≡ image_scn image

@@ -1,27 +1,9 @@
 -- Writing the bit of a page: the inventory page's bytes, the strokes, and why they are refused.
-use Rattle.std.proofs.Common.{◌≡◌, ◌≢◌, ℕ, ◌+◌, ◌/◌, ◌<◌, List, [], ◌∷◌, ◌++◌, length, drop, refl, sym, ap, subst, ◌∙◌, arith}
-use Rattle.std.specs.Prelude.{Bool, true, IsTrue, Some, None}
-use Rattle.std.proofs.lemmas.List.{take-set-le}
-use Rattle.nb_fields.specs.Bytes.{number_in}
-use Rattle.nb_fields.specs.Places.{is_page_size, entries_in}
-use Rattle.nb_fields.specs.Page.{kind_of, stamped, generation_of}
-use Rattle.nb_fields.proofs.PartLaws.{number_in-take}
-use Rattle.nb_fields.proofs.PlaceLaws.{entries-least}
-use Rattle.nb_fields.specs.Kinds.{inventory_kind, scn_kind}
-use Rattle.nb_host.specs.declared.refusals.Refusal.{Refusal}
-use Rattle.nb_host.specs.declared.refusals.Refusal.TheVariants.{NotDatabase}
+use Rattle.std.proofs.Common.{◌≡◌, ◌≢◌, ℕ, ◌+◌, ◌/◌, ◌<◌, List, [], ◌∷◌, ◌++◌, length, drop, refl, sym, ap, subst, ◌∙◌, arith, Bool, true, IsTrue, Some, None}
+use Rattle.nb_alloc.proofs.Common.{take-set-le, number_in, is_page_size, entries_in, kind_of, stamped, generation_of, number_in-take, entries-least, inventory_kind, scn_kind, Refusal, NotDatabase, Page, Image, page_at, image_size, image_scn, Base, page, Draft, drafted, put, set_bit, with_bit, is_kind, inventory_of, bit_number, Cause, not_kind, not_of_form, no_room, kind_parts, entry_cause, raise_strokes, put_stroke, bit_for, mark_cause, bit_stroke, mark_stroke, mark_strokes, first_here, first_next, needs_found, is_so, one_cause}
 use Rattle.nb_pip.specs.Bits.{with_bit as with_bit_at}
-use Rattle.nb_model.specs.Image.{Page, Image, page_at, image_size, image_scn}
-use Rattle.nb_model.specs.Account.{Base}
-use Rattle.nb_model.specs.Strokes.{page}
-use Rattle.nb_model.specs.Forms.{Draft, drafted, put, set_bit, with_bit, is_kind, inventory_of, bit_number}
-use Rattle.nb_model.specs.Causes.{Cause, not_kind, not_of_form, no_room}
 use Rattle.nb_model.proofs.BitLaws.{with_bit_length}
-use Rattle.nb_model.proofs.StepLaws.{kind_parts, needs_found}
-use Rattle.nb_alloc.specs.Put.{entry_cause, raise_strokes, put_stroke}
-use Rattle.nb_alloc.specs.Mark.{bit_for, mark_cause, bit_stroke, mark_stroke, mark_strokes}
-use Rattle.nb_alloc.proofs.CauseLaws.{first_next, first_here, one_cause}
-use Rattle.nb_alloc.proofs.PutLaws.{Keeps, put_stroke-after, none_of, put_strokes, put_form, put_room, put_refused}
+use Rattle.nb_alloc.proofs.PutLaws.{Keeps, put_stroke-after, put_strokes, put_form, put_room, put_refused}
 use Rattle.nb_alloc.proofs.RaiseLaws.{stamped-over}
 
 -- the bit that says whether a page is free
@@ -63,7 +45,7 @@ module _ (b : Base) (p : ℕ) where
 
   module _ (form : not_kind b.image inventory_kind place ≡ None) where
     found : is_kind b.image inventory_kind place ≡ true
-    found = none_of (is_kind b.image inventory_kind place) (NotDatabase place) form
+    found = is_so (is_kind b.image inventory_kind place) (NotDatabase place) form
 
     pub there : place < length b.image
     there = (kind_parts b.image inventory_kind place found).0

@@ -1,49 +1,18 @@
 -- The inventory pages that a search reads, and the first of them that isn't of its kind.
-use Rattle.std.proofs.Common.{◌≡◌, inl, inr, ℕ, suc, ◌+◌, ◌-◌, ◌*◌, ◌/◌, ◌<◌, ◌≤◌, length, refl, sym, ap, subst, ◌∙◌, arith, mul-le-mul_right}
-use Rattle.std.specs.Prelude.{Bool, true, false, not, IsTrue, Option, Some, None, Result, Err, IsErr, IsErrAnd}
-use Rattle.std.proofs.Math.Nat.{div-mul-le_self, mul-div_cancel}
-use Rattle.std.proofs.lemmas.Nat.{le-div}
-use Rattle.std.proofs.lemmas.Bool.{true≢false}
-use Rattle.std.proofs.lemmas.Bool.Decides.{eqb_tells, leb_tells}
-use Rattle.nb_fields.specs.Places.{is_page_size, bits_in, inventory_place, most_pages}
-use Rattle.nb_fields.proofs.PlaceLaws.{bits-least, inventory_index}
-use Rattle.nb_fields.specs.Kinds.{inventory_kind}
-use Rattle.nb_host.specs.declared.faults.Fault.{Fault}
-use Rattle.nb_host.specs.declared.faults.Fault.TheVariants.{Refused, Device, Memory}
-use Rattle.nb_host.specs.declared.refusals.Refusal.{Refusal}
-use Rattle.nb_host.specs.declared.refusals.Refusal.TheVariants.{NotDatabase}
-use Rattle.nb_change.proofs.ResultLaws.{passed_on}
-use Rattle.nb_model.specs.Image.{Image, image_size}
-use Rattle.nb_model.specs.Forms.{is_kind, inventory_of, free_from, first_not, maps_from}
-use Rattle.nb_model.specs.Causes.{Cause, when, not_kind}
-use Rattle.nb_model.proofs.NeedLaws.{first_behind, first_append, behind_none, maps_found, maps_split}
-use Rattle.nb_model.proofs.FirstFree.{IsLowestFree, free_from_is}
-use Rattle.nb_model.proofs.PlaceOrder.{div_rises}
-use Rattle.nb_model.proofs.SearchLaws.{last_map}
-use Rattle.nb_model.specs.Way.{maps_up_to}
-use Rattle.nb_state.specs.Does.{Tested}
-use Rattle.nb_alloc.specs.Find.{AreTaken, RefusedFor, need_cause, AreMaps}
+use Rattle.std.proofs.Common.{◌≡◌, inl, inr, ℕ, suc, ◌+◌, ◌-◌, ◌*◌, ◌/◌, ◌<◌, ◌≤◌, length, refl, sym, ap, subst, ◌∙◌, arith, mul-le-mul_right, Bool, true, false, not, IsTrue, Option, Some, None, Result, Err, IsErr, IsErrAnd}
+use Rattle.nb_alloc.proofs.Common.{div-mul-le_self, mul-div_cancel, le-div, true≢false, eqb_tells, leb_tells, is_page_size, bits_in, inventory_place, most_pages, bits-least, inventory_index, inventory_kind, Fault, Refused, Device, Memory, Refusal, NotDatabase, passed_on, Image, image_size, is_kind, inventory_of, free_from, first_not, maps_from, Cause, when, not_kind, first_behind, first_append, behind_none, maps_found, maps_split, IsLowestFree, free_from_is, div_rises, last_map, maps_up_to, Tested, AreTaken, RefusedFor, need_cause, AreMaps, none_some, some_none, some_same}
 
 -- what a test of a page's kind tells
 kind_by : (t : Bool) (p : ℕ) (r : Refusal) → when (not t) (NotDatabase p) ≡ Some r → (t ≡ false) × (r ≡ NotDatabase p)
-kind_by true p r e = absurd (none_some e)
-  where
-    none_some : None ≡ Some r → ⊥
-    none_some h = cc
-kind_by false p r e = (refl, some_same e)
-  where
-    some_same : Some (NotDatabase p) ≡ Some r → r ≡ NotDatabase p
-    some_same h = cc
+kind_by true p r e = absurd (none_some r e)
+kind_by false p r e = (refl, sym (some_same (NotDatabase p) r e))
 
 pub kind_refused : (image : Image) (kind p : ℕ) (r : Refusal) → not_kind image kind p ≡ Some r → (is_kind image kind p ≡ false) × (r ≡ NotDatabase p)
 kind_refused image kind p r e = kind_by (is_kind image kind p) p r e
 
 kind_none : (t : Bool) (p : ℕ) → when (not t) (NotDatabase p) ≡ None → t ≡ true
 kind_none true p e = refl
-kind_none false p e = absurd (some_none e)
-  where
-    some_none : Some (NotDatabase p) ≡ None → ⊥
-    some_none h = cc
+kind_none false p e = absurd (some_none (NotDatabase p) e)
 
 pub kind_found : (image : Image) (kind p : ℕ) → not_kind image kind p ≡ None → is_kind image kind p ≡ true
 kind_found image kind p e = kind_none (is_kind image kind p) p e

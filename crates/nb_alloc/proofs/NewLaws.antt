@@ -1,29 +1,7 @@
 -- A new page: its rounds, each on the database that the round before left.
-use Rattle.std.proofs.Common.{◌≡◌, ℕ, ◌≤◌, List, [], ◌++◌, length, refl, sym, ap, subst, ◌∙◌, append_assoc}
-use Rattle.std.specs.Prelude.{true, false, None, Result, Ok, Err, IsErr, IsErrAnd}
-use Rattle.nb_fields.specs.Places.{is_system_place, most_pages}
-use Rattle.nb_host.specs.World.{World}
-use Rattle.nb_host.specs.declared.faults.Fault.{Fault}
-use Rattle.nb_page.specs.Quiet.{Quiet}
-use Rattle.nb_change.proofs.ReachedLaws.{after_all-joined}
-use Rattle.nb_model.specs.Image.{Page, Image, image_size}
-use Rattle.nb_model.specs.Account.{Base}
-use Rattle.nb_model.specs.Strokes.{Stroke}
-use Rattle.nb_model.specs.Trail.{Trail, after_stroke}
-use Rattle.nb_model.specs.Forms.{Draft, drafted, put, take_page, system_page, lowest_free}
-use Rattle.nb_model.proofs.DraftLaws.{IsOf, drafts_are, drafted_is, put_keeps, set_bit_keeps, system_keeps}
-use Rattle.nb_model.proofs.DraftJoin.{join_set_bit}
-use Rattle.nb_base.specs.Takes.{after_strokes}
-use Rattle.nb_state.specs.Open.{Held, IsOpen}
-use Rattle.nb_state.specs.Does.{Makes}
-use Rattle.nb_state.proofs.MakesLaws.{after_base, makes_none, makes_then}
-use Rattle.nb_alloc.specs.Tries.{Tries}
-use Rattle.nb_alloc.specs.Mark.{mark_cause, mark_strokes}
-use Rattle.nb_alloc.specs.Find.{HoldsMap}
-use Rattle.nb_alloc.specs.Make.{IsSupplied, GoesOn, IsOnward, new_of, round, behind}
-use Rattle.nb_alloc.specs.Search.{IsSearchable}
+use Rattle.std.proofs.Common.{◌≡◌, ℕ, ◌≤◌, List, [], ◌++◌, length, refl, sym, ap, subst, ◌∙◌, append_assoc, true, false, None, Result, Ok, Err, IsErr, IsErrAnd}
+use Rattle.nb_alloc.proofs.Common.{is_system_place, most_pages, World, Fault, Quiet, after_all-joined, Page, Image, image_size, Base, Stroke, Trail, after_stroke, Draft, drafted, put, take_page, system_page, lowest_free, IsOf, drafts_are, drafted_is, put_keeps, set_bit_keeps, system_keeps, join_set_bit, after_strokes, Held, IsOpen, Makes, after_base, makes_none, makes_then, Tries, mark_cause, mark_strokes, HoldsMap, IsSupplied, GoesOn, IsOnward, new_of, round, behind, IsSearchable, draft_cause}
 use Rattle.nb_alloc.proofs.RestLaws.{Rest, all_left, here, Onward, onward, AtLast, at_last}
-use Rattle.nb_model.proofs.SearchLaws.{draft_cause}
 use Rattle.nb_alloc.proofs.DoesLaws.{makes_valued, tries_passed, tries_made, tries_front, tries_next}
 use Rattle.nb_alloc.proofs.MakeLaws.{tries_named}
 

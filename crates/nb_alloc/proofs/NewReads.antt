@@ -1,13 +1,6 @@
 -- How many reads a new page makes.
-use Rattle.std.proofs.Common.{◌≡◌, ℕ, ◌+◌, ◌-◌, ◌*◌, ◌/◌, ◌≤◌, List, subst, arith}
-use Rattle.std.specs.Prelude.{Result, Ok, Err, IfOk}
-use Rattle.nb_host.specs.declared.faults.Fault.{Fault}
-use Rattle.nb_fields.specs.Places.{bits_in}
-use Rattle.nb_model.specs.Image.{Image, image_size}
-use Rattle.nb_model.specs.Forms.{lowest_free}
-use Rattle.nb_alloc.specs.declared.behind.Behind.{Behind}
-use Rattle.nb_alloc.specs.Make.{new_of, new_reads}
-use Rattle.nb_alloc.specs.Search.{IsShort, EndsBy}
+use Rattle.std.proofs.Common.{◌≡◌, ℕ, ◌+◌, ◌-◌, ◌*◌, ◌/◌, ◌≤◌, List, subst, arith, Result, Ok, Err, IfOk}
+use Rattle.nb_alloc.proofs.Common.{Fault, bits_in, Image, image_size, lowest_free, Behind, new_of, new_reads, IsShort, EndsBy}
 
 -- The reads of the tests, which end where the page is made, and those of making it.
 pub new_read : (result : Result ℕ Fault) (image : Image) (first made r0 r1 r2 : ℕ) → first ≡ lowest_free image → IfOk result (λ number. number ≡ made) → r1 ≤ r0 + first / bits_in (image_size image) + 4 + 5 * (made - first)

@@ -1,24 +1,6 @@
 -- A page stroke of a page after the first: what is known after it.
-use Rattle.std.proofs.Common.{◌∙◌, ◌≡◌, ◌≢◌, ℕ, ◌<◌, List, [], ◌∷◌, ◌++◌, sym, ap, subst}
-use Rattle.std.specs.Prelude.{None, Result, Ok, IfErr}
-use Rattle.nb_fields.specs.Places.{entries_in}
-use Rattle.nb_fields.specs.Page.{kind_of}
-use Rattle.nb_fields.specs.Kinds.{inventory_kind, scn_kind}
-use Rattle.nb_host.specs.World.{World}
-use Rattle.nb_host.specs.declared.faults.Fault.{Fault}
-use Rattle.nb_model.specs.Image.{Page, Image, page_at, image_size}
-use Rattle.nb_model.specs.Account.{Base}
-use Rattle.nb_model.specs.Strokes.{Stroke, base_after}
-use Rattle.nb_model.specs.Forms.{inventory_of}
-use Rattle.nb_model.specs.Causes.{Cause, not_kind}
-use Rattle.nb_model.specs.Trail.{Trail}
-use Rattle.nb_base.specs.Takes.{after_strokes, IsNoRefusal}
-use Rattle.nb_state.specs.Open.{Held, IsOpen}
-use Rattle.nb_state.specs.Does.{Makes}
-use Rattle.nb_state.proofs.MakesLaws.{after_base}
-use Rattle.nb_alloc.specs.Tries.{Tries}
-use Rattle.nb_alloc.specs.Put.{entry_cause, raise_strokes}
-use Rattle.nb_alloc.specs.Mark.{bit_stroke, mark_cause, mark_stroke, mark_strokes}
+use Rattle.std.proofs.Common.{◌∙◌, ◌≡◌, ◌≢◌, ℕ, ◌<◌, List, [], ◌∷◌, ◌++◌, sym, ap, subst, None, Result, Ok, IfErr}
+use Rattle.nb_alloc.proofs.Common.{entries_in, kind_of, inventory_kind, scn_kind, World, Fault, Page, Image, page_at, image_size, Base, Stroke, base_after, inventory_of, Cause, not_kind, Trail, after_strokes, IsNoRefusal, Held, IsOpen, Makes, after_base, Tries, entry_cause, raise_strokes, bit_stroke, mark_cause, mark_stroke, mark_strokes}
 use Rattle.nb_alloc.proofs.DoesLaws.{tries_these, tries_then, tries_opened}
 use Rattle.nb_alloc.proofs.PutLaws.{Keeps, raise_keeps}
 use Rattle.nb_alloc.proofs.MarkLaws.{mark_cause-is, marked-is}

@@ -1,22 +1,7 @@
 -- The tests of a search for new pages at one page, each as a need that is met or not.
-use Rattle.std.proofs.Common.{◌≡◌, ◌≢◌, ℕ, ◌-◌, ◌/◌, List, [], ◌∷◌, ◌++◌, length, refl, sym, ap, subst, ◌∙◌}
-use Rattle.std.specs.Prelude.{Bool, true, false, not, ◌==◌, ◌&&◌, nat_lt, IsTrue, Option, Some, None}
-use Rattle.std.proofs.lemmas.Bool.{true≢false}
-use Rattle.nb_fields.specs.Places.{is_page_size, bits_in, entries_in, is_inventory_place, is_scn_place, is_system_place, most_pages}
-use Rattle.nb_fields.specs.Kinds.{inventory_kind, scn_kind}
-use Rattle.nb_host.specs.declared.refusals.Refusal.{Refusal}
-use Rattle.nb_host.specs.declared.refusals.Refusal.TheVariants.{NotDatabase, Full}
-use Rattle.nb_model.specs.Image.{Image, image_size}
-use Rattle.nb_model.specs.Forms.{is_kind, inventory_of, scn_page_of, has_entry, free_from, system_kind, Need, first_not, entry_page, is_kept}
-use Rattle.nb_model.specs.Causes.{Cause, first_cause, when, not_kind}
-use Rattle.nb_model.proofs.ReadLaws.{eq_no, eq_yes}
-use Rattle.nb_model.proofs.NeedLaws.{first_behind, first_append, behind_none, behind_some, first_none}
-use Rattle.nb_model.proofs.SoundLaws.{inventory_there, scn_page_there}
-use Rattle.nb_model.proofs.NewSound.{plain_place, places_apart}
-use Rattle.nb_alloc.specs.Find.{need_cause}
-use Rattle.nb_model.specs.Way.{next_place, maps_up_to, maps_on, entry_on, map_entry_on, own_entry_on, needed_on, IsMadeBehind, same_made, made_here, IsFreshBehind, same_fresh, fresh_here}
-use Rattle.nb_alloc.specs.Way.{way_cause}
-use Rattle.nb_alloc.proofs.CauseLaws.{first_next, first_here, none_behind}
+use Rattle.std.proofs.Common.{◌≡◌, ◌≢◌, ℕ, ◌-◌, ◌/◌, List, [], ◌∷◌, ◌++◌, length, refl, sym, ap, subst, ◌∙◌, Bool, true, false, not, ◌==◌, ◌&&◌, nat_lt, IsTrue, Option, Some, None}
+use Rattle.nb_alloc.proofs.Common.{true≢false, is_page_size, bits_in, entries_in, is_inventory_place, is_scn_place, is_system_place, most_pages, inventory_kind, scn_kind, Refusal, NotDatabase, Full, Image, image_size, is_kind, inventory_of, scn_page_of, has_entry, free_from, system_kind, Need, first_not, entry_page, is_kept, Cause, first_cause, when, not_kind, eq_no, eq_yes, first_behind, first_append, behind_none, behind_some, first_none, inventory_there, scn_page_there, plain_place, places_apart, need_cause, next_place, maps_up_to, maps_on, entry_on, map_entry_on, own_entry_on, needed_on, IsMadeBehind, same_made, made_here, IsFreshBehind, same_fresh, fresh_here, way_cause, first_here, first_next, none_some, some_none}
+use Rattle.nb_alloc.proofs.CauseLaws.{none_behind}
 use Rattle.nb_alloc.proofs.PlaceTests.{system_second}
 
 -- the SCN page of an entry: it is made on the way, or there is no entry, or it is tested
@@ -59,10 +44,6 @@ pub kept_there : (x : Image) (p : ℕ) (t : Bool) → is_system_place (image_siz
 unfolding is_kept
 kept_there x p t system is = ap (λ (u : Bool). u && is_kind x (system_kind x p) p) system ∙ is
 
-pub kept_plain : (x : Image) (p : ℕ) → is_system_place (image_size x) p ≡ false → is_kept x p ≡ false
-unfolding is_kept
-kept_plain x p plain = ap (λ (u : Bool). u && is_kind x (system_kind x p) p) plain
-
 -- The tests in order: the inventory pages, whether a page is left, and the SCN pages.
 module _ (x : Image) (from made fresh p : ℕ) (at : p ≡ next_place x from fresh) where
   abbrev maps : Option ℕ
@@ -79,16 +60,10 @@ module _ (x : Image) (from made fresh p : ℕ) (at : p ≡ next_place x from fre
   some_first : (o rest : Option ℕ) (r : Refusal) (c : Cause) → need_cause o ≡ Some r → first_cause (need_cause (first_behind o rest) ∷ c ∷ []) ≡ Some r
   some_first (Some q) rest r c e = ap (λ (y : Option ℕ). first_cause (need_cause y ∷ c ∷ [])) (behind_some q rest) ∙ first_here (Some (NotDatabase q)) (c ∷ []) r e
   some_first None rest r c e = absurd (none_some r e)
-    where
-      none_some : (r : Refusal) → None ≡ Some r → ⊥
-      none_some r h = cc
 
   need_none : (o : Option ℕ) → need_cause o ≡ None → o ≡ None
   need_none None e = refl
-  need_none (Some q) e = absurd (some_none q e)
-    where
-      some_none : (q : ℕ) → Some (NotDatabase q) ≡ None → ⊥
-      some_none q h = cc
+  need_none (Some q) e = absurd (some_none (NotDatabase q) e)
 
   pub way_maps : (r : Refusal) → need_cause maps ≡ Some r → way_cause x from made fresh ≡ Some r
   way_maps r e = cause_is ∙ some_first maps (first_not x (asks (p == most_pages))) r (when (p == most_pages) (Full most_pages)) e

@@ -1,8 +1,6 @@
 -- Which test tells that a system page stands at a place.
-use Rattle.std.proofs.Common.{◌≡◌, ℕ, sym, ap}
-use Rattle.std.specs.Prelude.{Bool, true, false, ◌||◌}
-use Rattle.std.proofs.lemmas.Bool.{or_left}
-use Rattle.nb_fields.specs.Places.{is_inventory_place, is_scn_place, is_system_place}
+use Rattle.std.proofs.Common.{◌≡◌, ℕ, sym, ap, Bool, true, false, ◌||◌}
+use Rattle.nb_alloc.proofs.Common.{or_left, is_inventory_place, is_scn_place, is_system_place}
 
 pub system_first : (size p : ℕ) → is_inventory_place size p ≡ true → true ≡ is_system_place size p
 unfolding is_system_place

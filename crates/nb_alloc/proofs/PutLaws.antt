@@ -1,23 +1,6 @@
 -- A write of a page is its SCN entry first, where that is raised, and then the page.
-use Rattle.std.proofs.Common.{◌≡◌, ◌≢◌, inl, inr, ℕ, zero, suc, ◌+◌, ◌*◌, ◌/◌, ◌<◌, ◌≤◌, List, [], ◌∷◌, ◌++◌, length, drop, refl, sym, ap, subst, ◌∙◌, arith}
-use Rattle.std.specs.Prelude.{Bool, true, false, ◌&&◌, ◌||◌, ◌==◌, not, nat_lt, Some, None}
-use Rattle.std.proofs.lemmas.Bool.{and_parts, and_left, or_left, or_right, or_from, ltb-true, lt-ltb, eq-eqb, ne_eqb}
-use Rattle.std.proofs.lemmas.Bool.Decides.{leb_tells}
-use Rattle.std.proofs.lemmas.List.{length-set}
-use Rattle.nb_fields.specs.Bytes.{bytes_of, with_part}
-use Rattle.nb_fields.specs.Places.{entries_in, scn_place, is_scn_place, most_pages}
-use Rattle.nb_fields.specs.Page.{kind_of, stamped}
-use Rattle.nb_fields.specs.Kinds.{scn_kind}
-use Rattle.nb_host.specs.declared.refusals.Refusal.{Refusal}
-use Rattle.nb_host.specs.declared.refusals.Refusal.TheVariants.{NotDatabase, Full}
-use Rattle.nb_model.specs.Image.{Page, Image, page_at, image_size, image_scn, with_page}
-use Rattle.nb_model.specs.Account.{Base}
-use Rattle.nb_model.specs.Strokes.{Stroke, page, on_base, base_after, merged_page}
-use Rattle.nb_model.specs.Forms.{Draft, drafted, old_page, wrote, written, is_kind, needs, scn_page_of, entry_number, scn_entry, has_entry, entry_written, entry_raised, raised, put}
-use Rattle.nb_model.specs.Causes.{Cause, when, not_kind, lowest_broken, not_of_form, no_room}
-use Rattle.nb_model.proofs.StrokeLaws.{stroke_page, stroke_other}
-use Rattle.nb_model.proofs.StepLaws.{kind_parts, needs_found}
-use Rattle.nb_alloc.specs.Put.{entry_cause, must_raise, raise_stroke, raise_strokes, put_stroke}
+use Rattle.std.proofs.Common.{◌≡◌, ◌≢◌, inl, inr, ℕ, zero, suc, ◌+◌, ◌*◌, ◌/◌, ◌<◌, ◌≤◌, List, [], ◌∷◌, ◌++◌, length, drop, refl, sym, ap, subst, ◌∙◌, arith, Bool, true, false, ◌&&◌, ◌||◌, ◌==◌, not, nat_lt, Some, None}
+use Rattle.nb_alloc.proofs.Common.{and_parts, and_left, or_left, or_right, or_from, ltb-true, lt-ltb, eq-eqb, ne_eqb, leb_tells, length-set, bytes_of, with_part, entries_in, scn_place, is_scn_place, most_pages, kind_of, stamped, scn_kind, Refusal, NotDatabase, Full, Page, Image, page_at, image_size, image_scn, with_page, Base, Stroke, page, on_base, base_after, merged_page, Draft, drafted, old_page, wrote, written, is_kind, needs, scn_page_of, entry_number, scn_entry, has_entry, entry_written, entry_raised, raised, put, Cause, when, not_kind, lowest_broken, not_of_form, no_room, stroke_page, stroke_other, kind_parts, entry_cause, must_raise, raise_stroke, raise_strokes, put_stroke, needs_found, is_so, page_image, none_some}
 use Rattle.nb_alloc.proofs.BehindLaws.{page_alone}
 
 -- a page stroke below the length keeps the length
@@ -36,10 +19,6 @@ pub scn_place-some : (size k : ℕ) → 0 < entries_in size → 0 < scn_place si
 scn_place-some size zero some = omega arith
 scn_place-some size (suc k) some = omega (arith, some)
 
-pub none_of : (t : Bool) (r : Refusal) → when (not t) r ≡ None → t ≡ true
-none_of true r e = refl
-none_of false r e = cc
-
 -- what holds where the SCN entry of a page has to be raised and may be
 pub record MayRaise (image : Image) (p : ℕ) : Type 0 where
   pub has : has_entry image p ≡ true
@@ -51,7 +30,7 @@ pub record MayRaise (image : Image) (p : ℕ) : Type 0 where
 pub may_raise : (image : Image) (p : ℕ) → entry_cause image p ≡ None → must_raise image p ≡ true → MayRaise image p
 may_raise image p none must =
     let both = and_parts (has_entry image p) (nat_lt (scn_entry image p) (image_scn image)) must in
-    let is : is_kind image scn_kind (scn_page_of image p) ≡ true = none_of (is_kind image scn_kind (scn_page_of image p)) (NotDatabase (scn_page_of image p)) (sym (there both.0) ∙ none) in
+    let is : is_kind image scn_kind (scn_page_of image p) ≡ true = is_so (is_kind image scn_kind (scn_page_of image p)) (NotDatabase (scn_page_of image p)) (sym (there both.0) ∙ none) in
     let parts = kind_parts image scn_kind (scn_page_of image p) is in
     record { has = both.0; is = is; low = parts.0; kind = parts.1; below = ltb-true (scn_entry image p) (image_scn image) both.1 }
   where
@@ -183,10 +162,6 @@ module _ (image : Image) (p : ℕ) where
       by true = refl
       by false = refl
 
-one_stroke : (b : Base) (p : ℕ) (bytes : Page) → (base_after b (page p bytes ∷ [])).image ≡ with_page p (merged_page p bytes b.image) b.image
-unfolding base_after on_base
-one_stroke b p bytes = refl
-
 no_stroke : (b : Base) → (base_after b []).image ≡ b.image
 unfolding base_after
 no_stroke b = refl
@@ -211,14 +186,14 @@ written_draft b p none must =
       broken = refl;
       full = refl;
       image = ap (λ (x : Page). with_page q (merged_page q (stamped x scn_kind payload (image_scn b.image) q) b.image) b.image) old
-          ∙ sym (one_stroke b q (stamped (page_at b.image q) scn_kind payload (image_scn b.image) q)) ∙ ap (λ (ss : List Stroke). (base_after b ss).image) (sym one);
+          ∙ sym (page_image b q (stamped (page_at b.image q) scn_kind payload (image_scn b.image) q)) ∙ ap (λ (ss : List Stroke). (base_after b ss).image) (sym one);
     }
 
 pub draft_raised : (b : Base) (p : ℕ) → entry_cause b.image p ≡ None → Raises b p (raised p (drafted b.image))
 draft_raised b p none = by (has_entry b.image p) (nat_lt (scn_entry b.image p) (image_scn b.image)) refl refl
   where
     is : (has_entry b.image p ≡ true) → is_kind b.image scn_kind (scn_page_of b.image p) ≡ true
-    is e = none_of (is_kind b.image scn_kind (scn_page_of b.image p)) (NotDatabase (scn_page_of b.image p)) (sym (entry_cause-is b.image p e) ∙ none)
+    is e = is_so (is_kind b.image scn_kind (scn_page_of b.image p)) (NotDatabase (scn_page_of b.image p)) (sym (entry_cause-is b.image p e) ∙ none)
 
     by : (has low : Bool) → has_entry b.image p ≡ has → nat_lt (scn_entry b.image p) (image_scn b.image) ≡ low → Raises b p (raised p (drafted b.image))
     by false low e f = subst (Raises b p) (sym (raised-none b.image p e)) (kept_draft b p (not_raised b.image p e))
@@ -229,7 +204,7 @@ draft_raised b p none = by (has_entry b.image p) (nat_lt (scn_entry b.image p) (
         subst (Raises b p) (sym (raised-one b.image p e ∙ ap (entry_raised p) (needs_found b.image 10 (scn_page_of b.image p) (is e)) ∙ entry_raised-done b.image p f))
         (written_draft b p none (must_raise-is b.image p e ∙ f))
 
-none_broken : lowest_broken [] ≡ None
+pub none_broken : lowest_broken [] ≡ None
 unfolding lowest_broken
 none_broken = refl
 
@@ -281,12 +256,9 @@ module _ (b : Base) (p kind : ℕ) (payload : List ℕ) where
       q : ℕ
       q = scn_page_of b.image p
 
-      none_some : None ≡ Some r → ⊥
-      none_some e = cc
-
       by : (has is : Bool) → has_entry b.image p ≡ has → is_kind b.image scn_kind q ≡ is → not_of_form made ≡ Some r
-      by false is e f = absurd (none_some (sym (no_entry_cause b.image p e) ∙ cause))
-      by true true e f = absurd (none_some (ap (λ (t : Bool). when (not t) (NotDatabase q)) (sym f) ∙ sym (entry_cause-is b.image p e) ∙ cause))
+      by false is e f = absurd (none_some r (sym (no_entry_cause b.image p e) ∙ cause))
+      by true true e f = absurd (none_some r (ap (λ (t : Bool). when (not t) (NotDatabase q)) (sym f) ∙ sym (entry_cause-is b.image p e) ∙ cause))
       by true false e f =
           ap lowest_broken (made_broken ∙ ap (λ (d : Draft). d.broken) (raised-one b.image p e) ∙ entry_raised-broken b.image p _ ∙ ap (λ (d : Draft). d.broken) (needs-broken b.image p f))
           ∙ page_alone q ∙ ap (λ (t : Bool). when (not t) (NotDatabase q)) (sym f) ∙ sym (entry_cause-is b.image p e) ∙ cause

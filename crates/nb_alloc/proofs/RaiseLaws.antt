@@ -1,20 +1,8 @@
 -- The bytes of the pages that a write of a raw page makes.
-use Rattle.std.proofs.Common.{◌≡◌, ℕ, ◌+◌, ◌*◌, ◌/◌, ◌%◌, ◌^◌, ◌<◌, ◌≤◌, inr, List, length, drop, refl, ap, subst, ◌∙◌, arith, length-append}
-use Rattle.std.specs.Prelude.{false, ◌==◌, slice_index}
-use Rattle.nb_fields.specs.Bytes.{bytes_of, with_part, is_zeros}
-use Rattle.nb_fields.specs.Places.{entries_in, scn_place}
-use Rattle.nb_fields.specs.Page.{head_of, page_of, with_payload, stamped, generation_of}
-use Rattle.nb_fields.specs.Payloads.{text_payload, entry_of}
-use Rattle.nb_fields.proofs.NumberLaws.{length-bytes_of}
-use Rattle.nb_fields.proofs.PartLaws.{length-with_part, number_in-with_part_other}
-use Rattle.nb_fields.specs.Kinds.{raw_kind, scn_kind}
-use Rattle.nb_page.proofs.StampLaws.{stamped-with_payload}
-use Rattle.nb_model.specs.Image.{Page, Image, page_at, image_size, image_scn}
-use Rattle.nb_model.specs.Strokes.{page}
-use Rattle.nb_model.specs.Forms.{scn_page_of, entry_number, scn_entry}
+use Rattle.std.proofs.Common.{◌≡◌, ℕ, ◌+◌, ◌*◌, ◌/◌, ◌%◌, ◌^◌, ◌<◌, ◌≤◌, inr, List, length, drop, refl, ap, subst, ◌∙◌, arith, length-append, false, ◌==◌, slice_index}
+use Rattle.nb_alloc.proofs.Common.{bytes_of, with_part, is_zeros, entries_in, scn_place, head_of, page_of, with_payload, stamped, generation_of, text_payload, entry_of, length-bytes_of, length-with_part, number_in-with_part_other, raw_kind, scn_kind, stamped-with_payload, Page, Image, page_at, image_size, image_scn, page, scn_page_of, entry_number, scn_entry, raise_stroke}
 use Rattle.nb_scn.specs.Entries.{entries, entry_place}
 use Rattle.nb_scn.proofs.EntryLaws.{get_or-entries}
-use Rattle.nb_alloc.specs.Put.{raise_stroke}
 
 -- a stamped page isn't all zeros, whatever it holds
 pub stamped-some : (old : Page) (kind : ℕ) (payload : List ℕ) (scn number : ℕ) → (kind == 0) ≡ false → is_zeros (stamped old kind payload scn number) ≡ false

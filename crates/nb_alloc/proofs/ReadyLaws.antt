@@ -1,34 +1,7 @@
 -- Where all that a new page needs of a place is of its kind, nothing is refused there, and the strokes are those of the draft.
-use Rattle.std.proofs.Common.{◌≡◌, ◌≢◌, ℕ, ◌+◌, ◌-◌, ◌/◌, ◌<◌, ◌≤◌, List, [], ◌∷◌, ◌++◌, length, replicate, refl, sym, ap, subst, ◌∙◌, arith}
-use Rattle.std.specs.Prelude.{Bool, true, false, not, IsTrue, Some, None, nat_lt, Result, Ok, Err, IfErr}
-use Rattle.std.proofs.lemmas.Bool.{true≢false}
-use Rattle.nb_fields.specs.Places.{is_page_size, bits_in, entries_in, inventory_place, is_scn_place, is_system_place}
-use Rattle.nb_fields.specs.Header.{size_of, scn_of}
-use Rattle.nb_fields.specs.Page.{stamped}
-use Rattle.nb_fields.proofs.SizeLaws.{SizeFacts, size_facts}
-use Rattle.nb_host.specs.declared.faults.Fault.{Fault}
-use Rattle.nb_host.specs.declared.faults.Fault.TheVariants.{Refused, Device, Memory}
-use Rattle.nb_host.specs.declared.refusals.Refusal.TheVariants.{NotDatabase}
-use Rattle.nb_model.specs.Image.{Page, Image, page_at, image_size, image_scn}
-use Rattle.nb_model.specs.Account.{Base}
-use Rattle.nb_model.specs.Strokes.{Stroke, page, base_after}
-use Rattle.nb_model.specs.Forms.{HasItsEntry, Draft, drafted, first_not, old_page, is_kind, inventory_of, scn_page_of, has_entry, raised, put, written, wrote, system_kind, system_payload, system_page}
-use Rattle.nb_model.specs.Causes.{Cause, when, not_kind}
-use Rattle.nb_model.specs.Way.{maps_up_to}
-use Rattle.nb_model.proofs.FirstFree.{free_from_is}
-use Rattle.nb_model.proofs.PlaceOrder.{div_rises}
-use Rattle.nb_fields.proofs.PlaceLaws.{bits-least}
-use Rattle.nb_fields.specs.Kinds.{inventory_kind}
-use Rattle.nb_base.specs.Takes.{IsNoRefusal}
-use Rattle.nb_model.proofs.NewSound.{inventory_before}
-use Rattle.nb_model.proofs.SoundLaws.{scn_page_there, scn_place_some}
-use Rattle.nb_model.proofs.StepLaws.{IsShaped, IsReady, IsPutOn, put_on, kind_moves, scn_page_moves, map_entry_before}
-use Rattle.nb_alloc.specs.Put.{entry_cause, raise_strokes}
-use Rattle.nb_alloc.specs.Mark.{mark_cause}
-use Rattle.nb_alloc.specs.Find.{need_cause, RefusedFor}
-use Rattle.nb_alloc.specs.Make.{GoesOn, page_strokes, system_strokes, system_cause, round, behind}
+use Rattle.std.proofs.Common.{◌≡◌, ◌≢◌, ℕ, ◌+◌, ◌-◌, ◌/◌, ◌<◌, ◌≤◌, List, [], ◌∷◌, ◌++◌, length, replicate, refl, sym, ap, subst, ◌∙◌, arith, Bool, true, false, not, IsTrue, None, nat_lt, Result, Ok, Err, IfErr}
+use Rattle.nb_alloc.proofs.Common.{true≢false, is_page_size, bits_in, entries_in, inventory_place, is_scn_place, is_system_place, size_of, scn_of, stamped, SizeFacts, size_facts, Fault, Refused, Device, Memory, NotDatabase, Page, Image, page_at, image_size, image_scn, Base, Stroke, page, base_after, HasItsEntry, Draft, drafted, first_not, old_page, is_kind, inventory_of, scn_page_of, has_entry, raised, put, written, wrote, system_kind, system_payload, system_page, Cause, when, not_kind, maps_up_to, free_from_is, div_rises, bits-least, scn_place-some, inventory_kind, IsNoRefusal, inventory_before, scn_page_there, IsShaped, IsReady, IsPutOn, put_on, kind_moves, scn_page_moves, map_entry_before, entry_cause, raise_strokes, mark_cause, need_cause, RefusedFor, GoesOn, page_strokes, system_strokes, system_cause, round, behind, first_next, no_cause, none_some}
 use Rattle.nb_alloc.proofs.NeedReads.{all_found}
-use Rattle.nb_alloc.proofs.CauseLaws.{first_none, first_next}
 use Rattle.nb_alloc.proofs.PutLaws.{Raises, draft_raised, raised_not, no_entry_cause, entry_cause-is, not_raised, scn_page-without}
 use Rattle.nb_alloc.proofs.MakeLaws.{RaisesAlone, raise_alone, system_there, system_put, system_made, system_unmade, system_free, system_asks, payload_whole}
 use Rattle.nb_alloc.proofs.PassLaws.{kept_there}
@@ -45,7 +18,7 @@ entry_ready x p has = by (has_entry x p) refl
 pub mark_ready : (x : Image) (p : ℕ) → is_kind x inventory_kind (inventory_of x p) ≡ true → HasItsEntry x (inventory_of x p) → mark_cause x p ≡ None
 mark_ready x p map entry =
     first_next (not_kind x inventory_kind (inventory_of x p)) (entry_cause x (inventory_of x p) ∷ []) (ap (λ (t : Bool). when (not t) (NotDatabase (inventory_of x p))) map)
-    ∙ first_next (entry_cause x (inventory_of x p)) [] (entry_ready x (inventory_of x p) entry) ∙ first_none
+    ∙ first_next (entry_cause x (inventory_of x p)) [] (entry_ready x (inventory_of x p) entry) ∙ no_cause
 
 -- they are so after a page that is put there
 pub mark_put : (x : Image) (p kind : ℕ) (payload : List ℕ) → IsShaped x → IsReady x p → HasItsEntry x p → 5 ≤ p → p ≤ length x → 16 + length payload ≤ image_size x → mark_cause (put p kind payload (drafted x)).image p ≡ None
@@ -96,7 +69,7 @@ module _ (b : Base) (p kind : ℕ) (payload : List ℕ) (size : IsTrue (is_page_
           let q : ℕ = scn_page_of b.image p in
           let at : is_scn_place (image_size b.image) q ≡ true = scn_page_there (image_size b.image) (p / entries_in (image_size b.image)) size in
           let other : p ≢ q = λ same. absurd (true≢false (sym e ∙ scn_page-without b.image p (image_size b.image) refl (ap (is_scn_place (image_size b.image)) same ∙ at))) in
-          let first : page_at before.image 0 ≡ page_at b.image 0 = alone.others 0 (λ same. absurd (omega (arith, same, scn_place_some (image_size b.image) (p / entries_in (image_size b.image)) size))) in
+          let first : page_at before.image 0 ≡ page_at b.image 0 = alone.others 0 (λ same. absurd (omega (arith, same, scn_place-some (image_size b.image) (p / entries_in (image_size b.image)) size))) in
           ap (λ (old : Page). over old (image_scn before.image)) (old_same b.image before.image alone.long (alone.others p other) first) ∙ ap (λ (q : Page). over (old_page p b.image) (scn_of q)) first
 
   pub page_strokes_are : page_strokes b.image p kind payload ≡ (put p kind payload (drafted b.image)).strokes
@@ -154,9 +127,6 @@ module _ (image : Image) (p : ℕ) where
 -- a test without a cause refused nothing
 pub sure_refused : {T : Type 0} (result : Result T Fault) (cause : Cause) → cause ≡ None → RefusedFor result cause → IfErr result IsNoRefusal
 sure_refused (Ok value) cause none tested = tt
-sure_refused (Err (Refused r)) cause none tested = absurd (none_some (sym none ∙ tested))
-  where
-    none_some : None ≡ Some r → ⊥
-    none_some e = cc
+sure_refused (Err (Refused r)) cause none tested = absurd (none_some r (sym none ∙ tested))
 sure_refused (Err Device) cause none tested = tt
 sure_refused (Err Memory) cause none tested = tt

@@ -1,23 +1,7 @@
 -- A new page that nothing stops, on any image of the form: what is left of it after each round.
-use Rattle.std.proofs.Common.{◌≡◌, ◌≢◌, inl, inr, ℕ, zero, suc, ◌+◌, ◌/◌, ◌<◌, ◌≤◌, List, ◌++◌, length, refl, sym, ap, subst, ◌∙◌, arith}
-use Rattle.std.specs.Prelude.{Bool, true, false, ◌==◌, Option, Some, None}
-use Rattle.std.proofs.lemmas.Bool.{true≢false}
-use Rattle.std.proofs.lemmas.Bool.Decides.{eqb_tells}
-use Rattle.nb_fields.specs.Places.{bits_in, inventory_place, is_system_place, most_pages}
-use Rattle.nb_fields.specs.Kinds.{inventory_kind}
-use Rattle.nb_host.specs.declared.refusals.Refusal.TheVariants.{NotDatabase, Full}
-use Rattle.nb_model.specs.Image.{Image, image_size}
-use Rattle.nb_model.specs.Strokes.{Stroke}
-use Rattle.nb_model.specs.Forms.{Draft, drafted, is_kind, is_free_page, put, take_page, lowest_free, first_not, needed_at, system_kind, new_within}
-use Rattle.nb_model.proofs.DraftJoin.{joined_new}
-use Rattle.nb_model.proofs.NewSound.{inventory_before}
-use Rattle.nb_model.proofs.FirstFree.{IsLowestFree, lowest_is}
-use Rattle.nb_model.proofs.RoundLaws.{lowest_behind}
-use Rattle.nb_model.proofs.StepLaws.{IsShaped, IsReady, Visits, system_visits}
-use Rattle.nb_model.proofs.SearchLaws.{draft_cause, Met, met, try_stops, try_full, try_more, try_last, joined_cause}
-use Rattle.nb_alloc.specs.Make.{new_of, round, behind}
-use Rattle.nb_alloc.specs.Search.{IsSearchable}
-use Rattle.nb_alloc.proofs.WayLaws.{stopped_cause, full_cause, cause_some}
+use Rattle.std.proofs.Common.{◌≡◌, ◌≢◌, inl, inr, ℕ, zero, suc, ◌+◌, ◌/◌, ◌<◌, ◌≤◌, List, ◌++◌, length, refl, sym, ap, subst, ◌∙◌, arith, Bool, true, false, ◌==◌, Option, Some, None}
+use Rattle.nb_alloc.proofs.Common.{true≢false, eqb_tells, bits_in, inventory_place, is_system_place, most_pages, inventory_kind, NotDatabase, Full, Image, image_size, Stroke, Draft, drafted, is_kind, is_free_page, put, take_page, lowest_free, first_not, needed_at, system_kind, new_within, joined_new, inventory_before, IsLowestFree, lowest_is, lowest_behind, IsShaped, IsReady, Visits, system_visits, draft_cause, Met, met, try_stops, try_full, try_more, try_last, joined_cause, new_of, round, behind, IsSearchable, some_none}
+use Rattle.nb_alloc.proofs.WayLaws.{stopped_cause, full_cause}
 
 -- A try that isn't refused has all that it needs, and finds a page.
 pub record Tried (image : Image) (left : ℕ) : Type 0 where
@@ -28,12 +12,12 @@ pub record Tried (image : Image) (left : ℕ) : Type 0 where
 
 pub tried : (kind : ℕ) (payload : ℕ → List ℕ) (image : Image) (left : ℕ) → draft_cause (new_within left kind payload (drafted image)).0 ≡ None → Tried image left
 unfolding new_within
-tried kind payload image zero clear = absurd (cause_some (Full most_pages) (sym (full_cause image) ∙ clear))
+tried kind payload image zero clear = absurd (some_none (Full most_pages) (sym (full_cause image) ∙ clear))
 tried kind payload image (suc left) clear = by (first_not image (needed_at image (lowest_free image))) (lowest_free image == most_pages) refl refl
   where
     by : (o : Option ℕ) (t : Bool) → first_not image (needed_at image (lowest_free image)) ≡ o → (lowest_free image == most_pages) ≡ t → Tried image (suc left)
-    by (Some q) t e f = absurd (cause_some (NotDatabase q) (sym (ap (λ (y : Draft × ℕ). draft_cause y.0) (try_stops image kind payload left q e) ∙ stopped_cause image q) ∙ clear))
-    by None true e f = absurd (cause_some (Full most_pages) (sym (ap (λ (y : Draft × ℕ). draft_cause y.0) (try_full image kind payload left e f) ∙ full_cause image) ∙ clear))
+    by (Some q) t e f = absurd (some_none (NotDatabase q) (sym (ap (λ (y : Draft × ℕ). draft_cause y.0) (try_stops image kind payload left q e) ∙ stopped_cause image q) ∙ clear))
+    by None true e f = absurd (some_none (Full most_pages) (sym (ap (λ (y : Draft × ℕ). draft_cause y.0) (try_full image kind payload left e f) ∙ full_cause image) ∙ clear))
     by None false e f = record { rest = left; left_is = refl; none = e; page = f }
 
 -- What is left to make of it, where its search comes to that place next.

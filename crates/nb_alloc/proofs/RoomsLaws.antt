@@ -1,38 +1,11 @@
 -- The tests before new pages, and what is written after them.
-use Rattle.std.proofs.Common.{◌≡◌, ℕ, ◌+◌, ◌*◌, ◌<◌, ◌≤◌, List, [], ◌∷◌, ◌++◌, length, refl, sym, ap, subst, ◌∙◌, arith}
-use Rattle.std.specs.Prelude.{drop, Bool, true, false, not, ◌||◌, nat_lt, min, Some, None, Result, Ok, Err, IfOk, OnOk, IsErr, IsErrAnd}
-use Rattle.std.proofs.lemmas.Bool.{true≢false}
-use Rattle.std.proofs.lemmas.List.{append-nil}
-use Rattle.nb_fields.specs.Bytes.{bytes_of, with_part}
-use Rattle.nb_fields.specs.Payloads.{data_payload}
-use Rattle.nb_fields.specs.Places.{most_pages}
-use Rattle.nb_fields.specs.Kinds.{data_kind, scn_kind}
-use Rattle.nb_host.specs.declared.faults.Fault.{Fault}
-use Rattle.nb_host.specs.declared.faults.Fault.TheVariants.{Refused, Device, Memory}
-use Rattle.nb_host.specs.declared.refusals.Refusal.{Refusal}
-use Rattle.nb_host.specs.declared.refusals.Refusal.TheVariants.{NotDatabase, Full}
-use Rattle.nb_change.proofs.ResultLaws.{passed_on}
-use Rattle.nb_model.specs.Image.{Image, page_at, image_scn}
-use Rattle.nb_model.specs.Forms.{Draft, drafted, is_kind, other_kind, needs, wants, has_entry, scn_page_of, scn_entry, raised, entry_raised, entry_written, put, written, wrote, new_page}
-use Rattle.nb_model.specs.Causes.{Cause, first_cause, when, lowest_of, lowest_broken, too_short, not_of_form, no_room}
-use Rattle.nb_model.specs.Chains.{Chain, Slot, owner_of, last_of, put_slot, grown}
-use Rattle.nb_model.proofs.DraftJoin.{joined, joined_new, join_new}
-use Rattle.nb_model.proofs.SearchLaws.{draft_cause, joined_cause}
-use Rattle.nb_model.proofs.StepLaws.{IsClear}
-use Rattle.nb_state.specs.Does.{Tested, WhereEnded}
-use Rattle.nb_state.proofs.MakesLaws.{where_ended}
-use Rattle.nb_alloc.specs.declared.behind.Behind.{Behind}
-use Rattle.nb_alloc.specs.Behind.{judged, entry_broken, behind_cause, page_if, IsKnown, Judges, EndsAlike}
-use Rattle.nb_alloc.specs.Data.{new_behind, second_data, unmade, unmade_behind}
-use Rattle.nb_alloc.specs.Put.{entry_cause}
-use Rattle.nb_alloc.specs.Make.{new_of}
-use Rattle.nb_alloc.specs.Search.{IsShort, Finds, EndsBy}
+use Rattle.std.proofs.Common.{◌≡◌, ℕ, ◌+◌, ◌*◌, ◌<◌, ◌≤◌, List, [], ◌∷◌, ◌++◌, length, refl, sym, ap, subst, ◌∙◌, arith, drop, Bool, true, false, not, ◌||◌, nat_lt, min, Some, None, Result, Ok, Err, IfOk, OnOk, IsErr, IsErrAnd}
+use Rattle.nb_alloc.proofs.Common.{append-nil, bytes_of, with_part, data_payload, most_pages, data_kind, scn_kind, Fault, Refused, Device, Memory, Refusal, NotDatabase, Full, passed_on, Image, page_at, image_scn, Draft, drafted, is_kind, other_kind, needs, wants, has_entry, scn_page_of, scn_entry, raised, entry_raised, entry_written, put, written, wrote, new_page, Cause, first_cause, when, lowest_of, lowest_broken, too_short, not_of_form, no_room, Chain, Slot, owner_of, last_of, put_slot, grown, joined, joined_new, join_new, draft_cause, joined_cause, IsClear, Tested, WhereEnded, where_ended, Behind, judged, entry_broken, behind_cause, page_if, IsKnown, Judges, EndsAlike, new_behind, second_data, unmade, unmade_behind, entry_cause, new_of, IsShort, Finds, EndsBy, lt_no, lt_yes, applies, first_here, first_next, append_none, when_false, none_some, some_none, or_parts, one_cause}
 use Rattle.nb_alloc.proofs.BehindLaws.{other_page, lowest_min}
-use Rattle.nb_model.proofs.ReadLaws.{lt_no, lt_yes}
-use Rattle.nb_alloc.proofs.CauseLaws.{first_next, first_here, one_cause, none_behind}
+use Rattle.nb_alloc.proofs.CauseLaws.{none_behind}
 use Rattle.nb_alloc.proofs.FullLaws.{put_full}
 use Rattle.nb_alloc.proofs.PutLaws.{no_entry_cause, entry_cause-is}
-use Rattle.nb_alloc.proofs.TestLaws.{applies, rests}
+use Rattle.nb_model.proofs.RoomThere.{other_met}
 
 pub not_lost : (t : Bool) → (t ≡ true → ⊥) → not t ≡ true
 not_lost false never = refl
@@ -68,14 +41,8 @@ judged_clear d none = by d.broken d.full refl refl none
   where
     by : (pages : List ℕ) (full : Bool) → d.broken ≡ pages → d.full ≡ full → judged pages full ≡ None → IsClear d
     by [] false a b e = (a, b)
-    by [] true a b e = absurd (full_none e)
-      where
-        full_none : Some (Full most_pages) ≡ None → ⊥
-        full_none h = cc
-    by (p ∷ ps) full a b e = absurd (page_none e)
-      where
-        page_none : Some (NotDatabase (lowest_of p ps)) ≡ None → ⊥
-        page_none h = cc
+    by [] true a b e = absurd (some_none (Full most_pages) e)
+    by (p ∷ ps) full a b e = absurd (some_none (NotDatabase (lowest_of p ps)) e)
 
 -- one that two searches in a row are refused for
 pub lowest_append : (p : ℕ) (ps : List ℕ) (q : ℕ) (qs : List ℕ) → lowest_of p (ps ++ q ∷ qs) ≡ min (lowest_of p ps) (lowest_of q qs)
@@ -85,10 +52,7 @@ lowest_append p (r ∷ ps) q qs = lowest_append (min p r) ps q qs
 pub judged_twice : (ps qs : List ℕ) (a b : Bool) (r : Refusal) → judged ps a ≡ Some r → judged qs b ≡ Some r → judged (ps ++ qs) (a || b) ≡ Some r
 unfolding first_cause lowest_broken
 judged_twice [] [] true b r e f = e
-judged_twice [] [] false b r e f = absurd (none_some e)
-  where
-    none_some : None ≡ Some r → ⊥
-    none_some h = cc
+judged_twice [] [] false b r e f = absurd (none_some r e)
 judged_twice [] (q ∷ qs) a b r e f = f
 judged_twice (p ∷ ps) [] a b r e f = ap (λ (xs : List ℕ). Some (NotDatabase (lowest_of p xs))) (append-nil ps) ∙ e
 judged_twice (p ∷ ps) (q ∷ qs) a b r e f =
@@ -199,39 +163,15 @@ pub record IsFreeBehind (d : Draft) (p : ℕ) : Type 0 where
 judged_empty : (pages : List ℕ) (full : Bool) → judged pages full ≡ None → (pages ≡ []) × (full ≡ false)
 unfolding first_cause lowest_broken
 judged_empty [] false none = (refl, refl)
-judged_empty [] true none = absurd (full_none none)
-  where
-    full_none : Some (Full most_pages) ≡ None → ⊥
-    full_none h = cc
-judged_empty (p ∷ ps) full none = absurd (page_none none)
-  where
-    page_none : Some (NotDatabase (lowest_of p ps)) ≡ None → ⊥
-    page_none h = cc
-
-pub both_empty : (xs ys : List ℕ) → xs ++ ys ≡ [] → (xs ≡ []) × (ys ≡ [])
-both_empty [] ys e = (refl, e)
-both_empty (x ∷ xs) ys e = absurd (some_none e)
-  where
-    some_none : x ∷ (xs ++ ys) ≡ [] → ⊥
-    some_none h = cc
-
-pub none_broken : (x : Image) (kind p : ℕ) → other_kind x kind p ≡ [] → is_kind x kind p ≡ true
-unfolding other_kind
-none_broken x kind p none = by (is_kind x kind p) refl none
-  where
-    by : (t : Bool) → is_kind x kind p ≡ t → elim t as (λ z. List ℕ) [ true ↦ [] | false ↦ p ∷ [] ] ≡ [] → is_kind x kind p ≡ true
-    by true e h = e
-    by false e h = absurd (some_none h)
-      where
-        some_none : p ∷ [] ≡ [] → ⊥
-        some_none i = cc
+judged_empty [] true none = absurd (some_none (Full most_pages) none)
+judged_empty (p ∷ ps) full none = absurd (some_none (NotDatabase (lowest_of p ps)) none)
 
 pub no_entry_broken : (x : Image) (p : ℕ) → entry_broken x p ≡ [] → entry_cause x p ≡ None
 no_entry_broken x p none = by (has_entry x p) refl none
   where
     by : (t : Bool) → has_entry x p ≡ t → elim t as (λ z. List ℕ) [ true ↦ other_kind x scn_kind (scn_page_of x p) | false ↦ [] ] ≡ [] → entry_cause x p ≡ None
     by false e h = no_entry_cause x p e
-    by true e h = entry_cause-is x p e ∙ ap (λ (t : Bool). when (not t) (NotDatabase (scn_page_of x p))) (none_broken x 10 (scn_page_of x p) h)
+    by true e h = entry_cause-is x p e ∙ ap (λ (t : Bool). when (not t) (NotDatabase (scn_page_of x p))) (other_met x 10 (scn_page_of x p) h)
 
 nothing_judged : judged [] false ≡ None
 unfolding first_cause lowest_broken
@@ -240,11 +180,11 @@ nothing_judged = refl
 pub free_behind : (d : Draft) (p : ℕ) → behind_cause d p ≡ None → IsFreeBehind d p
 free_behind d p none =
     let all = judged_empty (other_kind d.image data_kind p ++ (entry_broken d.image p ++ d.broken)) d.full none in
-    let page = both_empty (other_kind d.image data_kind p) (entry_broken d.image p ++ d.broken) all.0 in
-    let entry = both_empty (entry_broken d.image p) d.broken page.1 in
+    let page = append_none (other_kind d.image data_kind p) (entry_broken d.image p ++ d.broken) all.0 in
+    let entry = append_none (entry_broken d.image p) d.broken page.1 in
     record {
       clear = ap (λ (ps : List ℕ). judged ps d.full) entry.1 ∙ ap (λ (t : Bool). judged [] t) all.1 ∙ nothing_judged;
-      kind = none_broken d.image 5 p page.0;
+      kind = other_met d.image 5 p page.0;
       entry = no_entry_broken d.image p entry.0;
     }
 
@@ -253,13 +193,13 @@ pub unmade_short : (image : Image) (d : Draft) → length image < 5 → unmade i
 unmade_short image d low = first_here (too_short image) (not_of_form d ∷ no_room d ∷ []) (NotDatabase (length image)) (applies _ _ (lt_yes (length image) 5 low))
 
 pub unmade_long : (image : Image) (d : Draft) → 5 ≤ length image → unmade image d ≡ draft_cause d
-unmade_long image d long = first_next (too_short image) (not_of_form d ∷ no_room d ∷ []) (rests _ _ (lt_no (length image) 5 long))
+unmade_long image d long = first_next (too_short image) (not_of_form d ∷ no_room d ∷ []) (when_false _ _ (lt_no (length image) 5 long))
 
 pub behind_short : (image : Image) (d : Draft) (p : ℕ) → length image < 5 → unmade_behind image d p ≡ Some (NotDatabase (length image))
 behind_short image d p low = first_here (too_short image) (behind_cause d p ∷ []) (NotDatabase (length image)) (applies _ _ (lt_yes (length image) 5 low))
 
 pub behind_long : (image : Image) (d : Draft) (p : ℕ) → 5 ≤ length image → unmade_behind image d p ≡ behind_cause d p
-behind_long image d p long = first_next (too_short image) (behind_cause d p ∷ []) (rests _ _ (lt_no (length image) 5 long)) ∙ one_cause (behind_cause d p)
+behind_long image d p long = first_next (too_short image) (behind_cause d p ∷ []) (when_false _ _ (lt_no (length image) 5 long)) ∙ one_cause (behind_cause d p)
 
 pub grown_unmade : (image : Image) (chain : Chain) (pages slots : List ℕ) → 5 ≤ length image → unmade image (grown chain pages slots (drafted image)).0 ≡ behind_cause (new_behind chain slots image).0 (last_of pages)
 grown_unmade image chain pages slots long = unmade_long image (grown chain pages slots (drafted image)).0 long ∙ grown_judged chain pages slots (drafted image)
@@ -285,13 +225,9 @@ slot_named image p slot bytes d = unmade_is image (wants d.image 5 p (put_slot p
 pub joined_clear : (d e : Draft) → draft_cause (joined d e) ≡ None → (draft_cause d ≡ None) × (draft_cause e ≡ None)
 joined_clear d e none =
     let all = judged_empty (e.broken ++ d.broken) (e.full || d.full) none in
-    let pages = both_empty e.broken d.broken all.0 in
-    let full = neither e.full d.full all.1 in
+    let pages = append_none e.broken d.broken all.0 in
+    let full = or_parts e.full d.full all.1 in
     (ap (λ (ps : List ℕ). judged ps d.full) pages.1 ∙ ap (judged []) full.1 ∙ nothing_judged, ap (λ (ps : List ℕ). judged ps e.full) pages.0 ∙ ap (judged []) full.0 ∙ nothing_judged)
-  where
-    neither : (a b : Bool) → (a || b) ≡ false → (a ≡ false) × (b ≡ false)
-    neither false b e = (refl, e)
-    neither true b e = absurd (true≢false e)
 
 -- A page alone is written.
 pub entry_lowest : (x : Image) (p : ℕ) → lowest_broken (entry_broken x p) ≡ entry_cause x p

@@ -1,18 +1,6 @@
 -- How many reads the search for a new page makes.
-use Rattle.std.proofs.Common.{◌≡◌, inl, inr, ℕ, zero, suc, ◌+◌, ◌-◌, ◌*◌, ◌/◌, ◌<◌, ◌≤◌, refl, ap, subst, arith, mul-le-mul_right}
-use Rattle.std.specs.Prelude.{IsTrue, Option, Some, IfSome}
-use Rattle.std.proofs.Math.Nat.{div-zero, div-mul-le_self, lt-div-mul-add}
-use Rattle.std.proofs.lemmas.Bool.Decides.{leb_tells}
-use Rattle.nb_fields.specs.Places.{is_page_size, inventory_place, scn_place, entries_in, bits_in}
-use Rattle.nb_fields.proofs.PlaceLaws.{entries-least, bits-least}
-
--- no inventory page stands at page 0
-pub inventory_place_some : (size k : ℕ) → IsTrue (is_page_size size) → 0 < inventory_place size k
-inventory_place_some size zero is = omega arith
-inventory_place_some size (suc k) is =
-    let least = bits-least size is in
-    let more : bits_in size ≤ suc k * bits_in size = omega arith in
-    omega arith
+use Rattle.std.proofs.Common.{◌≡◌, inl, inr, ℕ, zero, suc, ◌+◌, ◌-◌, ◌*◌, ◌/◌, ◌<◌, ◌≤◌, refl, ap, subst, arith, mul-le-mul_right, IsTrue, Option, Some, IfSome}
+use Rattle.nb_alloc.proofs.Common.{div-zero, div-mul-le_self, lt-div-mul-add, leb_tells, is_page_size, inventory_place, scn_place, entries_in, bits_in, entries-least}
 
 pub scn_place_some : (size k : ℕ) → IsTrue (is_page_size size) → 0 < scn_place size k
 scn_place_some size zero is = omega arith

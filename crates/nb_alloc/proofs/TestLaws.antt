@@ -1,53 +1,23 @@
 -- The causes of a page that is tested.
-use Rattle.std.proofs.Common.{◌≡◌, ◌≢◌, inl, inr, ℕ, ◌/◌, ◌%◌, ◌<◌, ◌≤◌, List, [], ◌∷◌, ◌++◌, length, get_or, take, drop, sym, ap, ◌∙◌, subst, arith}
-use Rattle.std.specs.Prelude.{Bool, true, false, not, IsTrue, ◌&&◌, ◌==◌, nat_le, Some, None, Result, Ok, Err, IsOk, OnOk}
-use Rattle.std.proofs.lemmas.Bool.Decides.{leb_tells}
+use Rattle.std.proofs.Common.{◌≡◌, ◌≢◌, inl, inr, ℕ, ◌/◌, ◌%◌, ◌<◌, ◌≤◌, List, [], ◌∷◌, ◌++◌, length, get_or, take, drop, sym, ap, ◌∙◌, subst, arith, Bool, true, false, not, ◌&&◌, ◌==◌, nat_le, Some, None, Result, Ok, Err, IsOk, OnOk}
+use Rattle.nb_alloc.proofs.Common.{leb_tells, length-take, take_at, bits_in, inventory_place, kind_of, bit_of, text_length, text_of, inventory_kind, raw_kind, Refusal, NotDatabase, PageRange, NotAllocated, SystemPage, Access, TextLong, bits, get_or-bits, Page, Image, page_at, image_size, is_read_only, is_kind, is_free_page, inventory_of, bit_number, Cause, first_cause, when, read_only, too_long, past_end, not_kind, not_raw, no_text, Value, Seen, says, le_no, lt_no, lt_yes, eq_no, eq_yes, not_taken, applies, first_here, first_next, le_yes, never, no_cause, when_false}
 use Rattle.std.proofs.lemmas.Nat.Bits.{bit_at-lt}
-use Rattle.std.proofs.lemmas.List.{length-take, take_at}
-use Rattle.nb_fields.specs.Places.{bits_in, inventory_place}
-use Rattle.nb_fields.specs.Page.{kind_of}
-use Rattle.nb_fields.specs.Payloads.{bit_of, text_length, text_of}
-use Rattle.nb_fields.specs.Kinds.{inventory_kind, raw_kind}
-use Rattle.nb_host.specs.declared.refusals.Refusal.{Refusal}
-use Rattle.nb_host.specs.declared.refusals.Refusal.TheVariants.{NotDatabase, PageRange, NotAllocated, SystemPage, Access, TextLong}
 use Rattle.nb_page.specs.declared.page.PageHead.{PageHead}
 use Rattle.nb_page.specs.Head.{head_in}
-use Rattle.nb_pip.specs.Bits.{bits}
-use Rattle.nb_pip.proofs.BitLaws.{get_or-bits}
-use Rattle.nb_model.specs.Image.{Page, Image, page_at, image_size, is_read_only}
-use Rattle.nb_model.specs.Forms.{is_kind, is_free_page, inventory_of, bit_number}
-use Rattle.nb_model.specs.Causes.{Cause, first_cause, when, read_only, too_long, past_end, not_kind, not_raw, no_text}
-use Rattle.nb_model.specs.declared.reply.Reply.TheVariants.{Refused as RefusedBy, Value}
-use Rattle.nb_model.specs.Outcomes.{Seen, says}
+use Rattle.nb_model.specs.declared.reply.Reply.TheVariants.{Refused as RefusedBy}
 use Rattle.nb_model.specs.Pages.{read_turn}
-use Rattle.nb_model.proofs.ReadLaws.{le_no, lt_no, lt_yes, eq_no, eq_yes}
-use Rattle.nb_alloc.specs.Put.{not_taken}
-use Rattle.nb_alloc.proofs.CauseLaws.{first_none, first_next, first_here, first_front, first_rest, unless_refused, unless_allowed}
-
--- tests from facts, and facts from tests
-pub le_yes : (a b : ℕ) → a ≤ b → nat_le a b ≡ true
-le_yes a b h = elim (leb_tells a b) [ inl w ↦ w.0 | inr w ↦ absurd (omega (arith, w.1, h)) ]
-
-pub not_false : IsTrue false → ⊥
-not_false e = cc
+use Rattle.nb_alloc.proofs.CauseLaws.{first_front, first_rest, unless_refused, unless_allowed}
 
 pub le_from : (a b : ℕ) → true ≡ nat_le a b → a ≤ b
-le_from a b e = elim (leb_tells a b) [ inl w ↦ w.1 | inr w ↦ absurd (not_false (sym w.0 ∙ sym e)) ]
+le_from a b e = elim (leb_tells a b) [ inl w ↦ w.1 | inr w ↦ absurd (never (sym w.0 ∙ sym e)) ]
 
 pub lt_from : (a b : ℕ) → false ≡ nat_le a b → b < a
-lt_from a b e = elim (leb_tells a b) [ inl w ↦ absurd (not_false (e ∙ w.0)) | inr w ↦ omega (arith, w.1) ]
-
--- a test that applies, and one that doesn't
-pub applies : (test : Bool) (r : Refusal) → test ≡ true → when test r ≡ Some r
-applies test r e = ap (λ (t : Bool). when t r) e
-
-pub rests : (test : Bool) (r : Refusal) → test ≡ false → when test r ≡ None
-rests test r e = ap (λ (t : Bool). when t r) e
+lt_from a b e = elim (leb_tells a b) [ inl w ↦ absurd (never (e ∙ w.0)) | inr w ↦ omega (arith, w.1) ]
 
 -- what holds under Ok, at Ok
 pub at_ok : {T E P : Type 0} (result : Result T E) → IsOk result → OnOk result P → P
 at_ok (Ok value) is p = p
-at_ok (Err e) is p = absurd (not_false is)
+at_ok (Err e) is p = absurd (never is)
 
 -- a slice of all the elements of a vector, after which it has room
 pub vec_whole : (deref items rest : List ℕ) (n : ℕ) → deref ≡ take n (items ++ rest) → length items ≡ n → deref ≡ items
@@ -78,7 +48,7 @@ module _ (image : Image) (kind p : ℕ) where
 
   -- the page is of that kind
   pub kind_is : p < length image → kind_of (page_at image p) ≡ kind → not_kind image kind p ≡ None
-  kind_is low same = rests _ _ (ap not (kind_below low ∙ eq_yes _ kind same))
+  kind_is low same = when_false _ _ (ap not (kind_below low ∙ eq_yes _ kind same))
 
 -- the place of the inventory page of page p
 pub inventory_place_is : (image : Image) (size p place k : ℕ) → place ≡ inventory_place size k → k ≡ p / bits_in size → size ≡ image_size image → place ≡ inventory_of image p
@@ -136,11 +106,11 @@ module _ (image : Image) (p : ℕ) where
   taken_free form free = first_next _ _ form ∙ first_here _ [] _ (applies _ _ free)
 
   pub taken_is : not_kind image inventory_kind (inventory_of image p) ≡ None → is_free_page image p ≡ false → not_taken image p ≡ None
-  taken_is form used = first_next _ _ form ∙ first_next _ [] (rests _ _ used) ∙ first_none
+  taken_is form used = first_next _ _ form ∙ first_next _ [] (when_false _ _ used) ∙ no_cause
 
   not_raw-below : p < length image → not_raw image p ≡ first_cause (untaken ++ system ∷ [])
   unfolding not_raw
-  not_raw-below low = first_next (past_end image p) _ (rests _ _ (le_no (length image) p low))
+  not_raw-below low = first_next (past_end image p) _ (when_false _ _ (le_no (length image) p low))
 
   -- why page p is no taken raw page, and where it is one
   pub raw_past : length image ≤ p → not_raw image p ≡ Some (PageRange p (length image))
@@ -154,7 +124,7 @@ module _ (image : Image) (p : ℕ) where
   raw_system low taken other = not_raw-below low ∙ first_rest untaken (system ∷ []) taken ∙ first_here system [] _ (applies _ _ (ap not (eq_no _ 8 other)))
 
   pub raw_is : p < length image → not_taken image p ≡ None → kind_of (page_at image p) ≡ raw_kind → not_raw image p ≡ None
-  raw_is low taken same = not_raw-below low ∙ first_rest untaken (system ∷ []) taken ∙ first_next system [] (rests _ _ (ap not (eq_yes _ 8 same))) ∙ first_none
+  raw_is low taken same = not_raw-below low ∙ first_rest untaken (system ∷ []) taken ∙ first_next system [] (when_false _ _ (ap not (eq_yes _ 8 same))) ∙ no_cause
 
 -- a text is no longer than the length before it
 pub text_short : (page : Page) → text_length page ≤ 200 → length (text_of page) ≤ 200
@@ -166,10 +136,10 @@ module _ (image : Image) (text : List ℕ) where
   write_closed closed = first_here _ _ _ (applies _ _ closed)
 
   pub write_long : is_read_only image ≡ false → 200 < length text → first_cause (read_only image ∷ too_long text ∷ []) ≡ Some (TextLong (length text))
-  write_long free long = first_next _ _ (rests _ _ free) ∙ first_here _ [] _ (applies _ _ (lt_yes 200 (length text) long))
+  write_long free long = first_next _ _ (when_false _ _ free) ∙ first_here _ [] _ (applies _ _ (lt_yes 200 (length text) long))
 
   pub write_fits : is_read_only image ≡ false → length text ≤ 200 → first_cause (read_only image ∷ too_long text ∷ []) ≡ None
-  write_fits free short = first_next _ _ (rests _ _ free) ∙ first_next _ [] (rests _ _ (lt_no 200 (length text) short)) ∙ first_none
+  write_fits free short = first_next _ _ (when_false _ _ free) ∙ first_next _ [] (when_false _ _ (lt_no 200 (length text) short)) ∙ no_cause
 
 -- what reading page p says
 module _ (s : Seen) (p : ℕ) where
@@ -186,4 +156,4 @@ module _ (s : Seen) (p : ℕ) where
 
   pub read_says : not_raw s.base.image p ≡ None → text_length page ≤ 200 → read_turn s p ≡ says s (Value (text_of page)) []
   unfolding read_turn
-  read_says raw short = unless_allowed s _ _ (first_next _ (no_text s.base.image p ∷ []) raw ∙ first_next _ [] (rests _ _ (lt_no 200 (text_length page) short)) ∙ first_none)
+  read_says raw short = unless_allowed s _ _ (first_next _ (no_text s.base.image p ∷ []) raw ∙ first_next _ [] (when_false _ _ (lt_no 200 (text_length page) short)) ∙ no_cause)

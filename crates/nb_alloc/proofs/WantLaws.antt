@@ -1,20 +1,7 @@
 -- What is left where a call has wanted memory.
-use Rattle.std.proofs.Common.{◌≡◌, ℕ, List, [], refl, subst, ap}
-use Rattle.std.proofs.lemmas.List.{append-nil}
-use Rattle.std.specs.Prelude.{Ok}
-use Rattle.nb_host.specs.World.{World}
-use Rattle.nb_page.specs.Quiet.{Quiet}
-use Rattle.nb_change.proofs.ReachedLaws.{strokes_composed}
-use Rattle.nb_model.specs.Causes.{Cause}
-use Rattle.nb_model.specs.Strokes.{Stroke}
-use Rattle.nb_model.specs.Trail.{Trail, StandsIn, after_stroke}
+use Rattle.std.proofs.Common.{◌≡◌, ℕ, List, [], refl, subst, ap, Ok}
+use Rattle.nb_alloc.proofs.Common.{append-nil, World, Quiet, strokes_composed, Cause, Stroke, Trail, StandsIn, after_stroke, Strikes, after_strokes, Held, IsOpen, but_pages, name_of, Makes, none_yet, Tries, StopsBehind, unless_none}
 use Rattle.nb_base.specs.Open.{OfFiles}
-use Rattle.nb_base.specs.Takes.{Strikes, after_strokes}
-use Rattle.nb_state.specs.Open.{Held, IsOpen, but_pages, name_of}
-use Rattle.nb_state.specs.Does.{Makes}
-use Rattle.nb_state.proofs.MakesLaws.{none_yet}
-use Rattle.nb_alloc.specs.Tries.{Tries, StopsBehind}
-use Rattle.nb_alloc.proofs.DoesLaws.{unless_none}
 
 -- calls that change nothing, before strokes
 pub strikes_after : (old mid new : World) (a b : Held) (t : Trail) (xs : List Stroke) → but_pages b ≡ but_pages a → Quiet old mid → IsOpen old a t → Strikes mid new (name_of b) t xs → Strikes old new (name_of a) t xs

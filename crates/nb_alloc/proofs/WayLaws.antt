@@ -1,40 +1,10 @@
 -- The search for new pages on a database that nothing was written to yet: it is refused as the draft of the new page is.
-use Rattle.std.proofs.Common.{◌≡◌, ◌≢◌, inl, inr, ℕ, zero, suc, ◌+◌, ◌-◌, ◌/◌, ◌<◌, ◌≤◌, List, [], ◌∷◌, length, refl, sym, ap, subst, ◌∙◌, arith}
-use Rattle.std.specs.Prelude.{Bool, true, false, ◌==◌, IsTrue, Option, Some, None, Result, Ok, Err, IsErr, IsErrAnd}
-use Rattle.nb_host.specs.declared.faults.Fault.{Fault}
-use Rattle.nb_host.specs.declared.faults.Fault.TheVariants.{Refused as RefusedFault, Device, Memory}
-use Rattle.nb_change.proofs.ResultLaws.{passed_on}
-use Rattle.nb_state.specs.Does.{Tested}
-use Rattle.std.proofs.lemmas.Bool.{true≢false, eqb-true}
-use Rattle.std.proofs.lemmas.Bool.Decides.{eqb_tells, leb_tells}
-use Rattle.nb_fields.specs.Places.{is_page_size, bits_in, inventory_place, is_inventory_place, is_scn_place, is_system_place, most_pages}
-use Rattle.nb_host.specs.declared.refusals.Refusal.{Refusal}
-use Rattle.nb_host.specs.declared.refusals.Refusal.TheVariants.{NotDatabase, Full}
-use Rattle.nb_model.specs.Image.{Image, image_size}
-use Rattle.nb_model.specs.Forms.{Draft, drafted, no_page, is_kind, is_free_page, inventory_of, put, take_page, lowest_free, free_from, system_kind, first_not, maps_from, needed_at, new_within, new_page}
-use Rattle.nb_model.specs.Causes.{when, first_cause, lowest_broken}
-use Rattle.nb_fields.proofs.PlaceLaws.{bits-least}
-use Rattle.nb_fields.specs.Kinds.{inventory_kind, scn_kind}
-use Rattle.nb_model.proofs.DraftJoin.{joined_new}
-use Rattle.nb_model.proofs.NewSound.{plain_place, places_apart}
-use Rattle.nb_model.proofs.ReadLaws.{eq_yes}
-use Rattle.nb_model.proofs.FirstFree.{IsLowestFree, free_from_is, lowest_is}
-use Rattle.nb_model.proofs.PlaceOrder.{div_rises, map_place_is}
-use Rattle.nb_model.proofs.StepLaws.{IsReady, Visits, system_visits, plain_visits}
-use Rattle.nb_model.specs.Way.{next_place, needed_on, IsMadeBehind, same_made, made_here, IsFreshBehind, same_fresh, fresh_here}
-use Rattle.nb_model.proofs.OnwardLaws.{IsOnTheWay, way_begins, way_further}
-use Rattle.nb_model.proofs.SoundLaws.{inventory_place_some}
+use Rattle.std.proofs.Common.{◌≡◌, ◌≢◌, inl, inr, ℕ, zero, suc, ◌+◌, ◌-◌, ◌/◌, ◌<◌, ◌≤◌, List, [], ◌∷◌, length, refl, sym, ap, subst, ◌∙◌, arith, Bool, true, false, ◌==◌, IsTrue, Option, Some, None, Result, Ok, Err, IsErr, IsErrAnd}
+use Rattle.nb_alloc.proofs.Common.{Fault, Device, Memory, passed_on, Tested, true≢false, eqb-true, eqb_tells, leb_tells, is_page_size, bits_in, inventory_place, is_inventory_place, is_scn_place, is_system_place, most_pages, Refusal, NotDatabase, Full, Image, image_size, Draft, drafted, no_page, is_kind, is_free_page, inventory_of, put, take_page, lowest_free, free_from, system_kind, first_not, maps_from, needed_at, new_within, new_page, when, first_cause, lowest_broken, bits-least, inventory_kind, scn_kind, joined_new, plain_place, places_apart, eq_yes, IsLowestFree, free_from_is, lowest_is, div_rises, map_place_is, IsReady, Visits, system_visits, plain_visits, next_place, needed_on, IsMadeBehind, same_made, made_here, IsFreshBehind, same_fresh, fresh_here, IsOnTheWay, way_begins, way_further, inventory_place_some, first_behind, first_append, behind_none, first_none, maps_found, draft_cause, last_map, Met, met, round_at, try_stops, try_full, try_more, try_last, clear_cause, joined_cause, need_cause, way_cause, Behind, IsKnown, gone, IsSearchable, Searches, AtPlace, AtKnown, GoesTo, IsShort, Finds, Refuses, EndsBy, first_here, first_next, some_none, no_cause, none_some}
+use Rattle.nb_host.specs.declared.faults.Fault.TheVariants.{Refused as RefusedFault}
 use Rattle.nb_model.proofs.OnwardTests.{next_is, needs_same}
-use Rattle.nb_model.proofs.NeedLaws.{first_behind, first_append, behind_none, first_none, maps_found}
-use Rattle.nb_model.proofs.SearchLaws.{draft_cause, last_map, Met, met, round_at, try_stops, try_full, try_more, try_last, clear_cause, joined_cause}
-use Rattle.nb_alloc.specs.Find.{need_cause}
-use Rattle.nb_alloc.specs.Way.{way_cause}
-use Rattle.nb_alloc.specs.declared.behind.Behind.{Behind}
-use Rattle.nb_alloc.specs.Behind.{IsKnown, gone}
-use Rattle.nb_alloc.specs.Search.{IsSearchable, Searches, AtPlace, AtKnown, GoesTo, IsShort, Finds, Refuses, EndsBy}
 use Rattle.nb_alloc.proofs.BehindLaws.{known_plain, known_gone}
 use Rattle.nb_alloc.proofs.PassLaws.{place_free}
-use Rattle.nb_alloc.proofs.CauseLaws.{first_none as first_none_cause, first_next, first_here}
 use Rattle.nb_alloc.proofs.FullLaws.{three_apart}
 
 -- the cause of a draft that ends at a page, and of one for which no page is left
@@ -336,9 +306,6 @@ module _ (old start now : Image) (first from made fresh tries : ℕ) (s : Search
       ∙ ap (λ (n : ℕ). first_cause (None ∷ when (n == most_pages) (Full most_pages) ∷ [])) end_at
       ∙ first_next None (Some (Full most_pages) ∷ []) refl ∙ first_here (Some (Full most_pages)) [] (Full most_pages) refl
 
-pub cause_some : (r : Refusal) → Some r ≡ None → ⊥
-cause_some r e = cc
-
 -- what the cause of a search tells
 way_none : (old : Image) (from made fresh p : ℕ) → p ≡ next_place old from fresh → way_cause old from made fresh ≡ None → (first_not old (needed_on old from made fresh p) ≡ None) × (p ≢ most_pages)
 way_none old from made fresh p at none = by (first_not old (needed_on old from made fresh p)) (p == most_pages) refl refl (subst (λ (n : ℕ). first_cause (need_cause (first_not old (needed_on old from made fresh n)) ∷ when (n == most_pages) (Full most_pages) ∷ []) ≡ None) (sym at) none)
@@ -348,8 +315,8 @@ way_none old from made fresh p at none = by (first_not old (needed_on old from m
 
     by : (o : Option ℕ) (t : Bool) → first_not old (needed_on old from made fresh p) ≡ o → (p == most_pages) ≡ t → Q o t → (first_not old (needed_on old from made fresh p) ≡ None) × (p ≢ most_pages)
     by None false e f q = (e, λ same. absurd (elim (eqb_tells p most_pages) [ inl w ↦ true≢false (sym w.0 ∙ f) | inr w ↦ w.1 same ]))
-    by None true e f q = absurd (cause_some (Full most_pages) (sym (first_next None (Some (Full most_pages) ∷ []) refl ∙ first_here (Some (Full most_pages)) [] (Full most_pages) refl) ∙ q))
-    by (Some r) t e f q = absurd (cause_some (NotDatabase r) (sym (first_here (Some (NotDatabase r)) (when t (Full most_pages) ∷ []) (NotDatabase r) refl) ∙ q))
+    by None true e f q = absurd (some_none (Full most_pages) (sym (first_next None (Some (Full most_pages) ∷ []) refl ∙ first_here (Some (Full most_pages)) [] (Full most_pages) refl) ∙ q))
+    by (Some r) t e f q = absurd (some_none (NotDatabase r) (sym (first_here (Some (NotDatabase r)) (when t (Full most_pages) ∷ []) (NotDatabase r) refl) ∙ q))
 
 -- it comes to the next page, or is refused as the draft is
 module _ (old start now : Image) (first from made fresh tries : ℕ) (s : Searches old start now first from made fresh tries) (most : length old ≤ most_pages) where
@@ -374,10 +341,7 @@ module _ (old start now : Image) (first from made fresh tries : ℕ) (s : Search
       by None true is end c =
           search_full old start now first from made fresh more.0 again most (next_place old from fresh) refl kind payload is (eqb-true (next_place old from fresh) most_pages end)
           ∙ sym (first_next None (Some (Full most_pages) ∷ []) refl ∙ first_here (Some (Full most_pages)) [] (Full most_pages) refl) ∙ c
-      by None false is end c = absurd (none_is (sym (first_next None (None ∷ []) refl ∙ first_next None [] refl ∙ first_none_cause) ∙ c))
-        where
-          none_is : None ≡ Some r → ⊥
-          none_is h = cc
+      by None false is end c = absurd (none_some r (sym (first_next None (None ∷ []) refl ∙ first_next None [] refl ∙ no_cause) ∙ c))
 
   pub refused_image : (r : Refusal) (kind : ℕ) (payload : ℕ → List ℕ) → way_cause old from made fresh ≡ Some r → (new_page kind payload (drafted start)).0.image ≡ now
   refused_image r kind payload e = by (first_not old (needed_on old from made fresh (next_place old from fresh))) (next_place old from fresh == most_pages) refl refl e
@@ -386,10 +350,7 @@ module _ (old start now : Image) (first from made fresh tries : ℕ) (s : Search
           → first_cause (need_cause o ∷ when t (Full most_pages) ∷ []) ≡ Some r → (new_page kind payload (drafted start)).0.image ≡ now
       by (Some q) t is end c = stops_image old start now first from made fresh more.0 again most (next_place old from fresh) refl q kind payload is
       by None true is end c = full_image old start now first from made fresh more.0 again most (next_place old from fresh) refl kind payload is (eqb-true (next_place old from fresh) most_pages end)
-      by None false is end c = absurd (none_is (sym (first_next None (None ∷ []) refl ∙ first_next None [] refl ∙ first_none_cause) ∙ c))
-        where
-          none_is : None ≡ Some r → ⊥
-          none_is h = cc
+      by None false is end c = absurd (none_some r (sym (first_next None (None ∷ []) refl ∙ first_next None [] refl ∙ no_cause) ∙ c))
 
 -- At a page that isn't the place of a system page the search ends.
 module _ (old start : Image) (first place made fresh : ℕ) (h : AtPlace old start first place made fresh) (most : length old ≤ most_pages) where
@@ -478,10 +439,10 @@ pub begins_at : (x : Image) (from made fresh : ℕ) → from ≡ 5 → made ≡ 
 begins_at x from made fresh a b c may =
     subst (λ (n : ℕ). IsOnTheWay x x n made fresh) (sym a) (subst (λ (m : ℕ). IsOnTheWay x x 5 m fresh) (sym b) (subst (λ (f : ℕ). IsOnTheWay x x 5 0 f) (sym c) (way_begins x may.shaped may.long)))
 
-pub place_begins : (x : Image) (from fresh : ℕ) → from ≡ 5 → fresh ≡ 0 → IsTrue (is_page_size (image_size x)) → (inventory_of x from ≢ fresh) × (next_place x from fresh ≡ lowest_free x)
+pub place_begins : (x : Image) (from fresh size : ℕ) → from ≡ 5 → fresh ≡ 0 → size ≡ image_size x → IsTrue (is_page_size size) → (inventory_of x from ≢ fresh) × (next_place x from fresh ≡ lowest_free x)
 unfolding lowest_free
-place_begins x from fresh a b size =
-    let some = inventory_place_some (image_size x) (from / bits_in (image_size x)) size in
+place_begins x from fresh size a b same sized =
+    let some = inventory_place_some (image_size x) (from / bits_in (image_size x)) (subst (λ (s : ℕ). IsTrue (is_page_size s)) same sized) in
     let other : inventory_of x from ≢ fresh = λ e. absurd (omega (arith, some, e, b)) in
     (other, place_free x from fresh other ∙ ap (λ (n : ℕ). free_from (length x - n) n x) a)
 

@@ -5,12 +5,12 @@ ghost use Rattle.nb_fields.specs.Places.{most_pages};
 ghost use Rattle.nb_fields.specs.Kinds.{data_kind};
 ghost use Rattle.nb_host.specs.declared.faults.Fault.TheVariants.{Memory};
 ghost use Rattle.nb_host.specs.Causes.{CountsDevice, CountsFault};
-ghost use Rattle.nb_page.specs.Quiet.{Quiet};
 ghost use Rattle.nb_host.specs.declared.refusals.Refusal.TheVariants.{NotDatabase};
 ghost use Rattle.nb_model.specs.Causes.{lowest_broken};
 ghost use Rattle.nb_model.specs.Forms.{is_kind, scn_page_of};
 ghost use Rattle.nb_model.specs.Trail.{Trail};
-ghost use Rattle.nb_state.specs.Open.{IsOpen, but_pages};
+ghost use Rattle.nb_state.specs.Open.{IsOpen};
+ghost use Rattle.nb_state.specs.Looks.{Looks};
 ghost use Rattle.nb_state.specs.Does.{Tested};
 ghost use Rattle.nb_alloc.specs.Behind.{judged, entry_broken, page_in, page_if, IsKnown, EndsAlike, entry_left, gone};
 
@@ -58,9 +58,7 @@ impl Behind {
         ensures page { IfOk result (λ b. b.page ≡ number) }
         ensures map_room { length map.new ≡ length map.old }
         ensures scn_room { length scn_page.new ≡ length scn_page.old }
-        ensures open { (t : Trail) → IsTrue H.tells → IsOpen (H.world host.old) store.old t → IsOpen (H.world host.new) store.new t }
-        ensures same { but_pages store.new ≡ but_pages store.old }
-        ensures quiet { Quiet (H.world host.old) (H.world host.new) }
+        ensures looks { Looks H.tells (H.world host.old) (H.world host.new) store.old store.new }
         ensures cause { CountsFault result (H.faults host.old) (H.faults host.new) }
     {
         // Contracts ask for it.
@@ -119,9 +117,7 @@ pub fn find_lacking<H: Host>(
     ensures place { (t : Trail) → IsTrue H.tells → IsOpen (H.world host.old) store.old t → IfOk result (λ lacking. IfSome lacking (λ p. p ≡ scn_page_of t.base.image number)) }
     ensures map_room { length map.new ≡ length map.old }
     ensures scn_room { length scn_page.new ≡ length scn_page.old }
-    ensures open { (t : Trail) → IsTrue H.tells → IsOpen (H.world host.old) store.old t → IsOpen (H.world host.new) store.new t }
-    ensures same { but_pages store.new ≡ but_pages store.old }
-    ensures quiet { Quiet (H.world host.old) (H.world host.new) }
+    ensures looks { Looks H.tells (H.world host.old) (H.world host.new) store.old store.new }
     ensures cause { CountsFault result (H.faults host.old) (H.faults host.new) }
 {
     let page_size = store.page_size();

@@ -4,13 +4,13 @@ ghost use Rattle.nb_fields.specs.Places.{is_page_size, bits_in, is_system_place,
 ghost use Rattle.nb_fields.specs.Kinds.{inventory_kind};
 ghost use Rattle.nb_host.specs.declared.faults.Fault.TheVariants.{Memory};
 ghost use Rattle.nb_host.specs.Causes.{CountsDevice};
-ghost use Rattle.nb_page.specs.Quiet.{Quiet};
 ghost use Rattle.nb_model.specs.Image.{Page, Image, image_size};
 ghost use Rattle.nb_model.specs.Causes.{not_kind};
 ghost use Rattle.nb_model.specs.Way.{maps_up_to};
 ghost use Rattle.nb_model.specs.Forms.{inventory_of, free_from, first_not};
 ghost use Rattle.nb_model.specs.Trail.{Trail};
-ghost use Rattle.nb_state.specs.Open.{IsOpen, but_pages};
+ghost use Rattle.nb_state.specs.Open.{IsOpen};
+ghost use Rattle.nb_state.specs.Looks.{Looks};
 ghost use Rattle.nb_state.specs.Does.{Tested};
 ghost use Rattle.nb_alloc.specs.Put.{Reads};
 ghost use Rattle.nb_alloc.specs.Find.{AreTaken, IsFreeNear, IsMap, EndsAt, RefusedFor, need_cause, AreMaps};
@@ -72,9 +72,7 @@ fn free_near<H: Host>(
     ensures not_before { IfOk result (λ found. IfSome found (λ page. from ≤ page)) }
     ensures below { IfOk result (λ found. IfSome found (λ page. page < store.old.files.count)) }
     ensures room { length map.new ≡ length map.old }
-    ensures open { (t : Trail) → IsTrue H.tells → IsOpen (H.world host.old) store.old t → IsOpen (H.world host.new) store.new t }
-    ensures same { but_pages store.new ≡ but_pages store.old }
-    ensures quiet { Quiet (H.world host.old) (H.world host.new) }
+    ensures looks { Looks H.tells (H.world host.old) (H.world host.new) store.old store.new }
     ensures once { IsTrue H.tells → (H.world host.new).reads ≤ (H.world host.old).reads + 1 }
     ensures cause { CountsDevice result (H.faults host.old) (H.faults host.new) }
     ensures takes_none { IfErr result (λ fault. fault ≢ Memory) }
@@ -112,9 +110,7 @@ pub(crate) fn next_free<H: Host>(
     ensures most { IfOk result (λ page. page ≤ most_pages) }
     ensures within { from ≤ store.old.files.count → IfOk result (λ page. page ≤ store.old.files.count) }
     ensures room { length map.new ≡ length map.old }
-    ensures open { (t : Trail) → IsTrue H.tells → IsOpen (H.world host.old) store.old t → IsOpen (H.world host.new) store.new t }
-    ensures same { but_pages store.new ≡ but_pages store.old }
-    ensures quiet { Quiet (H.world host.old) (H.world host.new) }
+    ensures looks { Looks H.tells (H.world host.old) (H.world host.new) store.old store.new }
     ensures once { IsTrue H.tells → (H.world host.new).reads ≤ (H.world host.old).reads + (store.old.files.count / bits_in store.old.files.page_size + 1 - from / bits_in store.old.files.page_size) }
     ensures up_to { IsTrue H.tells → IfOk result (λ page. (H.world host.new).reads ≤ (H.world host.old).reads + (page / bits_in store.old.files.page_size + 1 - from / bits_in store.old.files.page_size)) }
     ensures cause { CountsDevice result (H.faults host.old) (H.faults host.new) }
@@ -146,9 +142,7 @@ pub(crate) fn hold_map<H: Host>(
     ensures test { (t : Trail) → IsTrue H.tells → IsOpen (H.world host.old) store.old t → EndsAt t.base.image from number map.old → Tested result (not_kind t.base.image inventory_kind (inventory_of t.base.image number)) }
     ensures map { (t : Trail) → IsTrue H.tells → IsOpen (H.world host.old) store.old t → EndsAt t.base.image from number map.old → OnOk result (IsMap t.base.image number map.new) }
     ensures room { length map.new ≡ length map.old }
-    ensures open { (t : Trail) → IsTrue H.tells → IsOpen (H.world host.old) store.old t → IsOpen (H.world host.new) store.new t }
-    ensures same { but_pages store.new ≡ but_pages store.old }
-    ensures quiet { Quiet (H.world host.old) (H.world host.new) }
+    ensures looks { Looks H.tells (H.world host.old) (H.world host.new) store.old store.new }
     ensures once { IsTrue H.tells → (H.world host.new).reads ≤ (H.world host.old).reads + 1 }
     ensures cause { CountsDevice result (H.faults host.old) (H.faults host.new) }
     ensures takes_none { IfErr result (λ fault. fault ≢ Memory) }

@@ -6,12 +6,12 @@ ghost use Rattle.nb_fields.specs.Places.{is_page_size, is_system_place, most_pag
 ghost use Rattle.nb_fields.specs.States.{stalled_state};
 ghost use Rattle.nb_host.specs.Causes.{CountsDevice, CountsFault};
 ghost use Rattle.nb_host.specs.declared.faults.Fault.TheVariants.{Memory};
-ghost use Rattle.nb_page.specs.Quiet.{Quiet};
 ghost use Rattle.nb_model.specs.Image.{Image, image_size, image_scn};
 ghost use Rattle.nb_model.specs.Trail.{Trail};
 ghost use Rattle.nb_model.specs.Forms.{drafted, old_page, put, is_kind, system_kind, system_payload, take_page, lowest_free};
 ghost use Rattle.nb_model.proofs.SearchLaws.{draft_cause};
-ghost use Rattle.nb_state.specs.Open.{IsOpen, but_pages};
+ghost use Rattle.nb_state.specs.Open.{IsOpen};
+ghost use Rattle.nb_state.specs.Looks.{Looks};
 ghost use Rattle.nb_state.specs.Does.{Goes};
 ghost use Rattle.nb_alloc.specs.Tries.{Tries};
 ghost use Rattle.nb_alloc.specs.Put.{entry_cause};
@@ -67,9 +67,7 @@ fn take_old<H: Host>(
 ) -> Result<(), HostFault>
     requires room { length into.old ≡ store.old.files.page_size }
     ensures page { (t : Trail) → IsTrue H.tells → IsOpen (H.world host.old) store.old t → OnOk result (into.new ≡ old_page number t.base.image) }
-    ensures open { (t : Trail) → IsTrue H.tells → IsOpen (H.world host.old) store.old t → IsOpen (H.world host.new) store.new t }
-    ensures same { but_pages store.new ≡ but_pages store.old }
-    ensures quiet { Quiet (H.world host.old) (H.world host.new) }
+    ensures looks { Looks H.tells (H.world host.old) (H.world host.new) store.old store.new }
     ensures once { IsTrue H.tells → 0 < number → (H.world host.new).reads ≤ (H.world host.old).reads + 1 }
     ensures cause { CountsFault result (H.faults host.old) (H.faults host.new) }
 {
@@ -94,9 +92,7 @@ fn has_page<H: Host>(
     ensures value { (t : Trail) → IsTrue H.tells → IsOpen (H.world host.old) store.old t → IfOk result (λ has. has ≡ is_kind t.base.image (code_of kind) number) }
     ensures below { IfOk result (λ has. has ≡ true → number < store.old.files.count) }
     ensures page { (t : Trail) → IsTrue H.tells → IsOpen (H.world host.old) store.old t → OnOk result (into.new ≡ old_page number t.base.image) }
-    ensures open { (t : Trail) → IsTrue H.tells → IsOpen (H.world host.old) store.old t → IsOpen (H.world host.new) store.new t }
-    ensures same { but_pages store.new ≡ but_pages store.old }
-    ensures quiet { Quiet (H.world host.old) (H.world host.new) }
+    ensures looks { Looks H.tells (H.world host.old) (H.world host.new) store.old store.new }
     ensures once { IsTrue H.tells → 0 < number → (H.world host.new).reads ≤ (H.world host.old).reads + 1 }
     ensures cause { CountsFault result (H.faults host.old) (H.faults host.new) }
 {

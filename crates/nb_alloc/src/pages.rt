@@ -6,13 +6,13 @@ ghost use Rattle.nb_fields.specs.Places.{is_page_size, entries_in, bits_in};
 ghost use Rattle.nb_fields.specs.Kinds.{inventory_kind, scn_kind};
 ghost use Rattle.nb_host.specs.declared.faults.Fault.TheVariants.{Memory};
 ghost use Rattle.nb_host.specs.Causes.{CountsDevice};
-ghost use Rattle.nb_page.specs.Quiet.{Quiet};
 ghost use Rattle.nb_pip.specs.Bits.{bits, AreUsed, IsLowestFree};
 ghost use Rattle.nb_scn.specs.Entries.{entries};
 ghost use Rattle.nb_model.specs.Causes.{not_kind};
 ghost use Rattle.nb_model.specs.Forms.{with_bit};
 ghost use Rattle.nb_model.specs.Trail.{Trail};
-ghost use Rattle.nb_state.specs.Open.{IsOpen, but_pages};
+ghost use Rattle.nb_state.specs.Open.{IsOpen};
+ghost use Rattle.nb_state.specs.Looks.{Looks};
 ghost use Rattle.nb_alloc.specs.Put.{Reads};
 ghost use Rattle.nb_alloc.specs.Mark.{bit_for};
 
@@ -69,9 +69,7 @@ impl ScnPage {
         ensures reads { (t : Trail) → IsTrue H.tells → IsOpen (H.world host.old) store.old t → Reads result t.base.image (not_kind t.base.image scn_kind place) place self.new }
         ensures below { OnOk result (place < store.old.files.count) }
         ensures room { length self.new ≡ length self.old }
-        ensures open { (t : Trail) → IsTrue H.tells → IsOpen (H.world host.old) store.old t → IsOpen (H.world host.new) store.new t }
-        ensures same { but_pages store.new ≡ but_pages store.old }
-        ensures quiet { Quiet (H.world host.old) (H.world host.new) }
+        ensures looks { Looks H.tells (H.world host.old) (H.world host.new) store.old store.new }
         ensures once { IsTrue H.tells → 0 < place → (H.world host.new).reads ≤ (H.world host.old).reads + 1 }
         ensures cause { CountsDevice result (H.faults host.old) (H.faults host.new) }
         ensures takes_none { IfErr result (λ fault. fault ≢ Memory) }
@@ -149,9 +147,7 @@ impl InventoryPage {
         ensures reads { (t : Trail) → IsTrue H.tells → IsOpen (H.world host.old) store.old t → Reads result t.base.image (not_kind t.base.image inventory_kind place) place self.new }
         ensures below { OnOk result (place < store.old.files.count) }
         ensures room { length self.new ≡ length self.old }
-        ensures open { (t : Trail) → IsTrue H.tells → IsOpen (H.world host.old) store.old t → IsOpen (H.world host.new) store.new t }
-        ensures same { but_pages store.new ≡ but_pages store.old }
-        ensures quiet { Quiet (H.world host.old) (H.world host.new) }
+        ensures looks { Looks H.tells (H.world host.old) (H.world host.new) store.old store.new }
         ensures once { IsTrue H.tells → 0 < place → (H.world host.new).reads ≤ (H.world host.old).reads + 1 }
         ensures cause { CountsDevice result (H.faults host.old) (H.faults host.new) }
         ensures takes_none { IfErr result (λ fault. fault ≢ Memory) }

@@ -5,12 +5,12 @@ ghost use Rattle.nb_fields.specs.States.{stalled_state};
 ghost use Rattle.nb_host.specs.declared.faults.Fault.TheVariants.{Memory};
 ghost use Rattle.nb_host.specs.Causes.{CountsDevice, CountsRun};
 ghost use Rattle.nb_host.specs.Faults.{as_answer};
-ghost use Rattle.nb_page.specs.Quiet.{Quiet};
 ghost use Rattle.nb_model.specs.Image.{page_at};
 ghost use Rattle.nb_model.specs.Forms.{scn_page_of};
 ghost use Rattle.nb_model.specs.Trail.{Trail};
 ghost use Rattle.nb_base.specs.Takes.{Strikes};
-ghost use Rattle.nb_state.specs.Open.{IsOpen, but_pages, name_of};
+ghost use Rattle.nb_state.specs.Open.{IsOpen, name_of};
+ghost use Rattle.nb_state.specs.Looks.{Looks};
 ghost use Rattle.nb_state.specs.Does.{Goes, Makes};
 ghost use Rattle.nb_alloc.specs.Tries.{Tries};
 ghost use Rattle.nb_alloc.specs.Put.{TellsRaise, entry_cause, must_raise, raise_stroke, raise_strokes, raw_stroke};
@@ -35,9 +35,7 @@ pub(crate) fn must_raise<H: Host>(
     ensures tells { (t : Trail) → IsTrue H.tells → IsOpen (H.world host.old) store.old t → TellsRaise result t.base.image number scn_page.new }
     ensures below { IfOk result (λ must. must ≡ true → scn_place store.old.files.page_size (number / entries_in store.old.files.page_size) < store.old.files.count) }
     ensures room { length scn_page.new ≡ length scn_page.old }
-    ensures open { (t : Trail) → IsTrue H.tells → IsOpen (H.world host.old) store.old t → IsOpen (H.world host.new) store.new t }
-    ensures same { but_pages store.new ≡ but_pages store.old }
-    ensures quiet { Quiet (H.world host.old) (H.world host.new) }
+    ensures looks { Looks H.tells (H.world host.old) (H.world host.new) store.old store.new }
     ensures once { IsTrue H.tells → (H.world host.new).reads ≤ (H.world host.old).reads + 1 }
     ensures cause { CountsDevice result (H.faults host.old) (H.faults host.new) }
     ensures takes_none { IfErr result (λ fault. fault ≢ Memory) }

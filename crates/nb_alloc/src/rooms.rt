@@ -4,12 +4,12 @@ ghost use Rattle.nb_fields.specs.Places.{bits_in, most_pages};
 ghost use Rattle.nb_fields.specs.Kinds.{data_kind};
 ghost use Rattle.nb_host.specs.declared.faults.Fault.TheVariants.{Memory};
 ghost use Rattle.nb_host.specs.Causes.{CountsDevice};
-ghost use Rattle.nb_page.specs.Quiet.{Quiet};
 ghost use Rattle.nb_model.specs.Image.{image_size};
 ghost use Rattle.nb_model.specs.Forms.{is_kind, lowest_free};
 ghost use Rattle.nb_model.specs.Trail.{Trail};
 ghost use Rattle.nb_model.proofs.SearchLaws.{draft_cause};
-ghost use Rattle.nb_state.specs.Open.{IsOpen, but_pages};
+ghost use Rattle.nb_state.specs.Open.{IsOpen};
+ghost use Rattle.nb_state.specs.Looks.{Looks};
 ghost use Rattle.nb_state.specs.Does.{Tested};
 ghost use Rattle.nb_alloc.specs.Behind.{IsKnown, Judges, behind_cause};
 ghost use Rattle.nb_alloc.specs.Data.{second_data};
@@ -44,9 +44,7 @@ pub fn check_new<H: Host>(
     ensures within { 5 ≤ store.old.files.count → IfOk result (λ page. page ≤ store.old.files.count) }
     ensures map_room { length map.new ≡ length map.old }
     ensures scn_room { length scn_page.new ≡ length scn_page.old }
-    ensures open { (t : Trail) → IsTrue H.tells → IsOpen (H.world host.old) store.old t → IsOpen (H.world host.new) store.new t }
-    ensures same { but_pages store.new ≡ but_pages store.old }
-    ensures quiet { Quiet (H.world host.old) (H.world host.new) }
+    ensures looks { Looks H.tells (H.world host.old) (H.world host.new) store.old store.new }
     ensures once { (t : Trail) (kind : ℕ) (payload : ℕ → List ℕ) → IsTrue H.tells → IsOpen (H.world host.old) store.old t → IsSearchable t.base.image → IsShort payload
         → IfOk result (λ page. (H.world host.new).reads ≤ (H.world host.old).reads + page / bits_in (image_size t.base.image) + 4 + 5 * ((new_of kind payload t.base.image).1 - page)) }
     ensures cause { CountsDevice result (H.faults host.old) (H.faults host.new) }
@@ -86,9 +84,7 @@ fn find_rooms<H: Host>(
     ensures page { behind.new.page ≡ behind.old.page }
     ensures map_room { length map.new ≡ length map.old }
     ensures scn_room { length scn_page.new ≡ length scn_page.old }
-    ensures open { (t : Trail) → IsTrue H.tells → IsOpen (H.world host.old) store.old t → IsOpen (H.world host.new) store.new t }
-    ensures same { but_pages store.new ≡ but_pages store.old }
-    ensures quiet { Quiet (H.world host.old) (H.world host.new) }
+    ensures looks { Looks H.tells (H.world host.old) (H.world host.new) store.old store.new }
     ensures cause { CountsDevice result (H.faults host.old) (H.faults host.new) }
     ensures takes_none { IfErr result (λ fault. fault ≢ Memory) }
 {
@@ -137,9 +133,7 @@ pub fn check_rooms<H: Host>(
     ensures within { 5 ≤ store.old.files.count → IfOk result (λ page. page ≤ store.old.files.count) }
     ensures map_room { length map.new ≡ length map.old }
     ensures scn_room { length scn_page.new ≡ length scn_page.old }
-    ensures open { (t : Trail) → IsTrue H.tells → IsOpen (H.world host.old) store.old t → IsOpen (H.world host.new) store.new t }
-    ensures same { but_pages store.new ≡ but_pages store.old }
-    ensures quiet { Quiet (H.world host.old) (H.world host.new) }
+    ensures looks { Looks H.tells (H.world host.old) (H.world host.new) store.old store.new }
     ensures cause { CountsDevice result (H.faults host.old) (H.faults host.new) }
     ensures takes_none { IfErr result (λ fault. fault ≢ Memory) }
 {

@@ -3,14 +3,14 @@ ghost use Rattle.std.specs.Prelude.{◌≡◌, ◌≢◌, ℕ, ◌+◌, ◌-◌,
 ghost use Rattle.nb_fields.specs.Places.{is_page_size, bits_in, inventory_place, is_system_place, most_pages};
 ghost use Rattle.nb_host.specs.declared.faults.Fault.TheVariants.{Memory};
 ghost use Rattle.nb_host.specs.Causes.{CountsDevice, CountsFault};
-ghost use Rattle.nb_page.specs.Quiet.{Quiet};
 ghost use Rattle.nb_model.specs.Image.{Image};
 ghost use Rattle.nb_model.specs.Forms.{inventory_of, is_kind, system_kind, first_not};
 ghost use Rattle.nb_model.proofs.OnwardLaws.{IsOnTheWay};
 ghost use Rattle.nb_model.specs.Causes.{not_kind};
 ghost use Rattle.nb_model.specs.Trail.{Trail};
 ghost use Rattle.nb_model.specs.Way.{next_place, maps_on, entry_on, map_entry_on, own_entry_on, IsMadeBehind, IsFreshBehind};
-ghost use Rattle.nb_state.specs.Open.{IsOpen, but_pages};
+ghost use Rattle.nb_state.specs.Open.{IsOpen};
+ghost use Rattle.nb_state.specs.Looks.{Looks};
 ghost use Rattle.nb_state.specs.Does.{Tested};
 ghost use Rattle.nb_alloc.specs.Find.{IsMap, HoldsMap, need_cause};
 ghost use Rattle.nb_alloc.specs.Way.{way_cause};
@@ -70,9 +70,7 @@ fn find_place<H: Host>(
     ensures most { IfOk result (λ page. page ≤ most_pages) }
     ensures within { way.now.from ≤ store.old.files.count → IfOk result (λ page. page ≤ store.old.files.count) }
     ensures room { length map.new ≡ length map.old }
-    ensures open { (t : Trail) → IsTrue H.tells → IsOpen (H.world host.old) store.old t → IsOpen (H.world host.new) store.new t }
-    ensures same { but_pages store.new ≡ but_pages store.old }
-    ensures quiet { Quiet (H.world host.old) (H.world host.new) }
+    ensures looks { Looks H.tells (H.world host.old) (H.world host.new) store.old store.new }
     ensures once { IsTrue H.tells → IfOk result (λ page. (H.world host.new).reads ≤ (H.world host.old).reads + (page / bits_in store.old.files.page_size + 1 - way.now.from / bits_in store.old.files.page_size) + 1) }
     ensures cause { CountsDevice result (H.faults host.old) (H.faults host.new) }
     ensures takes_none { IfErr result (λ fault. fault ≢ Memory) }
@@ -106,9 +104,7 @@ fn check_unless<H: Host>(
     requires number { number < most_pages }
     ensures test { (t : Trail) → IsTrue H.tells → IsOpen (H.world host.old) store.old t → Tested result (need_cause (first_not t.base.image (entry_on t.base.image made number))) }
     ensures room { length scn_page.new ≡ length scn_page.old }
-    ensures open { (t : Trail) → IsTrue H.tells → IsOpen (H.world host.old) store.old t → IsOpen (H.world host.new) store.new t }
-    ensures same { but_pages store.new ≡ but_pages store.old }
-    ensures quiet { Quiet (H.world host.old) (H.world host.new) }
+    ensures looks { Looks H.tells (H.world host.old) (H.world host.new) store.old store.new }
     ensures once { IsTrue H.tells → (H.world host.new).reads ≤ (H.world host.old).reads + 1 }
     ensures cause { CountsDevice result (H.faults host.old) (H.faults host.new) }
     ensures takes_none { IfErr result (λ fault. fault ≢ Memory) }
@@ -154,9 +150,7 @@ fn check_map_entry<H: Host>(
     requires from { way.now.from < most_pages }
     ensures test { (t : Trail) → IsTrue H.tells → IsOpen (H.world host.old) store.old t → Tested result (need_cause (first_not t.base.image (map_entry_on t.base.image way.now.from way.now.made number))) }
     ensures room { length scn_page.new ≡ length scn_page.old }
-    ensures open { (t : Trail) → IsTrue H.tells → IsOpen (H.world host.old) store.old t → IsOpen (H.world host.new) store.new t }
-    ensures same { but_pages store.new ≡ but_pages store.old }
-    ensures quiet { Quiet (H.world host.old) (H.world host.new) }
+    ensures looks { Looks H.tells (H.world host.old) (H.world host.new) store.old store.new }
     ensures once { IsTrue H.tells → (H.world host.new).reads ≤ (H.world host.old).reads + 1 }
     ensures cause { CountsDevice result (H.faults host.old) (H.faults host.new) }
     ensures takes_none { IfErr result (λ fault. fault ≢ Memory) }
@@ -201,9 +195,7 @@ pub fn is_there<H: Host>(
     ensures value { (t : Trail) → IsTrue H.tells → IsOpen (H.world host.old) store.old t → IfOk result (λ there. there ≡ is_kind t.base.image (system_kind t.base.image place) place) }
     ensures map_room { length map.new ≡ length map.old }
     ensures scn_room { length scn_page.new ≡ length scn_page.old }
-    ensures open { (t : Trail) → IsTrue H.tells → IsOpen (H.world host.old) store.old t → IsOpen (H.world host.new) store.new t }
-    ensures same { but_pages store.new ≡ but_pages store.old }
-    ensures quiet { Quiet (H.world host.old) (H.world host.new) }
+    ensures looks { Looks H.tells (H.world host.old) (H.world host.new) store.old store.new }
     ensures once { IsTrue H.tells → 0 < place → (H.world host.new).reads ≤ (H.world host.old).reads + 1 }
     ensures cause { CountsFault result (H.faults host.old) (H.faults host.new) }
 {
@@ -237,9 +229,7 @@ fn pass<H: Host>(
     ensures from { way.new.from ≡ way.old.from }
     ensures map_room { length map.new ≡ length map.old }
     ensures scn_room { length scn_page.new ≡ length scn_page.old }
-    ensures open { (t : Trail) → IsTrue H.tells → IsOpen (H.world host.old) store.old t → IsOpen (H.world host.new) store.new t }
-    ensures same { but_pages store.new ≡ but_pages store.old }
-    ensures quiet { Quiet (H.world host.old) (H.world host.new) }
+    ensures looks { Looks H.tells (H.world host.old) (H.world host.new) store.old store.new }
     ensures once { IsTrue H.tells → (H.world host.new).reads ≤ (H.world host.old).reads + 2 }
     ensures cause { CountsDevice result (H.faults host.old) (H.faults host.new) }
     ensures takes_none { IfErr result (λ fault. fault ≢ Memory) }
@@ -285,9 +275,7 @@ fn visit<H: Host>(
     ensures within { way.old.from ≤ store.old.files.count → IfOk result (λ page. page ≤ store.old.files.count) }
     ensures map_room { length map.new ≡ length map.old }
     ensures scn_room { length scn_page.new ≡ length scn_page.old }
-    ensures open { (t : Trail) → IsTrue H.tells → IsOpen (H.world host.old) store.old t → IsOpen (H.world host.new) store.new t }
-    ensures same { but_pages store.new ≡ but_pages store.old }
-    ensures quiet { Quiet (H.world host.old) (H.world host.new) }
+    ensures looks { Looks H.tells (H.world host.old) (H.world host.new) store.old store.new }
     ensures once { IsTrue H.tells → IfOk result (λ page. (H.world host.new).reads ≤ (H.world host.old).reads + (page / bits_in store.old.files.page_size + 1 - way.old.from / bits_in store.old.files.page_size) + 4) }
     ensures fewer { IsTrue H.tells → IfOk result (λ page. is_system_place store.old.files.page_size page ≡ false → (H.world host.new).reads ≤ (H.world host.old).reads + (page / bits_in store.old.files.page_size + 1 - way.old.from / bits_in store.old.files.page_size) + 3) }
     ensures cause { CountsDevice result (H.faults host.old) (H.faults host.new) }
@@ -336,9 +324,7 @@ fn go_on<H: Host>(
     ensures lost { behind.old.lost ≡ true → behind.new.lost ≡ true }
     ensures map_room { length map.new ≡ length map.old }
     ensures scn_room { length scn_page.new ≡ length scn_page.old }
-    ensures open { (t : Trail) → IsTrue H.tells → IsOpen (H.world host.old) store.old t → IsOpen (H.world host.new) store.new t }
-    ensures same { but_pages store.new ≡ but_pages store.old }
-    ensures quiet { Quiet (H.world host.old) (H.world host.new) }
+    ensures looks { Looks H.tells (H.world host.old) (H.world host.new) store.old store.new }
     ensures once { IsTrue H.tells → OnOk result (is_system_place store.old.files.page_size first ≡ true → (H.world host.new).reads + 1 ≤ (H.world host.old).reads + 5 * (way.new.from - way.old.from)) }
     ensures none { IsTrue H.tells → OnOk result (is_system_place store.old.files.page_size first ≡ false → ((H.world host.new).reads ≡ (H.world host.old).reads) × (way.new.from ≡ way.old.from)) }
     ensures cause { CountsDevice result (H.faults host.old) (H.faults host.new) }
@@ -390,9 +376,7 @@ pub(crate) fn find_room<H: Host>(
     ensures lost { behind.old.lost ≡ true → behind.new.lost ≡ true }
     ensures map_room { length map.new ≡ length map.old }
     ensures scn_room { length scn_page.new ≡ length scn_page.old }
-    ensures open { (t : Trail) → IsTrue H.tells → IsOpen (H.world host.old) store.old t → IsOpen (H.world host.new) store.new t }
-    ensures same { but_pages store.new ≡ but_pages store.old }
-    ensures quiet { Quiet (H.world host.old) (H.world host.new) }
+    ensures looks { Looks H.tells (H.world host.old) (H.world host.new) store.old store.new }
     ensures once { IsTrue H.tells → IfOk result (λ first. (H.world host.new).reads ≤ (H.world host.old).reads + (first / bits_in store.old.files.page_size + 1 - way.old.from / bits_in store.old.files.page_size) + 3 + 5 * (way.new.from - (first + 1))) }
     ensures cause { CountsDevice result (H.faults host.old) (H.faults host.new) }
     ensures takes_none { IfErr result (λ fault. fault ≢ Memory) }

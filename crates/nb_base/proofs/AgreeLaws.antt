@@ -1,21 +1,7 @@
 -- What is held agrees with the database after a page write, as it did before.
-use Rattle.std.proofs.Common.{◌≡◌, inl, inr, ℕ, zero, suc, ◌+◌, ◌<◌, List, length, refl, sym, ap, subst, ◌∙◌, arith}
-use Rattle.std.specs.Prelude.{Bool, ◌||◌, not, ◌==◌, nat_le, max, Result}
-use Rattle.std.proofs.lemmas.Bool.Decides.{eqb_tells}
-use Rattle.nb_fields.specs.Bytes.{number_in}
-use Rattle.nb_model.specs.Image.{Page, Image, first_page, image_size, image_state, is_forced, with_page}
-use Rattle.nb_model.specs.Account.{Base}
-use Rattle.nb_model.specs.Strokes.{Stroke, page, on_base}
-use Rattle.nb_model.specs.Trail.{Trail, after_stroke}
-use Rattle.nb_base.specs.Firm.{is_kept_place, must_sync}
-use Rattle.nb_model.proofs.HeaderLaws.{same-header}
-use Rattle.nb_model.proofs.StrokeLaws.{with_page_same, with_page_other}
-use Rattle.nb_model.proofs.TrailLaws.{trail_base}
-use Rattle.nb_host.specs.World.{World}
-use Rattle.nb_base.specs.Open.{Held, Agrees, Fits, IsOpen}
-use Rattle.nb_base.specs.Seen.{IsSeen, noted_in}
-use Rattle.nb_base.specs.Takes.{TakesFirm}
-use Rattle.nb_base.proofs.LeftLaws.{merged_fits, stroke-image, later_size, later_state, later_length, later_front, later_frozen}
+use Rattle.std.proofs.Common.{◌≡◌, inl, inr, ℕ, zero, suc, ◌+◌, ◌<◌, List, length, refl, sym, ap, subst, ◌∙◌, arith, Bool, ◌||◌, not, ◌==◌, nat_le, max, Result}
+use Rattle.nb_base.proofs.Common.{eqb_tells, number_in, Page, Image, first_page, image_size, image_state, is_forced, with_page, Base, Stroke, page, on_base, Trail, after_stroke, is_kept_place, must_sync, same-header, with_page_same, with_page_other, trail_base, World, Held, Agrees, Fits, IsOpen, IsSeen, noted_in, TakesFirm, stroke_page}
+use Rattle.nb_base.proofs.LeftLaws.{merged_fits, later_size, later_state, later_length, later_front, later_frozen}
 use Rattle.nb_base.proofs.ForcedLaws.{forced_in}
 
 -- what a page write makes of what is held
@@ -33,7 +19,7 @@ module _ (t : Trail) (p : ℕ) (bytes : Page) (fits : Fits p bytes t.base.image)
 
   written : later ≡ with_page p bytes t.base.image
   written =
-      ap (λ (b : Base). b.image) (trail_base (page p bytes) t) ∙ stroke-image t.base p bytes
+      ap (λ (b : Base). b.image) (trail_base (page p bytes) t) ∙ stroke_page t.base p bytes
       ∙ ap (λ (x : Page). with_page p x t.base.image) (merged_fits p bytes t.base.image fits.front)
 
   pub first_written : p ≡ 0 → first_page later ≡ bytes

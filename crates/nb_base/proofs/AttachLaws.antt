@@ -1,64 +1,28 @@
 -- Why a file isn't opened, and what is held of one that is.
-use Rattle.std.proofs.Common.{◌≡◌, ◌≢◌, inl, inr, ℕ, zero, suc, ◌+◌, ◌-◌, ◌*◌, ◌/◌, ◌%◌, ◌<◌, ◌≤◌, List, [], ◌∷◌, ◌++◌, length, get_or, take, drop, refl, sym, ap, subst, ◌∙◌, arith, length-append, mul-le-mul_right, suc-mul}
-use Rattle.std.specs.Prelude.{Bool, true, false, not, ◌==◌, ◌||◌, IsTrue, Option, Some, None, option_map, min, max, nat_lt, Result, Ok, Err, IsErr, IsErrAnd, IfOk, IfErr}
-use Rattle.std.proofs.Math.Nat.{div-eq_of_lt}
-use Rattle.std.proofs.lemmas.Bool.{cases_Bool}
-use Rattle.std.proofs.lemmas.Bool.Decides.{leb_tells, eqb_tells}
-use Rattle.std.proofs.lemmas.List.{get_or-append_right, get_or_append_left, take-take, take_more}
-use Rattle.nb_fields.specs.Bytes.{is_zeros, number_in}
-use Rattle.nb_fields.specs.Header.{is_header, state_of, size_of}
-use Rattle.nb_fields.specs.Places.{is_page_size, most_pages}
+use Rattle.std.proofs.Common.{◌≡◌, ◌≢◌, inl, inr, ℕ, zero, suc, ◌+◌, ◌-◌, ◌*◌, ◌/◌, ◌%◌, ◌<◌, ◌≤◌, List, [], ◌∷◌, ◌++◌, length, get_or, take, drop, refl, sym, ap, subst, ◌∙◌, arith, length-append, mul-le-mul_right, suc-mul, Bool, true, false, not, ◌==◌, ◌||◌, IsTrue, Option, Some, None, option_map, min, max, nat_lt, Result, Ok, Err, IsErr, IsErrAnd, IfOk, IfErr}
+use Rattle.nb_base.proofs.Common.{div-eq_of_lt, cases_Bool, leb_tells, eqb_tells, get_or-append_right, get_or_append_left, take-take, take_more, is_zeros, number_in, is_header, state_of, size_of, is_page_size, most_pages, number_in-take, size_facts, applying_state, File, Fault, Refused, Device, Memory, Refusal, NotDatabase, Unfinished, Image, page_at, first_page, image_size, image_in, Cause, first_cause, when, not_database, header-size, same-number, all_at, IsTrimmed, page-joined, length-joined, trimmed-drop, trimmed-zeros, IsLaid, laid, laid-front, laid-wide, some_page, Known, behind_entries, IsBlank, Tested, length_cause, start_cause, main_cause, unheaded, device_memory, nil_cons, none_some, ok_equal, some_same, true≢false, or_right}
 use Rattle.nb_fields.proofs.HeaderLaws.{is_header-take}
-use Rattle.nb_fields.proofs.PartLaws.{number_in-take}
-use Rattle.nb_fields.proofs.SizeLaws.{size_facts}
-use Rattle.nb_fields.specs.States.{applying_state}
-use Rattle.nb_host.specs.Files.{File}
-use Rattle.nb_host.specs.declared.faults.Fault.{Fault}
-use Rattle.nb_host.specs.declared.faults.Fault.TheVariants.{Refused, Device, Memory}
-use Rattle.nb_host.specs.declared.refusals.Refusal.{Refusal}
-use Rattle.nb_host.specs.declared.refusals.Refusal.TheVariants.{NotDatabase, Unfinished}
-use Rattle.nb_model.specs.Image.{Image, page_at, first_page, image_size, image_in}
-use Rattle.nb_model.specs.Causes.{Cause, first_cause, when, not_database}
-use Rattle.nb_model.proofs.HeaderLaws.{header-size, same-number}
-use Rattle.nb_model.proofs.SoundLaws.{all_at}
-use Rattle.nb_model.proofs.ImageLaws.{IsTrimmed, page-joined, length-joined, trimmed-drop, trimmed-zeros}
-use Rattle.nb_model.proofs.MainLaws.{IsLaid, laid, laid-front, laid-wide, some_page}
 use Rattle.nb_model.proofs.ReadLaws.{lt_no, lt_yes, eq_no, eq_yes}
-use Rattle.nb_delta.specs.Known.{Known}
-use Rattle.nb_model.specs.Owner.{behind_entries}
 use Rattle.nb_base.proofs.OwnedLaws.{behind-added}
-use Rattle.nb_base.specs.Attach.{IsBlank, Tested, length_cause, start_cause, main_cause}
 use Rattle.nb_page.specs.Header.{header_in}
 use Rattle.nb_page.specs.declared.header.Header.{Header}
+use Rattle.nb_model.proofs.TurnCases.{no_cause}
+use Rattle.nb_model.proofs.WholeLaws.{when_false}
 
 -- the first test that applies decides
-first_here : (c : Cause) (cs : List Cause) (r : Refusal) → c ≡ Some r → first_cause (c ∷ cs) ≡ Some r
+pub first_here : (c : Cause) (cs : List Cause) (r : Refusal) → c ≡ Some r → first_cause (c ∷ cs) ≡ Some r
 unfolding first_cause
 first_here c cs r e = rw (e, first_cause) refl
 
-first_next : (c : Cause) (cs : List Cause) → c ≡ None → first_cause (c ∷ cs) ≡ first_cause cs
+pub first_next : (c : Cause) (cs : List Cause) → c ≡ None → first_cause (c ∷ cs) ≡ first_cause cs
 unfolding first_cause
 first_next c cs e = rw (e, first_cause) refl
 
-first_none : first_cause [] ≡ None
-unfolding first_cause
-first_none = refl
-
 -- a test that applies, and one that doesn't
-applies : (test : Bool) (r : Refusal) → test ≡ true → when test r ≡ Some r
+pub applies : (test : Bool) (r : Refusal) → test ≡ true → when test r ≡ Some r
 applies test r e = ap (λ (t : Bool). when t r) e
 
-rests : (test : Bool) (r : Refusal) → test ≡ false → when test r ≡ None
-rests test r e = ap (λ (t : Bool). when t r) e
-
-true_false : true ≡ false → ⊥
-true_false h = cc
-
 -- by whether there is a header
-pub unheaded : (bytes : List ℕ) → is_header bytes ≡ false → not_database bytes ≡ Some (NotDatabase 0)
-unfolding not_database
-unheaded bytes e = rw (e, not_database) refl
-
 pub headed : (bytes : List ℕ) → is_header bytes ≡ true → not_database bytes ≡ length_cause (length bytes) (size_of bytes)
 unfolding not_database
 headed bytes e = rw (e, not_database) refl
@@ -69,20 +33,16 @@ module _ (len size : ℕ) where
   parted h = first_here _ _ _ (applies _ _ (ap (λ (t : Bool). not t || nat_lt (len / size) 5) (eq_no (len % size) 0 h)))
 
   pub too_few : len / size < 5 → length_cause len size ≡ Some (NotDatabase (min (len / size) most_pages))
-  too_few h = first_here _ _ _ (applies _ _ (last (len % size == 0) (lt_yes (len / size) 5 h)))
-    where
-      last : (t : Bool) {b : Bool} → b ≡ true → (not t || b) ≡ true
-      last true e = e
-      last false e = refl
+  too_few h = first_here _ _ _ (applies _ _ (or_right (not (len % size == 0)) _ (lt_yes (len / size) 5 h)))
 
   whole_test : len % size ≡ 0 → 5 ≤ len / size → (not (len % size == 0) || nat_lt (len / size) 5) ≡ false
   whole_test h k = ap (λ (t : Bool). not t || nat_lt (len / size) 5) (eq_yes (len % size) 0 h) ∙ lt_no (len / size) 5 k
 
   pub too_many : len % size ≡ 0 → 5 ≤ len / size → most_pages < len / size → length_cause len size ≡ Some (NotDatabase most_pages)
-  too_many h k most = first_next _ _ (rests _ _ (whole_test h k)) ∙ first_here _ _ _ (applies _ _ (lt_yes most_pages (len / size) most))
+  too_many h k most = first_next _ _ (when_false _ _ (whole_test h k)) ∙ first_here _ _ _ (applies _ _ (lt_yes most_pages (len / size) most))
 
   pub fits : len % size ≡ 0 → 5 ≤ len / size → len / size ≤ most_pages → length_cause len size ≡ None
-  fits h k most = first_next _ _ (rests _ _ (whole_test h k)) ∙ first_next _ _ (rests _ _ (lt_no most_pages (len / size) most)) ∙ first_none
+  fits h k most = first_next _ _ (when_false _ _ (whole_test h k)) ∙ first_next _ _ (when_false _ _ (lt_no most_pages (len / size) most)) ∙ no_cause
 
 -- the causes of a file, one by one
 module _ (bytes : List ℕ) where
@@ -93,20 +53,14 @@ module _ (bytes : List ℕ) where
   start_unfinished e applying = first_next _ _ e ∙ first_here _ _ _ (applies _ _ (eq_yes (state_of bytes) 3 applying))
 
   pub start_is : not_database bytes ≡ None → state_of bytes ≢ applying_state → start_cause bytes ≡ None
-  start_is e other = first_next _ _ e ∙ first_next _ _ (rests _ _ (eq_no (state_of bytes) 3 other)) ∙ first_none
+  start_is e other = first_next _ _ e ∙ first_next _ _ (when_false _ _ (eq_no (state_of bytes) 3 other)) ∙ no_cause
 
   -- after a form the state decides
   pub start_rest : (r : Refusal) → not_database bytes ≡ None → start_cause bytes ≡ Some r → (state_of bytes ≡ applying_state) × (r ≡ Unfinished)
   start_rest r none e = elim (eqb_tells (state_of bytes) 3) [
-    | inl w ↦ (w.1, some_same (sym e ∙ start_unfinished none w.1))
-    | inr w ↦ absurd (none_some (sym (start_is none w.1) ∙ e))
+    | inl w ↦ (w.1, some_same r Unfinished (sym e ∙ start_unfinished none w.1))
+    | inr w ↦ absurd (none_some r (sym (start_is none w.1) ∙ e))
   ]
-    where
-      some_same : {a b : Refusal} → Some a ≡ Some b → a ≡ b
-      some_same h = cc
-
-      none_some : None ≡ Some r → ⊥
-      none_some h = cc
 
   -- a file that is shorter than a header has none
   pub start_short : length bytes < 64 → start_cause bytes ≡ Some (NotDatabase 0)
@@ -146,10 +100,7 @@ module _ (first bytes : List ℕ) (read : first ≡ take 64 bytes) (block : Head
 pub last_other : (n : ℕ) (image : Image) → IsTrimmed image → length image ≡ suc n → is_zeros (page_at image n) ≡ false
 last_other zero [] whole long = absurd (omega arith)
 last_other zero (p ∷ q ∷ qs) whole long = absurd (omega arith)
-last_other zero (p ∷ []) whole long = elim (cases_Bool (is_zeros p)) [ inl w ↦ absurd (none_some (sym (trimmed-zeros (p ∷ []) (w, tt)) ∙ whole)) | inr w ↦ w ]
-  where
-    none_some : [] ≡ p ∷ [] → ⊥
-    none_some h = cc
+last_other zero (p ∷ []) whole long = elim (cases_Bool (is_zeros p)) [ inl w ↦ absurd (nil_cons p [] (sym (trimmed-zeros (p ∷ []) (w, tt)) ∙ whole)) | inr w ↦ w ]
 last_other (suc n) [] whole long = absurd (omega arith)
 last_other (suc n) (p ∷ ps) whole long = last_other n ps (trimmed-drop 1 (p ∷ ps) whole) (omega arith)
 
@@ -187,7 +138,7 @@ module _ (bytes : List ℕ) (none : not_database bytes ≡ None) (size : ℕ) (s
     | inr w ↦
         let all : length image ≡ suc n = omega (arith, w.1, low) in
         let last : page_at (image ++ is_laid.rest) n ≡ page_at image n = get_or_append_left image is_laid.rest [] n (omega arith) in
-        absurd (true_false (sym zeros ∙ ap is_zeros (page_is ∙ last) ∙ last_other n image is_laid.whole all))
+        absurd (true≢false (sym zeros ∙ ap is_zeros (page_is ∙ last) ∙ last_other n image is_laid.whole all))
   ]
 
   -- and another one is, where the pages after it aren't counted
@@ -198,7 +149,7 @@ module _ (bytes : List ℕ) (none : not_database bytes ≡ None) (size : ℕ) (s
         let past : length image ≤ n = omega (arith, w.1) in
         let at : page_at (image ++ is_laid.rest) n ≡ page_at is_laid.rest (n - length image) = get_or-append_right image is_laid.rest (length image) n [] refl past in
         let low : n - length image < length is_laid.rest = omega (arith, past, below, length-append image is_laid.rest) in
-        absurd (true_false (sym (all_at (λ page. is_zeros page ≡ true) is_laid.rest is_laid.zeros (n - length image) low) ∙ sym (ap is_zeros (page_is ∙ at)) ∙ other))
+        absurd (true≢false (sym (all_at (λ page. is_zeros page ≡ true) is_laid.rest is_laid.zeros (n - length image) low) ∙ sym (ap is_zeros (page_is ∙ at)) ∙ other))
   ]
 
 -- pages that are left to look at
@@ -249,10 +200,7 @@ there name (Some bytes) e = record { bytes = bytes; is = refl }
 
 -- a file that has a length has so many bytes
 pub of_length : (file : File) (size : Option ℕ) (long : ℕ) (bytes : List ℕ) → size ≡ option_map length file → size ≡ Some long → file ≡ Some bytes → length bytes ≡ long
-of_length file size long bytes told is there = some_same (sym (ap (option_map length) there) ∙ sym told ∙ is)
-  where
-    some_same : {a b : ℕ} → Some a ≡ Some b → a ≡ b
-    some_same e = cc
+of_length file size long bytes told is there = some_same (length bytes) long (sym (ap (option_map length) there) ∙ sym told ∙ is)
 
 -- a callee's refusal is passed on
 pub refusal_passed : (S T : Type 0) (result : Result T Fault) (fault : Fault) (cause : Cause) → IsErr result × IsErrAnd result (λ f. f ≡ fault) → Tested {T = S} (Err fault) cause → Tested result cause
@@ -271,10 +219,7 @@ blank_for (Err (Refused r)) name size is only = absurd (other only)
   where
     other : Refused r ≡ Memory → ⊥
     other e = cc
-blank_for (Err Device) name size is only = absurd (other only)
-  where
-    other : Device ≡ Memory → ⊥
-    other e = cc
+blank_for (Err Device) name size is only = absurd (device_memory only)
 blank_for (Err Memory) name size is only = tt
 
 -- one entry more
@@ -284,8 +229,5 @@ behind-next entries k low = ap behind_entries (take_more entries k 0 low) ∙ be
 pub counted-next : {E : Type 0} (entries kept : List ℕ) (k page count main next : ℕ) → kept ≡ entries → ◌≡◌ {A = Result ℕ E} (Ok page) (Ok (get_or kept k 0)) → k < length entries → next ≡ max count (page + 1) → count ≡ max main (behind_entries (take k entries))
     → next ≡ max main (behind_entries (take (k + 1) entries))
 counted-next {E} entries kept k page count main next same told low is so_far =
-    let named : page ≡ get_or entries k 0 = ok_same told ∙ ap (λ (l : List ℕ). get_or l k 0) same in
+    let named : page ≡ get_or entries k 0 = ok_equal {E = E} page (get_or kept k 0) told ∙ ap (λ (l : List ℕ). get_or l k 0) same in
     omega (arith, named, is, so_far, behind-next entries k low)
-  where
-    ok_same : {a b : ℕ} → ◌≡◌ {A = Result ℕ E} (Ok a) (Ok b) → a ≡ b
-    ok_same e = cc

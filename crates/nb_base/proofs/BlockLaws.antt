@@ -1,28 +1,7 @@
 -- The control block of a main file is written: what a crash leaves, and what stands after.
-use Rattle.std.proofs.Common.{◌≡◌, ◌⊎◌, inl, inr, ⊎_elim, ℕ, zero, suc, ◌+◌, ◌*◌, ◌<◌, ◌≤◌, List, [], ◌∷◌, ◌++◌, length, take, drop, refl, sym, ap, subst, ◌∙◌, arith, mul-le-mul_right}
-use Rattle.std.specs.Prelude.{Bool, true, false, IsTrue, Option, Result, OnOk}
-use Rattle.std.proofs.lemmas.Bool.Decides.{leb_tells}
-use Rattle.std.proofs.lemmas.List.{get_or_append_left}
-use Rattle.std.proofs.lemmas.Result.{on_ok_weaker}
-use Rattle.nb_fields.specs.Header.{is_header, size_of, scn_of, guid_of}
-use Rattle.nb_fields.specs.States.{stalled_state}
-use Rattle.nb_host.specs.Files.{File, Files, bytes_of, with_file, with_page as with_page_at}
-use Rattle.nb_host.specs.World.{World}
-use Rattle.nb_host.specs.Crash.{PageLeft}
-use Rattle.nb_host.specs.Calls.{IsStill, WritesPage, Syncs, ReadsPage}
-use Rattle.nb_host.specs.Moments.{IsTimely, Passes}
-use Rattle.nb_change.specs.Changes.{Changes, Only}
-use Rattle.nb_change.proofs.MomentLaws.{left_before}
-use Rattle.nb_change.proofs.NameLaws.{with_file-same}
-use Rattle.nb_change.proofs.CallLaws.{page_more, still_alone}
-use Rattle.nb_change.proofs.SettledLaws.{durable_is}
-use Rattle.nb_model.specs.Image.{Page, Image, first_page, image_size, image_scn, image_guid, written_at}
-use Rattle.nb_model.specs.Strokes.{controlled, with_control}
-use Rattle.nb_model.proofs.HeaderLaws.{header-long, header-other, header-scn}
-use Rattle.nb_model.proofs.ImageLaws.{length-joined, page-joined}
-use Rattle.nb_model.proofs.MainLaws.{IsLaid, laid, some_page}
-use Rattle.nb_model.proofs.ControlLaws.{control_length, control_size}
-use Rattle.nb_base.specs.Control.{next_scn, next_guid, in_state, HasRoom, HasImage, IsImageOf, ControlLeft}
+use Rattle.std.proofs.Common.{◌≡◌, ◌⊎◌, inl, inr, ⊎_elim, ℕ, zero, suc, ◌+◌, ◌*◌, ◌<◌, ◌≤◌, List, [], ◌∷◌, ◌++◌, length, take, drop, refl, sym, ap, subst, ◌∙◌, arith, mul-le-mul_right, Bool, true, false, IsTrue, Option, Result, OnOk}
+use Rattle.nb_base.proofs.Common.{leb_tells, get_or_append_left, on_ok_weaker, is_header, size_of, scn_of, guid_of, stalled_state, File, Files, bytes_of, with_file, World, PageLeft, IsStill, WritesPage, Syncs, ReadsPage, IsTimely, Passes, Changes, Only, left_before, with_file-same, page_more, still_alone, durable_is, Page, Image, first_page, image_size, image_scn, image_guid, written_at, controlled, with_control, header-long, header-other, header-scn, length-joined, page-joined, IsLaid, laid, some_page, control_length, control_size, next_scn, next_guid, in_state, HasRoom, HasImage, IsImageOf, ControlLeft}
+use Rattle.nb_host.specs.Files.{with_page as with_page_at}
 use Rattle.nb_base.proofs.ControlLaws.{controlled-header}
 use Rattle.nb_base.proofs.WrittenLaws.{HasMain, MayWrite, main_put, main_written, laid_formed, laid_image, main_sizes}
 

@@ -1,23 +1,10 @@
 -- Page 0 with another control block: its fields, that the first 64 bytes decide it, and what is owned then.
-use Rattle.std.proofs.Common.{◌≡◌, ◌≢◌, inl, inr, ℕ, zero, suc, ◌+◌, ◌%◌, ◌^◌, ◌<◌, ◌≤◌, List, [], ◌∷◌, ◌++◌, length, take, drop, refl, sym, ap, ◌∙◌, arith, append_assoc}
-use Rattle.std.specs.Prelude.{Bool, true, false, IsTrue, ◌&&◌, ◌||◌, ◌==◌, not, nat_le, nat_lt, Option, Some, None, max}
-use Rattle.std.proofs.lemmas.Bool.Decides.{eqb_tells, leb_tells}
-use Rattle.std.proofs.lemmas.List.{take-append-le, take_at, take-append-drop, length-take-le}
-use Rattle.nb_fields.specs.Bytes.{bytes_of, number_in, with_part}
-use Rattle.nb_fields.specs.Header.{is_header, is_sound, size_of}
-use Rattle.nb_fields.specs.Places.{is_page_size}
-use Rattle.nb_fields.specs.Table.{page_in, slot_place}
+use Rattle.std.proofs.Common.{◌≡◌, ◌≢◌, inl, inr, ℕ, zero, suc, ◌+◌, ◌%◌, ◌^◌, ◌<◌, ◌≤◌, List, [], ◌∷◌, ◌++◌, length, take, drop, refl, sym, ap, ◌∙◌, arith, append_assoc, Bool, true, IsTrue, ◌&&◌, ◌||◌, ◌==◌, not, nat_lt, Option, Some, None, max}
+use Rattle.nb_base.proofs.Common.{eqb_tells, leb_tells, take-append-le, take_at, take-append-drop, length-take-le, number_in, with_part, is_header, is_sound, size_of, is_page_size, page_in, slot_place, length-with_part, number_in-take, stalled_state, Page, Image, page_at, first_page, controlled, with_control, entry_for, behind_entries, main_page, owned_page, owned, header-size, main_here, main_past, owned_length, owned_at, control_length, control_header, or_right, le_yes, owned-none}
+use Rattle.nb_fields.specs.Bytes.{bytes_of}
 use Rattle.nb_fields.proofs.NumberLaws.{length-bytes_of}
-use Rattle.nb_fields.proofs.PartLaws.{length-with_part, number_in-take}
-use Rattle.nb_fields.specs.States.{stalled_state}
-use Rattle.nb_model.specs.Image.{Page, Image, page_at, first_page}
-use Rattle.nb_model.specs.Strokes.{controlled, with_control}
-use Rattle.nb_model.specs.Owner.{entry_for, behind_entries, slot_page, main_page, owned_page, owned}
-use Rattle.nb_model.proofs.HeaderLaws.{header-size}
-use Rattle.nb_model.proofs.OwnerLaws.{main_here, main_past}
-use Rattle.nb_model.proofs.OverLaws.{owned_length, owned_at}
-use Rattle.nb_model.proofs.ControlLaws.{control_length, control_header}
-use Rattle.nb_base.proofs.OwnedLaws.{is_owned, owned-entry, owned-none}
+use Rattle.nb_model.specs.Owner.{slot_page}
+use Rattle.nb_base.proofs.OwnedLaws.{is_owned, owned-entry}
 
 -- a part within the front
 part_in_front : (at : ℕ) (x f r : List ℕ) → at + length x ≤ length f → with_part at x (f ++ r) ≡ with_part at x f ++ r
@@ -35,18 +22,11 @@ part_in_front at x f r within =
 pub controlled-header : (state scn : ℕ) (guid : List ℕ) → length guid ≡ 16 → (p : Page) → 64 ≤ length p → is_header p ≡ true → state ≤ 3 → 1 ≤ scn → scn < 4294967296 → (state ≡ stalled_state → scn < 4294967295) → is_header (controlled state scn guid p) ≡ true
 controlled-header state scn guid sixteen p long header low some most room = control_header state scn guid p long sixteen header (sound (header-size p header)) (omega (arith, low)) most
   where
-    le_yes : (a b : ℕ) → a ≤ b → nat_le a b ≡ true
-    le_yes a b h = elim (leb_tells a b) [ inl w ↦ w.0 | inr w ↦ absurd (omega (arith, w.1, h)) ]
-
     open_room : (not (state == stalled_state) || nat_lt scn 4294967295) ≡ true
     open_room = elim (eqb_tells state 1) [
-      | inl w ↦ by_room (state == stalled_state) (nat_lt scn 4294967295) (le_yes (suc scn) 4294967295 (room w.1))
+      | inl w ↦ or_right (not (state == stalled_state)) (nat_lt scn 4294967295) (le_yes (suc scn) 4294967295 (room w.1))
       | inr w ↦ ap (λ (t : Bool). not t || nat_lt scn 4294967295) w.0
     ]
-      where
-        by_room : (a b : Bool) → b ≡ true → (not a || b) ≡ true
-        by_room true b e = e
-        by_room false b e = refl
 
     sound : IsTrue (is_page_size (size_of p)) → is_sound state (size_of p) scn ≡ true
     sound size = all_four _ _ _ _ (le_yes state 3 low) size (le_yes 1 scn some) open_room

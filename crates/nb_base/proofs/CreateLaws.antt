@@ -1,27 +1,8 @@
 -- The file of a new database as it reads while it is made: pages from 1 on, and page 0 at last.
-use Rattle.std.proofs.Common.{◌≡◌, ℕ, zero, suc, ◌+◌, ◌-◌, ◌*◌, ◌≤◌, List, [], ◌∷◌, ◌++◌, length, drop, map, replicate, refl, sym, ◌∙◌, ap, subst, arith, mul-le-mul_right}
-use Rattle.std.specs.Prelude.{IsTrue, Some, Ok}
-use Rattle.std.specs.List.{flat_map, range_with_len}
-use Rattle.std.proofs.lemmas.List.{length-replicate, take_all, drop_all}
+use Rattle.std.proofs.Common.{◌≡◌, ℕ, zero, suc, ◌+◌, ◌-◌, ◌*◌, ◌≤◌, List, [], ◌∷◌, ◌++◌, length, drop, map, replicate, refl, sym, ◌∙◌, ap, subst, arith, mul-le-mul_right, IsTrue, Some, Ok}
+use Rattle.nb_base.proofs.Common.{flat_map, range_with_len, length-replicate, take_all, drop_all, is_page_size, fresh, fresh_count, fresh_page, size_facts, File, padded, put_at, Page, joined, IsOfSize, base_of, owner, joined-flat_map, put-next, owner_main, length-fresh_page, fresh_count-least, fresh_main, fresh_rebuilt}
 use Rattle.std.proofs.lemmas.List.FromFn.{length-map-range_with_len, map-range_with_len_more}
-use Rattle.nb_fields.specs.Places.{is_page_size}
-use Rattle.nb_fields.specs.Fresh.{fresh, fresh_count, fresh_page}
-use Rattle.nb_fields.proofs.SizeLaws.{size_facts}
-use Rattle.nb_host.specs.Files.{File, Files, padded, put_at, with_file, with_page}
-use Rattle.nb_change.proofs.NameLaws.{with_file-same}
-use Rattle.nb_model.specs.Image.{Page}
-use Rattle.nb_model.specs.Levels.{joined}
-use Rattle.nb_model.specs.Sound.{IsOfSize}
-use Rattle.nb_model.specs.Account.{base_of}
-use Rattle.nb_model.specs.Owner.{owner}
-use Rattle.nb_model.proofs.ImageLaws.{joined-flat_map}
-use Rattle.nb_model.proofs.PutLaws.{put-next}
-use Rattle.nb_model.proofs.MainLaws.{owner_main}
-use Rattle.nb_model.proofs.FreshImageLaws.{length-fresh_page, fresh_count-least, fresh_main, fresh_rebuilt}
-
--- the file under a name that was just given to it
-pub named : (old new : Files) (name : List ℕ) (file : File) → new ≡ with_file old name file → new name ≡ file
-named old new name file is = ap (λ (f : Files). f name) is ∙ with_file-same old name file
+use Rattle.nb_host.specs.Files.{with_page}
 
 -- so many pages of a new database, from page 1 on
 abbrev rest : (size raw n : ℕ) → List Page

@@ -1,29 +1,9 @@
 -- What creating a database answers, and what it leaves after a test that changed nothing.
-use Rattle.std.proofs.Common.{◌≡◌, ◌≤◌, inr, inl, ⊎_elim, ℕ, List, [], sym, ◌∙◌, ap, subst, arith}
-use Rattle.std.specs.Prelude.{Bool, IsTrue, true, false, Result, Ok, Err}
+use Rattle.std.proofs.Common.{◌≡◌, ◌≤◌, inr, inl, ⊎_elim, ℕ, List, [], sym, ◌∙◌, ap, subst, arith, Bool, IsTrue, true, false, Result, Ok, Err}
+use Rattle.nb_base.proofs.Common.{err_from_is_err_and, is_page_size, fresh, normal_state, Files, World, Fault, Device, Changes, Only, GaveNothing, left_before, rested, composed, Quiet, Image, base_of, delta_name, fresh_main, fresh_size, fresh_state, fresh_forced, main_facts, Held, CreateLeft, CreateReads, CreatesFile, Creates, IsSettled, true≢false}
 use Rattle.std.specs.Result.{IsErrAnd}
-use Rattle.std.proofs.lemmas.Result.{err_from_is_err_and}
-use Rattle.nb_fields.specs.Places.{is_page_size}
-use Rattle.nb_fields.specs.Fresh.{fresh}
-use Rattle.nb_fields.specs.States.{normal_state}
-use Rattle.nb_host.specs.Files.{Files}
-use Rattle.nb_host.specs.World.{World}
-use Rattle.nb_host.specs.declared.faults.Fault.{Fault}
-use Rattle.nb_host.specs.declared.faults.Fault.TheVariants.{Device}
-use Rattle.nb_change.specs.Changes.{Changes, Only}
-use Rattle.nb_change.specs.Gave.{GaveNothing}
-use Rattle.nb_change.proofs.MomentLaws.{left_before}
-use Rattle.nb_change.proofs.ChangesLaws.{rested, composed}
 use Rattle.nb_page.specs.Free.{is_free_name}
-use Rattle.nb_page.specs.Quiet.{Quiet}
-use Rattle.nb_model.specs.Image.{Image}
-use Rattle.nb_model.specs.Account.{base_of}
-use Rattle.nb_model.specs.Owner.{delta_name}
-use Rattle.nb_model.proofs.FreshImageLaws.{fresh_main, fresh_size, fresh_state, fresh_forced}
-use Rattle.nb_model.proofs.MainLaws.{main_facts}
 use Rattle.nb_base.proofs.FirmLaws.{shows_firm}
-use Rattle.nb_base.specs.Open.{Held}
-use Rattle.nb_base.specs.Beginnings.{CreateLeft, CreateReads, CreatesFile, Creates, IsSettled}
 
 -- a test that changed nothing leaves what stood before
 pub quiet_left : (old new : World) (name : List ℕ) (image : Image) → Quiet old new → Changes old new (Only name) (CreateLeft old name image)
@@ -41,10 +21,7 @@ quiet_then_reads old mid name image files quiet = ⊎_elim (λ same. inl (same �
 
 -- a name that is free isn't taken
 pub not_taken : (old new : World) (name : List ℕ) (free : Bool) → free ≡ true → free ≡ is_free_name old.files name → is_free_name old.files name ≡ false → Quiet old new
-not_taken old new name free told is taken = absurd (true_false (sym told ∙ is ∙ taken))
-  where
-    true_false : true ≡ false → ⊥
-    true_false h = cc
+not_taken old new name free told is taken = absurd (true≢false (sym told ∙ is ∙ taken))
 
 -- the device failed
 pub failed : (result : Result ℕ Fault) (old new : World) (name : List ℕ) (image : Image) → IsErrAnd result (λ fault. fault ≡ Device) → Changes old new (Only name) (CreateLeft old name image)

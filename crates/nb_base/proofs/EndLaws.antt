@@ -1,30 +1,8 @@
 -- The end of the stalled state and of the merge: what a crash leaves at each moment, and what is open after.
-use Rattle.std.proofs.Common.{◌≡◌, ◌≢◌, inr, ℕ, List, [], ◌∷◌, length, refl, sym, ap, subst, ◌∙◌, arith}
-use Rattle.std.specs.Prelude.{None, Ok}
-use Rattle.nb_fields.specs.States.{normal_state, stalled_state, merge_state}
-use Rattle.nb_host.specs.Files.{File, Files}
-use Rattle.nb_host.specs.World.{World}
-use Rattle.nb_host.specs.Crash.{Leaves, IsDurable}
-use Rattle.nb_host.specs.Calls.{IsStill}
-use Rattle.nb_change.specs.Changes.{Changes, Only, Remade}
-use Rattle.nb_change.proofs.MomentLaws.{left_before}
-use Rattle.nb_change.proofs.ChangesLaws.{composed_within}
-use Rattle.nb_change.proofs.SettledLaws.{durable_is}
-use Rattle.nb_model.specs.Image.{Image, image_size, image_state, image_scn, trimmed}
-use Rattle.nb_model.specs.Account.{Base}
-use Rattle.nb_model.specs.Strokes.{ends, finish, on_base}
-use Rattle.nb_model.specs.Owner.{delta_name, owner}
-use Rattle.nb_model.specs.Trail.{Trail, after_stroke, bases_of}
-use Rattle.nb_base.specs.Firm.{StandsFirmOn, StandsFirm}
-use Rattle.nb_model.proofs.HeaderLaws.{header-room}
+use Rattle.std.proofs.Common.{◌≡◌, ◌≢◌, inr, ℕ, List, [], ◌∷◌, length, refl, sym, ap, subst, ◌∙◌, arith, None, Ok}
+use Rattle.nb_base.proofs.Common.{normal_state, stalled_state, merge_state, File, Files, World, Leaves, IsDurable, IsStill, Changes, Only, Remade, left_before, composed_within, durable_is, Image, image_size, image_state, image_scn, trimmed, Base, ends, finish, on_base, delta_name, owner, Trail, after_stroke, bases_of, StandsFirmOn, StandsFirm, header-room, trail_base, finish_base, in_state, HasRoom, HasImage, IsImageOf, ControlLeft, Held, OfFiles, Agrees, IsOpen, AreMerged, IsSeen, StrikesFirm}
 use Rattle.nb_model.proofs.MixtureLaws.{mixed_state}
-use Rattle.nb_model.proofs.TrailLaws.{trail_base}
-use Rattle.nb_model.proofs.TrimLaws.{finish_base}
 use Rattle.nb_base.proofs.FirmLaws.{last_firm}
-use Rattle.nb_base.specs.Control.{in_state, HasRoom, HasImage, IsImageOf, ControlLeft}
-use Rattle.nb_base.specs.Open.{Held, OfFiles, Agrees, IsOpen, AreMerged}
-use Rattle.nb_base.specs.Seen.{IsSeen}
-use Rattle.nb_base.specs.Takes.{StrikesFirm}
 use Rattle.nb_base.proofs.BlockLaws.{to_main, of_main}
 use Rattle.nb_base.proofs.ControlLaws.{with_control-length}
 use Rattle.nb_base.proofs.MergeLaws.{merged_alone}

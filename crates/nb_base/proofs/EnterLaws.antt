@@ -1,60 +1,25 @@
 -- Drafted entries come into the table, once their slots are written: what a crash leaves meanwhile, and that the files hold what is seen then.
-use Rattle.std.proofs.Common.{◌≡◌, inl, inr, ⊎_elim, ℕ, zero, suc, ◌<◌, ◌≤◌, List, [], ◌∷◌, ◌++◌, length, get_or, take, drop, refl, sym, ap, subst, ◌∙◌, arith, append_assoc, length-append}
-use Rattle.std.specs.Prelude.{Bool, false, Option, Some, None, Ok, max}
-use Rattle.std.proofs.lemmas.Bool.Decides.{eqb_tells, leb_tells}
-use Rattle.std.proofs.lemmas.List.{append-nil}
-use Rattle.nb_fields.specs.Header.{state_of, size_of}
-use Rattle.nb_fields.specs.Table.{page_in, slot_place}
-use Rattle.nb_fields.specs.States.{stalled_state}
-use Rattle.nb_host.specs.Files.{File, Files, bytes_of, with_file}
-use Rattle.nb_host.specs.World.{World}
-use Rattle.nb_host.specs.Crash.{Leaves, IsDurable}
-use Rattle.nb_host.specs.Calls.{IsStill}
-use Rattle.nb_host.specs.Moments.{IsTimely, Passes}
-use Rattle.nb_change.specs.Changes.{Changes, Only, Moved}
-use Rattle.nb_change.proofs.MomentLaws.{left_before}
-use Rattle.nb_change.proofs.NameLaws.{with_file-same, with_file-other}
-use Rattle.nb_change.proofs.ChangesLaws.{begun, moved_on, left_with, still_more}
-use Rattle.nb_change.proofs.SettledLaws.{durable_is}
-use Rattle.nb_delta.specs.Entries.{AreEntries}
-use Rattle.nb_delta.specs.Slots.{HasTable, slot_page}
-use Rattle.nb_delta.specs.Waiting.{Waits, Stays, Fronts, FrontStep, HasAll}
-use Rattle.nb_model.specs.Image.{Image, page_at, first_page, image_size, image_state}
-use Rattle.nb_model.specs.Account.{Base}
-use Rattle.nb_model.specs.Owner.{delta_name, entry_for, behind_entries, slot_page as owned_slot, owned, owner}
-use Rattle.nb_model.specs.Trail.{Trail, StandsIn}
-use Rattle.nb_model.specs.Behind.{IsOnTheWay, IsEntering}
-use Rattle.nb_model.proofs.BehindLaws.{way_left, enter_left}
-use Rattle.nb_model.proofs.OwnerLaws.{named}
-use Rattle.nb_model.proofs.TrailLaws.{itself_firm}
-use Rattle.nb_model.proofs.WayLaws.{same_pages}
-use Rattle.nb_model.proofs.OverLaws.{owned_length, owned_at}
-use Rattle.nb_base.specs.Open.{Held, IsOpen}
-use Rattle.nb_base.specs.Going.{StandsAs, HasPageIn, IsSlotted, GoesIn}
+use Rattle.std.proofs.Common.{◌≡◌, inl, inr, ⊎_elim, ℕ, zero, suc, ◌<◌, ◌≤◌, List, [], ◌∷◌, ◌++◌, length, get_or, take, drop, refl, sym, ap, subst, ◌∙◌, arith, append_assoc, length-append, Bool, false, Option, Some, None, Ok, max}
+use Rattle.nb_base.proofs.Common.{eqb_tells, leb_tells, append-nil, state_of, size_of, page_in, slot_place, stalled_state, File, Files, bytes_of, with_file, World, Leaves, IsDurable, IsStill, IsTimely, Passes, Changes, Only, Moved, left_before, with_file-same, with_file-other, begun, moved_on, left_with, still_more, durable_is, AreEntries, HasTable, slot_page, Waits, Stays, Fronts, FrontStep, HasAll, Image, page_at, first_page, image_size, image_state, Base, delta_name, entry_for, behind_entries, owned, owner, Trail, StandsIn, IsOnTheWay, IsEntering, way_left, enter_left, named, itself_firm, same_pages, owned_length, owned_at, Held, IsOpen, StandsAs, HasPageIn, IsSlotted, GoesIn, none_there, for_here, some_same, nil_from_length, get_or_past, owned-none}
+use Rattle.nb_model.specs.Owner.{slot_page as owned_slot}
 use Rattle.nb_base.proofs.MergingLaws.{entry_named}
-use Rattle.nb_base.proofs.OwnedLaws.{Holds, holds, shows, base-length, base-page, base-state, base-size, owned-entry, owned-none, entry-front, entry-behind, entry-first, entry-later, later, slots_stay, some_same, none_some}
+use Rattle.nb_base.proofs.OwnedLaws.{Holds, holds, shows, base-length, base-page, base-state, base-size, owned-entry, entry-front, entry-behind, entry-later, later, slots_stay}
 use Rattle.nb_base.proofs.StateLaws.{same_main}
 use Rattle.nb_base.proofs.StepLaws.{delta_moved}
 use Rattle.nb_base.proofs.WriteLaws.{main_apart, delta_apart}
 use Rattle.nb_base.proofs.WrittenLaws.{HasMain}
 
--- no page stands past the end
-page_past : (image : Image) (p : ℕ) → length image ≤ p → page_at image p ≡ []
-page_past [] p past = refl
-page_past (x ∷ xs) zero past = absurd (omega (arith, past))
-page_past (x ∷ xs) (suc p) past = page_past xs p (omega (arith, past))
-
 -- The number after the greatest entry.
 entry_more : (p q : ℕ) (qs : List ℕ) (k : ℕ) → entry_for p qs ≡ Some k → (j : ℕ) × (entry_for p (q ∷ qs) ≡ Some j)
 entry_more p q qs k e = elim (eqb_tells p q) [
-  | inl w ↦ (0, entry-first p q qs w.1)
+  | inl w ↦ (0, for_here p q qs w.1)
   | inr w ↦ (suc k, entry-later p q qs w.1 ∙ ap later e)
 ]
 
 behind_most : (n : ℕ) (xs : List ℕ) → ((p k : ℕ) → entry_for p xs ≡ Some k → p < n) → behind_entries xs ≤ n
 behind_most n [] all = omega arith
 behind_most n (x ∷ xs) all =
-    let first = all x 0 (entry-first x x xs refl) in
+    let first = all x 0 (for_here x x xs refl) in
     let rest = behind_most n xs (λ p k e. let more = entry_more p x xs k e in all p more.0 more.1) in
     omega (arith, first, rest)
 
@@ -157,7 +122,7 @@ module _ (w : World) (reads : (n : List ℕ) → Leaves w n (w.files n)) (held :
     either p k e P old new = by (entry_for p table) refl
       where
         by : (x : Option ℕ) → entry_for p table ≡ x → P
-        by (Some j) is = old (is ∙ ap (λ n. Some n) (some_same (sym (entry-front p table front j is) ∙ e)))
+        by (Some j) is = old (is ∙ ap (λ n. Some n) (some_same {X = ℕ} _ _ (sym (entry-front p table front j is) ∙ e)))
         by None is = new (entry-behind p table front k is e)
 
     r_long : length goes.reads.base.image ≡ max (length h.main) (behind_entries f.base.diverted)
@@ -198,7 +163,7 @@ module _ (w : World) (reads : (n : List ℕ) → Leaves w n (w.files n)) (held :
           owned_at (image_size h.main) h.main (bytes_of c) all p (omega (arith, v.1, long)) ∙ owned-none (image_size h.main) h.main (bytes_of c) all p e
           ∙ sym (base-page r m d h p inside ∙ owned-none (image_size h.main) h.main (bytes_of d) r.diverted p (ap (entry_for p) is.diverted ∙ none_front))
           ∙ is.others p none_front
-      | inr v ↦ page_past entered.image p (omega (arith, v.1, long)) ∙ sym (page_past f.base.image p (omega (arith, v.1, goes.behind.long)))
+      | inr v ↦ get_or_past entered.image p [] (omega (arith, v.1, long)) ∙ sym (get_or_past f.base.image p [] (omega (arith, v.1, goes.behind.long)))
     ]
       where
         none_front : entry_for p f.base.diverted ≡ None
@@ -206,7 +171,7 @@ module _ (w : World) (reads : (n : List ℕ) → Leaves w n (w.files n)) (held :
           where
             by : (x : Option ℕ) → entry_for p table ≡ x → entry_for p table ≡ None
             by None at = at
-            by (Some k) at = absurd (none_some (sym e ∙ entry-front p table front k at))
+            by (Some k) at = absurd (none_there (sym e ∙ entry-front p table front k at))
 
     first : first_page (owned (image_size h.main) h.main (bytes_of c) (f.base.diverted ++ front)) ≡ first_page t.base.image
     first = by (entry_for 0 all) refl
@@ -340,10 +305,6 @@ module _ (w : World) (reads : (n : List ℕ) → Leaves w n (w.files n)) (held :
         beside : new.files (delta_name held.name) ≡ w.files (delta_name held.name)
         beside = ap (λ (x : Files). x (delta_name name)) still.files
 
-        empty : (xs : List ℕ) → length xs ≡ 0 → xs ≡ []
-        empty [] e = refl
-        empty (x ∷ xs) e = absurd (omega (arith, e))
-
         no_more : t.base.diverted ≡ f.base.diverted
         no_more =
-            goes.behind.diverted.1 ∙ ap (λ (x : List ℕ). table ++ x) (empty drafts (omega (arith, goes.drafted, no_drafts, ap length goes.behind.diverted.1, length-append table drafts))) ∙ append-nil table
+            goes.behind.diverted.1 ∙ ap (λ (x : List ℕ). table ++ x) (nil_from_length drafts (omega (arith, goes.drafted, no_drafts, ap length goes.behind.diverted.1, length-append table drafts))) ∙ append-nil table

@@ -1,30 +1,10 @@
 -- How many pages a database has without those of zeros at its end.
-use Rattle.std.proofs.Common.{◌≡◌, inl, inr, ℕ, suc, ◌+◌, ◌-◌, ◌<◌, ◌≤◌, List, [], ◌∷◌, length, refl, sym, ap, subst, ◌∙◌, arith}
-use Rattle.std.specs.Prelude.{true, false, Some, None, max}
-use Rattle.std.proofs.lemmas.Bool.{true≢false}
-use Rattle.std.proofs.lemmas.Bool.Decides.{leb_tells}
-use Rattle.nb_fields.specs.Bytes.{is_zeros}
-use Rattle.nb_fields.specs.Header.{is_header}
-use Rattle.nb_host.specs.Calls.{IsStill}
-use Rattle.nb_host.specs.Files.{Files, bytes_of}
-use Rattle.nb_host.specs.World.{World}
-use Rattle.nb_change.proofs.ReachedLaws.{strokes_composed}
-use Rattle.nb_page.specs.Quiet.{Quiet}
-use Rattle.nb_model.specs.Image.{Image, page_at, first_page, image_size, trimmed}
-use Rattle.nb_model.specs.Owner.{delta_name, entry_for, behind_entries}
-use Rattle.nb_model.specs.Strokes.{Stroke}
-use Rattle.nb_model.specs.Trail.{Trail, after_stroke}
-use Rattle.nb_model.proofs.ImageLaws.{trimming}
-use Rattle.nb_model.proofs.MainLaws.{some_page}
-use Rattle.nb_model.proofs.OwnerLaws.{main_here}
-use Rattle.nb_model.proofs.TrimLaws.{trimmed_front, trimmed_length, trimmed_at, trimmed_zeros}
-use Rattle.nb_base.specs.Firm.{StandsFirm}
-use Rattle.nb_base.specs.Open.{Held, OfFiles, IsOpen, IsMerged, AreMerged}
-use Rattle.nb_base.specs.Takes.{StrikesFirm}
+use Rattle.std.proofs.Common.{◌≡◌, inl, inr, ℕ, suc, ◌+◌, ◌-◌, ◌<◌, ◌≤◌, List, [], ◌∷◌, length, refl, sym, ap, subst, ◌∙◌, arith, true, false, Some, None, max}
+use Rattle.nb_base.proofs.Common.{true≢false, leb_tells, is_zeros, is_header, IsStill, Files, bytes_of, World, strokes_composed, Quiet, Image, page_at, first_page, image_size, trimmed, delta_name, entry_for, behind_entries, Stroke, Trail, after_stroke, trimming, some_page, main_here, trimmed_front, trimmed_length, trimmed_at, trimmed_zeros, StandsFirm, Held, OfFiles, IsOpen, IsMerged, AreMerged, StrikesFirm, none_there, for_here, owned-none}
 use Rattle.nb_base.proofs.AgreeLaws.{open_seen, seen_open}
 use Rattle.nb_base.proofs.AttachLaws.{last_other}
 use Rattle.nb_base.proofs.MergingLaws.{seen_still, struck_quiet}
-use Rattle.nb_base.proofs.OwnedLaws.{Holds, owned-none, entry-first, entry-later, later, main-some, base-length, base-page, none_some}
+use Rattle.nb_base.proofs.OwnedLaws.{Holds, entry-later, later, main-some, base-length, base-page}
 use Rattle.nb_base.proofs.StrokeLaws.{h0}
 
 -- The image has so many pages or fewer.
@@ -59,7 +39,7 @@ record IsGreatest (table : List ℕ) : Type 0 where
 greatest : (table : List ℕ) → 0 < behind_entries table → IsGreatest table
 greatest [] some = absurd (omega (arith, some))
 greatest (q ∷ qs) some = elim (leb_tells (behind_entries qs) (q + 1)) [
-  | inl w ↦ record { page = q; entry = 0; at = entry-first q q qs refl; last = omega (arith, w.1) }
+  | inl w ↦ record { page = q; entry = 0; at = for_here q q qs refl; last = omega (arith, w.1) }
   | inr w ↦ by (greatest qs (omega (arith, w.1))) (omega (arith, w.1))
 ]
   where
@@ -87,7 +67,7 @@ none_cut old held t is none = is.agrees.count ∙ all_filled t.base.image (lengt
       | inl w ↦ omega (arith, long, w.1)
       | inr w ↦
           let g : IsGreatest t.base.diverted = greatest t.base.diverted (omega (arith, w.1)) in
-          absurd (none_some (sym unnamed ∙ ap (λ n. entry_for n t.base.diverted) (let e : length t.base.image - 1 ≡ g.page = omega (arith, long, w.1, g.last) in e) ∙ g.at))
+          absurd (none_there (sym unnamed ∙ ap (λ n. entry_for n t.base.diverted) (let e : length t.base.image - 1 ≡ g.page = omega (arith, long, w.1, g.last) in e) ∙ g.at))
     ]
 
     last_page : page_at t.base.image (length t.base.image - 1) ≡ page_at h.main (length t.base.image - 1)

@@ -1,19 +1,7 @@
 -- While no SCN page waits, what the two files hold is what may be left of what was seen.
-use Rattle.std.proofs.Common.{◌≡◌, ℕ, List}
-use Rattle.std.specs.Prelude.{Ok}
-use Rattle.nb_host.specs.Files.{File, Files}
-use Rattle.nb_host.specs.World.{World}
-use Rattle.nb_change.proofs.ChangesLaws.{weaker_has}
-use Rattle.nb_change.proofs.ReachedLaws.{reached_weaker}
-use Rattle.nb_model.specs.Account.{Base}
-use Rattle.nb_model.specs.Owner.{delta_name, owner}
-use Rattle.nb_model.specs.Strokes.{Stroke}
-use Rattle.nb_model.specs.Trail.{Trail, settled, StandsOn, StandsIn, ShowsIn, after_stroke}
+use Rattle.std.proofs.Common.{◌≡◌, ℕ, List, Ok}
+use Rattle.nb_base.proofs.Common.{File, Files, World, weaker_has, reached_weaker, Base, delta_name, owner, Stroke, Trail, settled, StandsOn, StandsIn, ShowsIn, after_stroke, itself_firm, StandsFirmOn, StandsFirm, OfFiles, StrikesFirm, Strikes}
 use Rattle.nb_model.proofs.CoveredLaws.{firm_left}
-use Rattle.nb_model.proofs.TrailLaws.{itself_firm}
-use Rattle.nb_base.specs.Firm.{StandsFirmOn, StandsFirm}
-use Rattle.nb_base.specs.Open.{OfFiles}
-use Rattle.nb_base.specs.Takes.{StrikesFirm, Strikes}
 
 -- at a settled point they hold the database
 pub shows_firm : (name : List ℕ) (b : Base) (m d : File) → owner name m d ≡ Ok b → StandsFirmOn name (settled b) m d

@@ -1,16 +1,6 @@
 -- Whether writes are forced stays as it is where a backup begins or ends and where a merge ends: the flag stands behind the control block.
-use Rattle.std.proofs.Common.{◌≡◌, inl, ℕ, ◌+◌, List, length, ap, ◌∙◌, arith}
-use Rattle.std.specs.Prelude.{Option, true, not, ◌==◌}
-use Rattle.nb_fields.specs.Bytes.{number_in}
-use Rattle.nb_fields.specs.Header.{is_header}
-use Rattle.nb_fields.proofs.PartLaws.{length-part}
-use Rattle.nb_model.specs.Image.{Page, Image, first_page, image_scn, image_guid, is_forced, trimmed}
-use Rattle.nb_model.specs.Account.{Ask, Base}
-use Rattle.nb_model.specs.Strokes.{with_control, begin, ends, finish, on_base}
-use Rattle.nb_model.proofs.ControlLaws.{control_other}
-use Rattle.nb_model.proofs.HeaderLaws.{header-long}
-use Rattle.nb_model.proofs.MainLaws.{some_page}
-use Rattle.nb_model.proofs.TrimLaws.{trimmed_front, finish_base}
+use Rattle.std.proofs.Common.{◌≡◌, inl, ℕ, ◌+◌, List, length, ap, ◌∙◌, arith, Option, true, not, ◌==◌}
+use Rattle.nb_base.proofs.Common.{number_in, is_header, length-part, Page, Image, first_page, image_scn, image_guid, is_forced, trimmed, Ask, Base, with_control, begin, ends, finish, on_base, control_other, header-long, some_page, trimmed_front, finish_base}
 use Rattle.nb_base.proofs.ControlLaws.{with_control-first}
 
 -- as page 0 says it

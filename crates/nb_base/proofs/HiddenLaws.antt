@@ -1,31 +1,7 @@
 -- A page is written into the main file where an entry hides it: what is seen stays, at each moment. The page may be zeros.
-use Rattle.std.proofs.Common.{◌≡◌, ◌≢◌, ⊎_elim, ℕ, ◌*◌, ◌<◌, ◌≤◌, [], List, length, take, refl, sym, ap, subst, ◌∙◌, inl, inr, arith}
-use Rattle.std.specs.Prelude.{Bool, Some, IsTrue, Ok, Result}
-use Rattle.nb_fields.specs.Places.{most_pages}
-use Rattle.nb_fields.specs.States.{stalled_state, merge_state}
-use Rattle.nb_host.specs.Files.{File, Files, bytes_of, with_file, with_page as with_page_at}
-use Rattle.nb_host.specs.World.{World}
-use Rattle.nb_host.specs.Crash.{PageLeft}
-use Rattle.nb_host.specs.Calls.{WritesPage}
-use Rattle.nb_host.specs.Moments.{IsTimely, Passes}
-use Rattle.nb_change.specs.Changes.{Changes}
-use Rattle.nb_change.proofs.NameLaws.{with_file-same, with_file-other}
-use Rattle.nb_change.proofs.ChangesLaws.{begun}
-use Rattle.nb_change.proofs.CallLaws.{page_more}
-use Rattle.nb_model.specs.Account.{Base}
-use Rattle.nb_model.specs.Image.{Page, Image, page_at, image_size, image_state, trimmed, written_at}
-use Rattle.nb_model.specs.Owner.{delta_name, entry_for, owner}
-use Rattle.nb_model.specs.Sound.{IsOfSize}
-use Rattle.nb_model.specs.Trail.{Trail, IsFirm}
-use Rattle.nb_model.proofs.HeaderLaws.{same-header, same-number}
-use Rattle.nb_model.proofs.ImageLaws.{all-left}
-use Rattle.nb_model.proofs.MainLaws.{some_page}
-use Rattle.nb_model.proofs.TrailLaws.{itself_firm}
-use Rattle.nb_model.proofs.TrimLaws.{trimmed_at}
-use Rattle.nb_base.specs.Firm.{StandsFirmOn, StandsFirm}
-use Rattle.nb_base.specs.Open.{OfFiles, Fits}
-use Rattle.nb_base.specs.Seen.{IsSeen, IsWrite}
-use Rattle.nb_base.specs.Takes.{StrikesFirm}
+use Rattle.std.proofs.Common.{◌≡◌, ◌≢◌, ⊎_elim, ℕ, ◌*◌, ◌<◌, ◌≤◌, [], List, length, take, refl, sym, ap, subst, ◌∙◌, inl, inr, arith, Bool, Some, IsTrue, Ok, Result}
+use Rattle.nb_base.proofs.Common.{most_pages, stalled_state, merge_state, File, Files, bytes_of, with_file, World, PageLeft, WritesPage, IsTimely, Passes, Changes, with_file-same, with_file-other, begun, page_more, Base, Page, Image, page_at, image_size, image_state, trimmed, written_at, delta_name, entry_for, owner, IsOfSize, Trail, IsFirm, same-header, same-number, all-left, some_page, itself_firm, trimmed_at, StandsFirmOn, StandsFirm, OfFiles, Fits, IsSeen, IsWrite, StrikesFirm}
+use Rattle.nb_host.specs.Files.{with_page as with_page_at}
 use Rattle.nb_base.proofs.LeftLaws.{fits_left, state_left, size_left}
 use Rattle.nb_base.proofs.OwnedLaws.{Holds, holds, shows, main-some, main-long, base-front, base-state, base-size, front_stays, main_hidden}
 use Rattle.nb_base.proofs.StepLaws.{main_moved}

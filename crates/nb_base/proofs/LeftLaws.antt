@@ -1,25 +1,7 @@
 -- What a crash may leave goes on by a page write: by itself, and where the write is lost.
-use Rattle.std.proofs.Common.{◌≡◌, ◌≢◌, ◌⊎◌, inl, inr, ⊎_elim, ℕ, zero, suc, ◌+◌, ◌<◌, List, [], ◌∷◌, ◌++◌, length, take, drop, refl, sym, ap, subst, ◌∙◌, arith, append_assoc, length-append}
-use Rattle.std.specs.Prelude.{Bool, true, false, ◌||◌, ◌==◌, nat_eq, nat_le, Option, Some, None, max}
-use Rattle.std.specs.List.{list_any}
-use Rattle.std.proofs.lemmas.Bool.{true≢false}
-use Rattle.std.proofs.lemmas.Bool.Decides.{eqb_tells, leb_tells}
-use Rattle.std.proofs.lemmas.List.{take-append-drop, append-nil}
-use Rattle.nb_fields.specs.Places.{is_scn_place}
-use Rattle.nb_fields.specs.Header.{state_of, size_of}
-use Rattle.nb_fields.specs.States.{stalled_state, merge_state}
-use Rattle.nb_model.specs.Image.{Page, Image, page_at, first_page, image_size, image_state, is_forced, with_page}
-use Rattle.nb_model.specs.Account.{Base}
-use Rattle.nb_model.specs.Strokes.{Stroke, page, on_base, merged_page, noted}
-use Rattle.nb_model.specs.Owner.{entry_for}
-use Rattle.nb_model.specs.Trail.{Trail, bases_of, is_synced, settles_at, after_stroke, IsMixture, IsFirm}
-use Rattle.nb_base.specs.Firm.{must_sync}
-use Rattle.nb_model.proofs.HeaderLaws.{same-number}
-use Rattle.nb_model.proofs.SoundLaws.{with_page_length}
-use Rattle.nb_model.proofs.StrokeLaws.{with_page_same, with_page_other}
+use Rattle.std.proofs.Common.{◌≡◌, ◌≢◌, ◌⊎◌, inl, inr, ⊎_elim, ℕ, zero, suc, ◌+◌, List, [], ◌∷◌, ◌++◌, length, take, drop, refl, sym, ap, subst, ◌∙◌, arith, append_assoc, length-append, Bool, true, false, ◌||◌, ◌==◌, nat_eq, nat_le, Option, Some, None, max}
+use Rattle.nb_base.proofs.Common.{list_any, true≢false, eqb_tells, take-append-drop, append-nil, is_scn_place, state_of, size_of, stalled_state, merge_state, Page, Image, page_at, first_page, image_size, image_state, is_forced, with_page, Base, Stroke, page, on_base, merged_page, noted, entry_for, Trail, bases_of, is_synced, settles_at, after_stroke, IsMixture, IsFirm, must_sync, same-number, with_page_length, with_page_same, with_page_other, itself_firm, trail_base, waits_after, Fits, not_le, some_none, stroke_page, stroke-frozen, stroke-diverted}
 use Rattle.nb_model.proofs.MixtureWrites.{mixture_put, mixture_lost}
-use Rattle.nb_model.proofs.TrailLaws.{itself_firm, trail_base, waits_after}
-use Rattle.nb_base.specs.Open.{Fits}
 use Rattle.nb_base.proofs.OwnedLaws.{entry-front}
 
 -- a page that fits is written as it is
@@ -30,13 +12,6 @@ merged_fits (suc p) bytes image front = refl
 
 -- A page stroke.
 module _ (b : Base) (p : ℕ) (bytes : Page) where
-  pub stroke-image : (on_base (page p bytes) b).image ≡ with_page p (merged_page p bytes b.image) b.image
-  unfolding on_base
-  stroke-image = refl
-
-  pub stroke-frozen : (on_base (page p bytes) b).frozen ≡ b.frozen
-  unfolding on_base
-  stroke-frozen = refl
 
   pub stroke-stalled : image_state b.image ≡ stalled_state → (on_base (page p bytes) b).diverted ≡ noted p b.diverted
   unfolding on_base
@@ -45,40 +20,30 @@ module _ (b : Base) (p : ℕ) (bytes : Page) where
     | inr w ↦ absurd (w.1 is)
   ]
 
-  pub stroke-other : image_state b.image ≢ stalled_state → (on_base (page p bytes) b).diverted ≡ b.diverted
-  unfolding on_base
-  stroke-other ne = elim (eqb_tells (image_state b.image) 1) [
-    | inl w ↦ absurd (ne w.1)
-    | inr w ↦ ap (λ (t : Bool). elim t as (λ z. List ℕ) [ true ↦ noted p b.diverted | false ↦ b.diverted ]) w.0
-  ]
-
 -- Entries that are noted.
-some_none : {k : ℕ} → Some k ≡ None → ⊥
-some_none h = cc
-
 entry-any : (p : ℕ) (table : List ℕ) (k : ℕ) → entry_for p table ≡ Some k → list_any (nat_eq p) table ≡ true
 unfolding entry_for
-entry-any p [] k e = absurd (some_none (sym e))
+entry-any p [] k e = absurd (some_none {X = ℕ} _ (sym e))
 entry-any p (q ∷ qs) k e = elim (eqb_tells p q) [
   | inl w ↦ ap (λ (t : Bool). t || list_any (nat_eq p) qs) w.0
   | inr w ↦ ap (λ (t : Bool). t || list_any (nat_eq p) qs) w.0 ∙ by (entry-any p qs) (entry_for p qs) refl (sym (ap (λ (t : Bool). elim t as (λ z. Option ℕ) [ true ↦ Some 0 | false ↦ elim (entry_for p qs) [ None ↦ None | Some i ↦ Some (suc i) ] ]) w.0) ∙ e)
 ]
   where
     by : ((i : ℕ) → entry_for p qs ≡ Some i → list_any (nat_eq p) qs ≡ true) → (x : Option ℕ) → entry_for p qs ≡ x → elim (entry_for p qs) as (λ z. Option ℕ) [ None ↦ None | Some i ↦ Some (suc i) ] ≡ Some k → list_any (nat_eq p) qs ≡ true
-    by so_far None is h = absurd (some_none (sym h ∙ ap (λ (y : Option ℕ). elim y as (λ z. Option ℕ) [ None ↦ None | Some i ↦ Some (suc i) ]) is))
+    by so_far None is h = absurd (some_none {X = ℕ} _ (sym h ∙ ap (λ (y : Option ℕ). elim y as (λ z. Option ℕ) [ None ↦ None | Some i ↦ Some (suc i) ]) is))
     by so_far (Some i) is h = so_far i is
 
 none-any : (p : ℕ) (table : List ℕ) → entry_for p table ≡ None → list_any (nat_eq p) table ≡ false
 unfolding entry_for
 none-any p [] e = refl
 none-any p (q ∷ qs) e = elim (eqb_tells p q) [
-  | inl w ↦ absurd (some_none (sym (ap (λ (t : Bool). elim t as (λ z. Option ℕ) [ true ↦ Some 0 | false ↦ elim (entry_for p qs) [ None ↦ None | Some i ↦ Some (suc i) ] ]) w.0) ∙ e))
+  | inl w ↦ absurd (some_none {X = ℕ} _ (sym (ap (λ (t : Bool). elim t as (λ z. Option ℕ) [ true ↦ Some 0 | false ↦ elim (entry_for p qs) [ None ↦ None | Some i ↦ Some (suc i) ] ]) w.0) ∙ e))
   | inr w ↦ ap (λ (t : Bool). t || list_any (nat_eq p) qs) w.0 ∙ none-any p qs (by (entry_for p qs) refl (sym (ap (λ (t : Bool). elim t as (λ z. Option ℕ) [ true ↦ Some 0 | false ↦ elim (entry_for p qs) [ None ↦ None | Some i ↦ Some (suc i) ] ]) w.0) ∙ e))
 ]
   where
     by : (x : Option ℕ) → entry_for p qs ≡ x → elim (entry_for p qs) as (λ z. Option ℕ) [ None ↦ None | Some i ↦ Some (suc i) ] ≡ None → entry_for p qs ≡ None
     by None is h = is
-    by (Some i) is h = absurd (some_none (sym (ap (λ (y : Option ℕ). elim y as (λ z. Option ℕ) [ None ↦ None | Some i ↦ Some (suc i) ]) is) ∙ h))
+    by (Some i) is h = absurd (some_none {X = ℕ} _ (sym (ap (λ (y : Option ℕ). elim y as (λ z. Option ℕ) [ None ↦ None | Some i ↦ Some (suc i) ]) is) ∙ h))
 
 pub noted-there : (p : ℕ) (table : List ℕ) (k : ℕ) → entry_for p table ≡ Some k → noted p table ≡ table
 unfolding noted
@@ -123,9 +88,6 @@ may_stay false false false longer e = (e, refl, refl, e)
 some_base : (xs : List Base) (x : Base) → xs ++ x ∷ [] ≡ [] → ⊥
 some_base xs x e = absurd (omega (arith, ap length e, length-append xs (x ∷ [])))
 
-inside_length : (n p : ℕ) → nat_le n p ≡ false → p < n
-inside_length n p e = elim (leb_tells n p) [ inl w ↦ absurd (true≢false (sym w.0 ∙ e)) | inr w ↦ w.1 ]
-
 -- One page stroke on what was seen.
 module _ (t : Trail) (p : ℕ) (bytes : Page) (fits : Fits p bytes t.base.image) where
   abbrev now : Image
@@ -141,7 +103,7 @@ module _ (t : Trail) (p : ℕ) (bytes : Page) (fits : Fits p bytes t.base.image)
   new = with_page p bytes now
 
   new_is : (after_stroke s t).base.image ≡ with_page p bytes now
-  new_is = ap (λ (b : Base). b.image) (trail_base s t) ∙ stroke-image t.base p bytes ∙ ap (λ (x : Page). with_page p x now) (merged_fits p bytes now fits.front)
+  new_is = ap (λ (b : Base). b.image) (trail_base s t) ∙ stroke_page t.base p bytes ∙ ap (λ (x : Page). with_page p x now) (merged_fits p bytes now fits.front)
 
   -- page 0 keeps its first 64 bytes
   new_front : take 64 (first_page (with_page p bytes now)) ≡ take 64 (first_page now)
@@ -178,10 +140,10 @@ module _ (t : Trail) (p : ℕ) (bytes : Page) (fits : Fits p bytes t.base.image)
 
     -- the image of the outcome's stroke
     pub put_is : (on_base s b).image ≡ with_page p bytes b.image
-    put_is = stroke-image b p bytes ∙ ap (λ (x : Page). with_page p x b.image) (merged_fits p bytes b.image fits_left.front)
+    put_is = stroke_page b p bytes ∙ ap (λ (x : Page). with_page p x b.image) (merged_fits p bytes b.image fits_left.front)
 
     base_is : (on_base s t.base).image ≡ with_page p bytes now
-    base_is = stroke-image t.base p bytes ∙ ap (λ (x : Page). with_page p x now) (merged_fits p bytes now fits.front)
+    base_is = stroke_page t.base p bytes ∙ ap (λ (x : Page). with_page p x now) (merged_fits p bytes now fits.front)
 
     -- the image after the stroke, of what was seen and of the outcome
     stroke_size : image_size (on_base s t.base).image ≡ image_size now
@@ -216,8 +178,8 @@ module _ (t : Trail) (p : ℕ) (bytes : Page) (fits : Fits p bytes t.base.image)
           (λ (same : b.diverted ≡ t.base.diverted). ([], of_t ∙ ap (noted p) (sym same) ∙ sym of_b ∙ sym (append-nil (on_base s b).diverted)))
           (keeps w.1)
       | inr w ↦
-          let of_t : (on_base s t.base).diverted ≡ t.base.diverted = stroke-other t.base p bytes w.1 in
-          let of_b : (on_base s b).diverted ≡ b.diverted = stroke-other b p bytes (λ e. w.1 (sym state_left ∙ e)) in
+          let of_t : (on_base s t.base).diverted ≡ t.base.diverted = stroke-diverted t.base p bytes w.1 in
+          let of_b : (on_base s b).diverted ≡ b.diverted = stroke-diverted b p bytes (λ e. w.1 (sym state_left ∙ e)) in
           (left.rest.diverted.0, of_t ∙ left.rest.diverted.1 ∙ ap (λ (x : List ℕ). x ++ left.rest.diverted.0) (sym of_b))
     ]
 
@@ -238,7 +200,7 @@ module _ (t : Trail) (p : ℕ) (bytes : Page) (fits : Fits p bytes t.base.image)
                 diverted = put_diverted keeps;
                 merging = λ m.
                     let merges : image_state now ≡ merge_state = sym later_state ∙ ap (λ (x : Base). image_state x.image) (trail_base s t) ∙ m in
-                    stroke-other b p bytes (λ e. absurd (omega (arith, e, merges, state_left))) ∙ left.rest.merging merges ∙ sym (stroke-other t.base p bytes (λ e. absurd (omega (arith, e, merges))));
+                    stroke-diverted b p bytes (λ e. absurd (omega (arith, e, merges, state_left))) ∙ left.rest.merging merges ∙ sym (stroke-diverted t.base p bytes (λ e. absurd (omega (arith, e, merges))));
                 whole = λ none. absurd (some_base t.earlier t.base none);
               };
             })
@@ -249,7 +211,7 @@ module _ (t : Trail) (p : ℕ) (bytes : Page) (fits : Fits p bytes t.base.image)
         let parts : ((is_forced now || (p == 0 || nat_le (length now) p)) ≡ false) × ((p == 0) ≡ false) × (is_scn_place (image_size now) p ≡ false) × (nat_le (length now) p ≡ false) =
         may_stay (is_forced now) (p == 0) (is_scn_place (image_size now) p) (nat_le (length now) p) waits in
         let mixed : IsMixture (bases_of t ++ on_base s t.base ∷ []) (on_base s t.base).image b.image =
-        mixture_lost (bases_of t) now b.image left.mixed p bytes fits.low (on_base s t.base) base_is (inside_length (length now) p parts.3) (some_page p parts.1) in
+        mixture_lost (bases_of t) now b.image left.mixed p bytes fits.low (on_base s t.base) base_is (not_le (length now) p parts.3) (some_page p parts.1) in
         subst (λ (x : Trail). IsFirm x b) (sym (waits_after s t (waits_none t p bytes parts.0))) (record {
           mixed = mixed;
           kept = λ q at.
@@ -260,7 +222,7 @@ module _ (t : Trail) (p : ℕ) (bytes : Page) (fits : Fits p bytes t.base.image)
             diverted = stays_diverted;
             merging = λ m.
                 let merges : image_state now ≡ merge_state = sym later_state ∙ ap (λ (x : Base). image_state x.image) (trail_base s t) ∙ m in
-                left.rest.merging merges ∙ sym (stroke-other t.base p bytes (λ e. absurd (omega (arith, e, merges))));
+                left.rest.merging merges ∙ sym (stroke-diverted t.base p bytes (λ e. absurd (omega (arith, e, merges))));
             whole = λ none. absurd (some_base t.earlier t.base none);
           };
         })
@@ -274,5 +236,5 @@ module _ (t : Trail) (p : ℕ) (bytes : Page) (fits : Fits p bytes t.base.image)
           | inl w ↦
               let more_ : (more : List ℕ) × (noted p t.base.diverted ≡ t.base.diverted ++ more) = noted-longer p t.base.diverted in
               (left.rest.diverted.0 ++ more_.0, stroke-stalled t.base p bytes w.1 ∙ more_.1 ∙ ap (λ (x : List ℕ). x ++ more_.0) left.rest.diverted.1 ∙ append_assoc b.diverted left.rest.diverted.0 more_.0)
-          | inr w ↦ (left.rest.diverted.0, stroke-other t.base p bytes w.1 ∙ left.rest.diverted.1)
+          | inr w ↦ (left.rest.diverted.0, stroke-diverted t.base p bytes w.1 ∙ left.rest.diverted.1)
         ]

@@ -30,3 +30,4 @@ pub mod WriteLaws
 pub mod WrittenLaws
 pub mod MergingLaws
 pub mod PutLaws
+mod Common

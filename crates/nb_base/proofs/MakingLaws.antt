@@ -1,79 +1,23 @@
 -- The file of a new database while it is made: until page 0 is written it has no header, whatever a crash leaves of it.
-use Rattle.std.proofs.Common.{◌≡◌, ◌≢◌, ◌⊎◌, inl, inr, ⊎_elim, ℕ, zero, suc, ◌+◌, ◌-◌, ◌*◌, ◌≤◌, List, [], ◌∷◌, ◌++◌, length, take, drop, replicate, refl, sym, ◌∙◌, ap, subst, arith, length-append}
-use Rattle.std.specs.Prelude.{Bool, true, IsTrue, ◌||◌, ◌==◌, Some, None, Result, Ok, Err, OnOk}
-use Rattle.std.proofs.lemmas.Bool.{and_parts, and_from}
-use Rattle.std.proofs.lemmas.List.{take-append-le, take-take, length-take-le, length-replicate}
-use Rattle.std.proofs.lemmas.Result.{on_ok_weaker}
-use Rattle.nb_fields.specs.Bytes.{is_zeros}
-use Rattle.nb_fields.specs.Fresh.{fresh, fresh_count, fresh_page}
-use Rattle.nb_fields.specs.Places.{is_page_size}
-use Rattle.nb_fields.specs.Free.{is_free_file, is_unfinished}
-use Rattle.nb_host.specs.Files.{File, Files, bytes_of, padded, put_at, with_file, with_page}
-use Rattle.nb_host.specs.World.{World}
-use Rattle.nb_host.specs.Crash.{Leaves, LeavesAll, PageLeft, IsDurable, Untouched}
-use Rattle.nb_host.specs.Calls.{WholeOrNot, Remakes, WritesPage, Syncs, IsSilent}
-use Rattle.nb_host.specs.Moments.{Passes, IsTimely}
-use Rattle.nb_change.specs.Changes.{Changes, Only}
-use Rattle.nb_change.specs.Gave.{GaveNothing}
-use Rattle.nb_change.proofs.MomentLaws.{untouched_fewer}
-use Rattle.nb_change.proofs.NameLaws.{whole-other}
-use Rattle.nb_change.proofs.ChangesLaws.{begun, one_more, still_more}
-use Rattle.nb_change.proofs.SettledLaws.{durable_is}
-use Rattle.nb_model.specs.Image.{Image}
-use Rattle.nb_model.specs.Account.{base_of}
-use Rattle.nb_model.specs.Owner.{owner, delta_name}
-use Rattle.nb_model.specs.Trail.{ShowsIn}
-use Rattle.nb_base.specs.Beginnings.{CreateLeft, CreateReads, IsSettled}
-use Rattle.nb_base.proofs.CreateLaws.{HasRest, named, whole_shows}
-
--- the bytes where a header would stand are zeros, or there are fewer
-abbrev IsBlank : File → Type 0
-IsBlank file = is_zeros (take 64 (bytes_of file)) ≡ true
-
-blank-free : (c : File) → IsBlank c → is_free_file c ≡ true
-unfolding is_free_file
-blank-free None h = refl
-blank-free (Some bytes) h = ap (λ (b : Bool). b || is_unfinished bytes) h
+use Rattle.std.proofs.Common.{◌≡◌, ◌≢◌, ◌⊎◌, inl, inr, ⊎_elim, ℕ, ◌-◌, ◌*◌, ◌≤◌, List, [], length, take, sym, ◌∙◌, ap, subst, Bool, true, IsTrue, Some, Result, Ok, Err, OnOk}
+use Rattle.nb_base.proofs.Common.{on_ok_weaker, is_zeros, fresh, fresh_count, fresh_page, is_page_size, File, Files, bytes_of, with_file, World, Leaves, LeavesAll, PageLeft, IsDurable, Untouched, WholeOrNot, Remakes, WritesPage, Syncs, IsSilent, Passes, IsTimely, Changes, Only, GaveNothing, untouched_fewer, whole-other, begun, one_more, still_more, durable_is, Image, base_of, owner, delta_name, ShowsIn, CreateLeft, CreateReads, IsSettled, with_file-named, blank_free, blank_put, blank_left}
+use Rattle.nb_fields.specs.Free.{is_free_file}
+use Rattle.nb_host.specs.Files.{with_page}
+use Rattle.nb_base.proofs.CreateLaws.{HasRest, whole_shows}
+use Rattle.nb_page.proofs.BlankLaws.{IsBlank}
+use Rattle.nb_fields.proofs.ZeroLaws.{zeros-behind}
 
 blank-empty : (c : File) → c ≡ Some [] → IsBlank c
 blank-empty c is = ap (λ (x : File). is_zeros (take 64 (bytes_of x))) is
 
--- zeros after leave it blank
-zeros-take : (k n : ℕ) → is_zeros (take k (replicate n 0)) ≡ true
-zeros-take zero n = refl
-zeros-take (suc k) zero = refl
-zeros-take (suc k) (suc n) = zeros-take k n
-
-zeros-behind : (k n : ℕ) (bytes : List ℕ) → is_zeros (take k bytes) ≡ true → is_zeros (take k (bytes ++ replicate n 0)) ≡ true
-zeros-behind zero n bytes h = refl
-zeros-behind (suc k) n [] h = zeros-take (suc k) n
-zeros-behind (suc k) n (b ∷ bs) h = let both = and_parts (b == 0) (is_zeros (take k bs)) h in and_from (b == 0) (is_zeros (take k (bs ++ replicate n 0))) both.0 (zeros-behind k n bs both.1)
-
--- and so does a page after it
-blank-put : (at : ℕ) (page : List ℕ) (file : File) → 64 ≤ at → IsBlank file → IsBlank (with_page file at page)
-unfolding put_at padded
-blank-put at page file far h =
-    let bytes : List ℕ = bytes_of file in
-    let long : at ≤ length (padded bytes at) = omega (arith, length-append bytes (replicate (at - length bytes) 0), length-replicate {A = ℕ} (at - length bytes) 0) in
-    ap is_zeros (take-append-le 64 (take at (padded bytes at)) (page ++ drop (at + length page) bytes) (omega (arith, far, length-take-le at (padded bytes at) long)) ∙ take-take 64 at (padded bytes at) far)
-    ∙ zeros-behind 64 (at - length bytes) bytes h
-
-blank-grown : (n : ℕ) (b c : File) → c ≡ Some (bytes_of b ++ replicate n 0) → IsBlank b → IsBlank c
-blank-grown n b c grown h = ap (λ (x : File). is_zeros (take 64 (bytes_of x))) grown ∙ zeros-behind 64 n (bytes_of b) h
-
 blank-same : (b c : File) → c ≡ b → IsBlank b → IsBlank c
 blank-same b c same h = subst (λ (x : File). IsBlank x) (sym same) h
 
-blank-left : (at : ℕ) (page : List ℕ) (b c : File) → 64 ≤ at → PageLeft at page b c → IsBlank b → IsBlank c
-blank-left at page b c far (inl same) h = blank-same b c same h
-blank-left at page b c far (inr (inl put)) h = blank-same (with_page b at page) c put (blank-put at page b far h)
-blank-left at page b c far (inr (inr (k, fits, grown))) h = blank-grown (k * length page) b c grown h
-
 -- a file that was changed, whole or not, reads as before, or as it was to be
 own_reads : {T E : Type 0} (result : Result T E) (old new : Files) (name : List ℕ) (file : File) → WholeOrNot result old (with_file old name file) new → (new name ≡ old name) ⊎ (new name ≡ file)
-own_reads (Ok value) old new name file is = inr (named old new name file is)
+own_reads (Ok value) old new name file is = inr (with_file-named old new name file is)
 own_reads (Err e) old new name file (inl same) = inl (ap (λ (f : Files). f name) same)
-own_reads (Err e) old new name file (inr done) = inr (named old new name file done)
+own_reads (Err e) old new name file (inr done) = inr (with_file-named old new name file done)
 
 -- The new file has no header yet, and is the only one that was touched.
 pub record Making (old w : World) (name : List ℕ) (image : Image) : Type 0 where
@@ -92,7 +36,7 @@ module _ (name : List ℕ) (image : Image) where
   blank_more : (old mid new : World) → Changes old mid (Only name) (CreateLeft old name image) → Passes mid new → IsSilent mid new → Untouched mid new (λ m. m ≢ name)
       → ((n : List ℕ) → n ≢ name → new.files n ≡ mid.files n) → ((c : File) → new.back name c → Leaves old name c) → ((c : File) → new.now name c → IsBlank c) → IsBlank (new.files name) → Making old new name image
   blank_more old mid new so_far time silent others read back blank reads = record {
-    so_far = call_more old mid new so_far time silent others read (λ files left. ⊎_elim (λ b. inl (back (files name) b)) (λ n. inr (inl (blank-free (files name) (blank (files name) n)))) (left name));
+    so_far = call_more old mid new so_far time silent others read (λ files left. ⊎_elim (λ b. inl (back (files name) b)) (λ n. inr (inl (blank_free (files name) (blank (files name) n)))) (left name));
     back = back;
     blank = blank;
     reads = reads;
@@ -106,31 +50,31 @@ module _ (name : List ℕ) (image : Image) where
       → Changes old new (Only name) (CreateLeft old name image)
   made tells result old new so timely is silent time =
       call_more old old new (not_begun old timely) time silent is.others (whole-other result old.files new.files name (Some []) (is.files so))
-      (λ files left. ⊎_elim (λ b. inl (is.back (files name) b)) (λ n. ⊎_elim (λ l. inl l) (λ e. inr (inl (blank-free (files name) (blank-empty (files name) e)))) (is.now (files name) n)) (left name))
+      (λ files left. ⊎_elim (λ b. inl (is.back (files name) b)) (λ n. ⊎_elim (λ l. inl l) (λ e. inr (inl (blank_free (files name) (blank-empty (files name) e)))) (is.now (files name) n)) (left name))
 
   -- and so it reads
   pub made_reads : {T E : Type 0} (tells : Bool) (result : Result T E) (old new : World) → IsTrue tells → Remakes tells result old new name (Some []) → CreateReads old name image new.files
-  made_reads tells result old new so is = ⊎_elim inl (λ e. inr (inl (blank-free (new.files name) (blank-empty (new.files name) e)))) (own_reads result old.files new.files name (Some []) (is.files so))
+  made_reads tells result old new so is = ⊎_elim inl (λ e. inr (inl (blank_free (new.files name) (blank-empty (new.files name) e)))) (own_reads result old.files new.files name (Some []) (is.files so))
 
   -- a file without a header reads as one whose name is free
   pub making_reads : (old w : World) → Making old w name image → CreateReads old name image w.files
-  making_reads old w making = inr (inl (blank-free (w.files name) making.reads))
+  making_reads old w making = inr (inl (blank_free (w.files name) making.reads))
 
   -- and the making has begun
   pub making_begun : {T E : Type 0} (tells : Bool) (value : T) (old new : World) → IsTrue tells → IsTimely old → Remakes {T = T} {E = E} tells (Ok value) old new name (Some []) → IsSilent old new → Passes old new → Making old new name image
   making_begun {T} {E} tells value old new so timely is silent time =
       blank_more old old new (not_begun old timely) time silent is.others (whole-other {T = T} {E = E} (Ok value) old.files new.files name (Some []) (is.files so)) is.back
-      (λ c n. blank-empty c (is.done c n)) (blank-empty (new.files name) (named old.files new.files name (Some []) (is.files so)))
+      (λ c n. blank-empty c (is.done c n)) (blank-empty (new.files name) (with_file-named old.files new.files name (Some []) (is.files so)))
 
   -- a page after page 0 is written, also where that fails
   pub page_more : {T E : Type 0} (tells : Bool) (result : Result T E) (old mid new : World) (at : ℕ) (page : List ℕ) → IsTrue tells → 64 ≤ at → Making old mid name image → WritesPage tells result mid new name at page → IsSilent mid new
       → Passes mid new → Making old new name image
   page_more tells result old mid new at page so far making is silent time =
       blank_more old mid new making.so_far time silent is.left.others (whole-other result mid.files new.files name _ (is.files so)) (λ c b. making.back c (is.left.back c b))
-      (λ c n. let from = is.left.now c n in blank-left at page from.0 c far from.2 (making.blank from.0 from.1))
+      (λ c n. let from = is.left.now c n in blank_left at page from.0 c far (making.blank from.0 from.1) from.2)
       (⊎_elim
       (λ same. blank-same (mid.files name) (new.files name) same making.reads)
-      (λ put. blank-same (with_page (mid.files name) at page) (new.files name) put (blank-put at page (mid.files name) far making.reads))
+      (λ put. blank-same (with_page (mid.files name) at page) (new.files name) put (blank_put at page (mid.files name) far making.reads))
       (own_reads result mid.files new.files name (with_page (mid.files name) at page) (is.files so)))
 
   -- the file is synced, also where that fails
@@ -181,9 +125,9 @@ first_page tells result old mid new name size raw page so page_is kept is silent
     (λ files left. ⊎_elim (λ b. inl (making.back (files name) (is.left.back (files name) b))) (λ n. let from = is.left.now (files name) n in inr (by from.0 (files name) (files (delta_name name)) from.1 from.2)) (left name))
   where
     by : (b c d : File) → mid.now name b → PageLeft (0 * length page) page b c → (is_free_file c ≡ true) ⊎ (owner name c d ≡ Ok (base_of (fresh size raw)))
-    by b c d n (inl same) = inl (blank-free c (blank-same b c same (kept.making.blank b n)))
+    by b c d n (inl same) = inl (blank_free c (blank-same b c same (kept.making.blank b n)))
     by b c d n (inr (inl put)) = inr (subst (λ (x : File). owner name x d ≡ Ok (base_of (fresh size raw))) (sym (put ∙ ap (λ (x : File). with_page x (0 * length page) page) (kept.durable.only b n))) (kept.whole page page_is d))
-    by b c d n (inr (inr (k, fits, grown))) = inl (blank-free c (blank-grown (k * length page) b c grown (kept.making.blank b n)))
+    by b c d n (inr (inr (k, fits, grown))) = inl (blank_free c (subst IsBlank (sym grown) (zeros-behind 64 (k * length page) (bytes_of b) (kept.making.blank b n))))
 
 -- and so it reads
 pub first_page_reads : {T E : Type 0} (tells : Bool) (result : Result T E) (old mid new : World) (name : List ℕ) (size raw : ℕ) (page : List ℕ) → IsTrue tells → page ≡ fresh_page size raw 0 → KeepsRest old mid name size raw
@@ -194,7 +138,7 @@ first_page_reads tells result old mid new name size raw page so page_is kept is 
     whole put = subst (λ (x : File). owner name x (new.files (delta_name name)) ≡ Ok (base_of (fresh size raw))) (sym put) (kept.whole page page_is (new.files (delta_name name)))
 
     by : (new.files name ≡ mid.files name) ⊎ (new.files name ≡ with_page (mid.files name) (0 * length page) page) → CreateReads old name (fresh size raw) new.files
-    by (inl same) = inr (inl (blank-free (new.files name) (blank-same (mid.files name) (new.files name) same kept.making.reads)))
+    by (inl same) = inr (inl (blank_free (new.files name) (blank-same (mid.files name) (new.files name) same kept.making.reads)))
     by (inr put) = inr (inr (whole (put ∙ ap (λ (x : File). with_page x (0 * length page) page) kept.reads)))
 
 -- a sync changes nothing of that
@@ -207,7 +151,7 @@ pub settled : {T E : Type 0} (tells : Bool) (result : Result T E) (old mid writt
 settled tells result old mid written new name size raw page so page_is kept put is = on_ok_weaker result by (is.durable so)
   where
     reads : written.files name ≡ with_page kept.file (0 * length page) page
-    reads = named mid.files written.files name _ put ∙ ap (λ (x : File). with_page x (0 * length page) page) kept.reads
+    reads = with_file-named mid.files written.files name _ put ∙ ap (λ (x : File). with_page x (0 * length page) page) kept.reads
 
     shown : (d : File) → owner name (written.files name) d ≡ Ok (base_of (fresh size raw))
     shown d = subst (λ (x : File). owner name x d ≡ Ok (base_of (fresh size raw))) (sym reads) (kept.whole page page_is d)

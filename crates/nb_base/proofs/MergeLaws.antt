@@ -1,23 +1,9 @@
 -- Once every entry is equal in both files, the main file alone has the image, but for pages of zeros at its end.
-use Rattle.std.proofs.Common.{◌≡◌, ◌≢◌, inl, inr, ℕ, zero, suc, ◌-◌, ◌*◌, ◌<◌, ◌≤◌, List, [], ◌++◌, length, get_or, take, drop, replicate, refl, sym, ap, ◌∙◌, arith, length-append, mul-le-mul_right, suc-mul}
-use Rattle.std.specs.Prelude.{true, Option, Some, None}
-use Rattle.std.proofs.lemmas.Bool.Decides.{leb_tells}
-use Rattle.std.proofs.lemmas.List.{take-append-le, take-append-drop, length-drop, get_or_append_left, get_or-append_right}
-use Rattle.nb_fields.specs.Bytes.{is_zeros}
-use Rattle.nb_fields.specs.Table.{page_in, slot_place}
-use Rattle.nb_host.specs.Files.{Files, bytes_of}
+use Rattle.std.proofs.Common.{◌≡◌, ◌≢◌, inl, inr, ℕ, zero, suc, ◌-◌, ◌*◌, ◌<◌, ◌≤◌, List, [], ◌++◌, length, get_or, take, drop, replicate, refl, sym, ap, ◌∙◌, arith, length-append, mul-le-mul_right, suc-mul, true, Option, Some, None}
+use Rattle.nb_base.proofs.Common.{leb_tells, take-append-le, take-append-drop, length-drop, get_or_append_left, get_or-append_right, is_zeros, page_in, slot_place, Files, bytes_of, Page, Image, page_at, image_size, image_in, trimmed, Base, delta_name, entry_for, main_page, owned_page, length-joined, page-joined, all-right, IsLaid, main_here, main_past, all_at, trimmed_alike, all_zeros, Held, IsMerged, owned-none}
 use Rattle.nb_delta.proofs.GroupLaws.{page_past}
-use Rattle.nb_model.specs.Image.{Page, Image, page_at, image_size, image_in, trimmed}
-use Rattle.nb_model.specs.Account.{Base}
-use Rattle.nb_model.specs.Owner.{delta_name, entry_for, slot_page, main_page, owned_page}
-use Rattle.nb_model.proofs.ImageLaws.{length-joined, page-joined, all-right}
-use Rattle.nb_model.proofs.MainLaws.{IsLaid}
-use Rattle.nb_model.proofs.OwnerLaws.{main_here, main_past}
-use Rattle.nb_model.proofs.SoundLaws.{all_at}
-use Rattle.nb_model.proofs.TrimLaws.{trimmed_alike}
-use Rattle.nb_model.proofs.HeadSound.{all_zeros}
-use Rattle.nb_base.specs.Open.{Held, IsMerged}
-use Rattle.nb_base.proofs.OwnedLaws.{Holds, owned-entry, owned-none, entry_at, main-some, base-length, base-page}
+use Rattle.nb_model.specs.Owner.{slot_page}
+use Rattle.nb_base.proofs.OwnedLaws.{Holds, owned-entry, entry_at, main-some, base-length, base-page}
 use Rattle.nb_base.proofs.WrittenLaws.{laid_image}
 
 -- A page of the main file, as its bytes have it.

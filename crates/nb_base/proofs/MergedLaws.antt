@@ -1,31 +1,13 @@
 -- Entries that are equal in both files stay so, whatever page is written in the merge state.
-use Rattle.std.proofs.Common.{◌≡◌, ◌≢◌, inl, inr, ℕ, ◌+◌, ◌*◌, ◌<◌, ◌≤◌, List, length, drop, refl, sym, ap, subst, ◌∙◌, arith}
-use Rattle.std.specs.Prelude.{IsTrue, nat_eq, Some, None, slice_index}
-use Rattle.std.specs.List.{IsDistinct}
-use Rattle.std.proofs.lemmas.Bool.Decides.{eqb_tells}
-use Rattle.nb_fields.specs.Places.{is_page_size}
-use Rattle.nb_fields.specs.Table.{page_in}
-use Rattle.nb_fields.proofs.SizeLaws.{size_facts}
-use Rattle.nb_fields.specs.States.{merge_state}
-use Rattle.nb_host.specs.Files.{File, Files, bytes_of, with_file, with_page as with_page_at}
-use Rattle.nb_host.specs.World.{World}
-use Rattle.nb_delta.specs.Slots.{HasTable, SlotPut, slot_page}
-use Rattle.nb_delta.proofs.PageLaws.{put_here, put_other}
-use Rattle.nb_delta.proofs.TellLaws.{table_read}
-use Rattle.nb_model.specs.Image.{Page, Image, page_at, image_size, image_state, image_in, written_at}
-use Rattle.nb_model.specs.Owner.{delta_name, entry_for}
-use Rattle.nb_model.specs.Trail.{Trail}
-use Rattle.nb_model.proofs.TrailLaws.{itself_firm}
-use Rattle.nb_model.proofs.MainLaws.{some_page}
-use Rattle.nb_model.proofs.OwnerLaws.{main_here, other_page, written_length}
-use Rattle.nb_base.specs.Open.{Held, IsMerged, AreMerged}
-use Rattle.nb_base.specs.Seen.{IsSeen, IsWrite}
+use Rattle.std.proofs.Common.{◌≡◌, ◌≢◌, inl, inr, ℕ, ◌+◌, ◌*◌, ◌<◌, ◌≤◌, List, length, drop, refl, sym, ap, subst, ◌∙◌, arith, IsTrue, nat_eq, Some, None, slice_index}
+use Rattle.nb_base.proofs.Common.{IsDistinct, eqb_tells, is_page_size, page_in, size_facts, merge_state, File, Files, bytes_of, with_file, World, HasTable, SlotPut, slot_page, put_here, table_read, Page, Image, page_at, image_size, image_state, image_in, written_at, delta_name, entry_for, Trail, itself_firm, some_page, main_here, other_page, written_length, Held, IsMerged, AreMerged, IsSeen, IsWrite, with_file-same, with_file-other, none_there, some_same}
+use Rattle.nb_host.specs.Files.{with_page as with_page_at}
+use Rattle.nb_delta.proofs.PageLaws.{put_other}
 use Rattle.nb_base.proofs.WrittenLaws.{HasMain, MayWrite, main_put, laid_image, written_same}
-use Rattle.nb_base.proofs.OwnedLaws.{Holds, holds, base-state, base-size, later, some_same, none_some}
+use Rattle.nb_base.proofs.OwnedLaws.{Holds, holds, base-state, base-size, later}
 use Rattle.nb_base.proofs.StepLaws.{may}
 use Rattle.nb_base.proofs.WriteLaws.{delta_apart, main_apart}
 use Rattle.nb_base.proofs.MergingLaws.{entry_named}
-use Rattle.nb_change.proofs.NameLaws.{with_file-same, with_file-other}
 
 -- the table of a difference file names no page twice
 table_apart : (size : ℕ) (file : File) (table : List ℕ) → IsTrue (is_page_size size) → HasTable size file table → IsDistinct nat_eq table
@@ -97,13 +79,13 @@ module _ (old new : World) (held : Held) (t : Trail) (p : ℕ) (bytes : Page) (i
   pub plain_merged : entry_for p held.entries ≡ None → new.files (delta_name held.name) ≡ old.files (delta_name held.name) → (k : ℕ) → AreMerged old held k → AreMerged new held k
   plain_merged none beside k merged j low inside =
       other_merged held old.files new.files h.main p bytes h.has (may t p bytes is t.base (itself_firm t) (old.files held.name) (old.files (delta_name held.name)) h) size_is put j
-      (λ same. none_some (sym none ∙ ap (λ n. entry_for n held.entries) (sym same) ∙ entry_named held.entries j apart inside))
+      (λ same. none_there (sym none ∙ ap (λ n. entry_for n held.entries) (sym same) ∙ entry_named held.entries j apart inside))
       (ap (λ (f : File). slot_page held.page_size f j) beside) (merged j low inside)
 
   pub both_merged : (i : ℕ) → entry_for p held.entries ≡ Some i → SlotPut held.page_size i bytes (old.files (delta_name held.name)) (new.files (delta_name held.name)) → (k : ℕ) → AreMerged old held k → AreMerged new held k
   both_merged i at slot k merged j low inside = elim (eqb_tells (slice_index held.entries j) p) [
     | inl w ↦
-        let same : j ≡ i = some_same (sym (entry_named held.entries j apart inside) ∙ ap (λ n. entry_for n held.entries) w.1 ∙ at) in
+        let same : j ≡ i = some_same {X = ℕ} _ _ (sym (entry_named held.entries j apart inside) ∙ ap (λ n. entry_for n held.entries) w.1 ∙ at) in
         own_merged held old.files new.files h.main p bytes h.has (may t p bytes is t.base (itself_firm t) (old.files held.name) (old.files (delta_name held.name)) h) size_is put j w.1
         (ap (slot_page held.page_size (new.files (delta_name held.name))) same ∙ slot.slot)
     | inr w ↦

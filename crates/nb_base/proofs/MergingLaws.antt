@@ -1,38 +1,10 @@
 -- The page of an entry is written into the main file: what a crash leaves, and that the entry is equal in both files then.
-use Rattle.std.proofs.Common.{◌≡◌, ◌≢◌, inl, inr, ℕ, zero, suc, ◌+◌, ◌*◌, ◌<◌, ◌≤◌, List, [], ◌∷◌, length, get_or, take, drop, refl, sym, ap, subst, ◌∙◌, arith}
-use Rattle.std.specs.Prelude.{false, nat_eq, Some, None, Result, Ok}
-use Rattle.std.specs.List.{IsDistinct}
-use Rattle.std.proofs.lemmas.Bool.Decides.{eqb_tells}
-use Rattle.std.proofs.lemmas.List.{drop_at, length-take-le}
-use Rattle.nb_fields.specs.Header.{size_of}
-use Rattle.std.proofs.lemmas.Bool.{true≢false}
-use Rattle.nb_fields.specs.Table.{page_in, slot_place}
-use Rattle.nb_fields.specs.Places.{most_pages}
-use Rattle.nb_fields.specs.States.{merge_state}
-use Rattle.nb_host.specs.Files.{File, Files, bytes_of, with_file, with_page as with_page_at}
-use Rattle.nb_host.specs.World.{World}
-use Rattle.nb_host.specs.Calls.{IsStill}
-use Rattle.nb_change.proofs.NameLaws.{with_file-same, with_file-other}
-use Rattle.nb_change.proofs.ChangesLaws.{rested, composed, all_before}
-use Rattle.nb_delta.specs.Entries.{AreEntries}
-use Rattle.nb_delta.proofs.TellLaws.{apart_at}
-use Rattle.nb_page.specs.Quiet.{Quiet}
-use Rattle.nb_model.specs.Image.{Page, Image, page_at, image_size, image_state, image_in, trimmed, written_at}
-use Rattle.nb_model.specs.Causes.{not_database}
-use Rattle.nb_model.specs.Sound.{IsOfSize}
-use Rattle.nb_model.specs.Owner.{delta_name, entry_for, slot_page, main_page, owned_page}
-use Rattle.nb_model.specs.Trail.{Trail, ShowsIn}
-use Rattle.nb_base.specs.Firm.{StandsFirm}
-use Rattle.nb_model.proofs.OwnerLaws.{named, main_here, other_page, written_length}
-use Rattle.nb_model.proofs.ImageLaws.{all-left}
-use Rattle.nb_model.proofs.MainLaws.{some_page}
-use Rattle.nb_model.proofs.TrailLaws.{itself_firm}
-use Rattle.nb_model.proofs.TrimLaws.{trimmed_page}
-use Rattle.nb_base.specs.Open.{Held, OfFiles, IsOpen, IsMerged, AreMerged}
-use Rattle.nb_base.specs.Seen.{IsSeen}
-use Rattle.nb_base.specs.Takes.{StrikesFirm}
+use Rattle.std.proofs.Common.{◌≡◌, ◌≢◌, inl, inr, ℕ, zero, suc, ◌+◌, ◌*◌, ◌<◌, ◌≤◌, List, [], ◌∷◌, length, get_or, take, drop, refl, sym, ap, subst, ◌∙◌, arith, false, nat_eq, Some, None}
+use Rattle.nb_base.proofs.Common.{IsDistinct, eqb_tells, drop_at, length-take-le, size_of, true≢false, page_in, slot_place, most_pages, merge_state, File, Files, bytes_of, with_file, World, IsStill, with_file-same, with_file-other, rested, composed, all_before, AreEntries, apart_at, Quiet, Page, Image, page_at, image_size, image_state, image_in, trimmed, written_at, not_database, IsOfSize, delta_name, entry_for, main_page, owned_page, Trail, ShowsIn, StandsFirm, named, main_here, other_page, written_length, all-left, some_page, itself_firm, trimmed_page, Held, OfFiles, IsOpen, IsMerged, AreMerged, IsSeen, StrikesFirm, for_here, some_same}
+use Rattle.nb_host.specs.Files.{with_page as with_page_at}
+use Rattle.nb_model.specs.Owner.{slot_page}
 use Rattle.nb_base.proofs.MergeLaws.{page_in-main}
-use Rattle.nb_base.proofs.OwnedLaws.{Holds, entry-first, entry-later, later, owned-entry, base-length, base-page, base-size, bytes-size, main-some, main-long, some_same}
+use Rattle.nb_base.proofs.OwnedLaws.{Holds, entry-later, later, owned-entry, base-length, base-page, base-size, bytes-size, main-some, main-long}
 use Rattle.nb_base.proofs.HiddenLaws.{MayHide, may_lay}
 use Rattle.nb_base.proofs.StrokeLaws.{h0}
 use Rattle.nb_base.proofs.WrittenLaws.{HasMain, MayLay, main_over, written_same, written_sizes, laid_formed, laid_image}
@@ -42,7 +14,7 @@ use Rattle.nb_base.proofs.WriteLaws.{delta_apart}
 pub entry_named : (table : List ℕ) (k : ℕ) → IsDistinct nat_eq table → k < length table → entry_for (get_or table k 0) table ≡ Some k
 unfolding IsDistinct
 entry_named [] k once low = absurd (omega (arith, low))
-entry_named (x ∷ xs) zero once low = entry-first x x xs refl
+entry_named (x ∷ xs) zero once low = for_here x x xs refl
 entry_named (x ∷ xs) (suc k) once low = entry-later (get_or xs k 0) x xs (λ e. other (apart_at x xs k once.0 (omega (arith, low))) e) ∙ ap later (entry_named xs k once.1 (omega (arith, low)))
   where
     other : nat_eq (get_or xs k 0) x ≡ false → get_or xs k 0 ≡ x → ⊥
@@ -200,7 +172,7 @@ module _ (old : World) (held : Held) (t : Trail) (k number : ℕ) (page : Page) 
     merged_other j fits other was =
         let once : IsDistinct nat_eq held.entries = o.are.once in
         let apart : get_or held.entries j 0 ≢ number = λ e.
-        other (some_same (sym (entry_named held.entries j once fits) ∙ ap (λ n. entry_for n held.entries) (e ∙ o.names) ∙ entry_named held.entries k once o.inside)) in
+        other (some_same {X = ℕ} _ _ (sym (entry_named held.entries j once fits) ∙ ap (λ n. entry_for n held.entries) (e ∙ o.names) ∙ entry_named held.entries k once o.inside)) in
         record {
           later = λ e. ap (drop 64) (first_now ∙ other_after 0 (λ z. apart (e ∙ z)) ∙ sym first_then) ∙ was.later e ∙ ap (drop 64) (sym (slot_now j));
           same = λ some. page_now (get_or held.entries j 0) ∙ other_after (get_or held.entries j 0) apart ∙ sym (page_then (get_or held.entries j 0)) ∙ was.same some ∙ sym (slot_now j);
@@ -211,7 +183,3 @@ module _ (old : World) (held : Held) (t : Trail) (k number : ℕ) (page : Page) 
       | inl e ↦ subst (λ n. IsMerged held new n) (sym e.1) merged_here
       | inr ne ↦ merged_other j fits ne.1 (so_far j (omega (arith, low, ne.1)) fits)
     ])
-
--- the number of an entry that was looked up
-pub number_is : {E : Type 0} (a b : ℕ) → ◌≡◌ {A = Result ℕ E} (Ok a) (Ok b) → a ≡ b
-number_is a b e = cc

@@ -1,34 +1,10 @@
 -- Opening a database: its two files are those that were read, or the refusal is the one of their owner.
-use Rattle.std.proofs.Common.{◌≡◌, ◌≢◌, inl, inr, ℕ, zero, suc, ◌<◌, List, [], length, refl, sym, ap, subst, ◌∙◌, arith}
-use Rattle.std.specs.Prelude.{true, false, ◌==◌, Some, None, Result, Ok, Err, IsErr, IsErrAnd, max}
-use Rattle.std.proofs.lemmas.Bool.Decides.{eqb_tells}
-use Rattle.nb_fields.specs.Header.{state_of, size_of}
-use Rattle.nb_fields.specs.Table.{table_of}
-use Rattle.nb_fields.specs.States.{normal_state, stalled_state}
-use Rattle.nb_host.specs.Files.{File, Files, bytes_of}
-use Rattle.nb_host.specs.World.{World}
-use Rattle.nb_host.specs.Crash.{LeavesAll, IsDurable}
-use Rattle.nb_host.specs.declared.faults.Fault.{Fault}
-use Rattle.nb_host.specs.declared.faults.Fault.TheVariants.{Refused, Device, Memory}
-use Rattle.nb_host.specs.declared.refusals.Refusal.{Refusal}
-use Rattle.nb_host.specs.declared.refusals.Refusal.TheVariants.{NoFile, BadDelta, Unfinished}
-use Rattle.nb_change.proofs.SettledLaws.{durable_is}
-use Rattle.nb_delta.specs.Known.{Known}
-use Rattle.nb_delta.specs.Slots.{HasTable}
-use Rattle.nb_model.specs.Image.{Image, image_size, image_state, image_in, is_forced}
-use Rattle.nb_model.specs.Account.{Base}
-use Rattle.nb_model.specs.Causes.{Cause, not_database}
-use Rattle.nb_model.specs.Owner.{delta_name, owned, behind_entries, owner_with, owner_in, owner}
-use Rattle.nb_model.specs.Trail.{ShowsIn, settled}
-use Rattle.nb_model.proofs.MainLaws.{laid, owner-none, owner-formed, owner-refused}
+use Rattle.std.proofs.Common.{◌≡◌, ◌≢◌, inl, inr, ℕ, zero, suc, ◌<◌, List, [], length, refl, sym, ap, subst, ◌∙◌, arith, true, false, ◌==◌, Some, None, Result, Ok, Err, IsErr, IsErrAnd, max}
+use Rattle.nb_base.proofs.Common.{eqb_tells, state_of, size_of, table_of, normal_state, stalled_state, File, Files, bytes_of, World, LeavesAll, IsDurable, Fault, Refused, Device, Memory, Refusal, NoFile, BadDelta, durable_is, Known, HasTable, Image, image_size, image_state, image_in, is_forced, Base, Cause, not_database, delta_name, owned, behind_entries, owner_with, owner_in, owner, ShowsIn, settled, laid, owner-none, owner-formed, owner-refused, Start, Tested, main_cause, IsStart, AttachesFor, Held, Agrees, IsOpen, IsAttached, Attaches, first_of, some_page, some_same}
 use Rattle.nb_base.proofs.FirmLaws.{shows_firm}
-use Rattle.nb_base.specs.declared.attach.Start.{Start}
-use Rattle.nb_base.specs.Attach.{Tested, main_cause, IsStart, AttachesFor}
-use Rattle.nb_base.specs.Open.{Held, Agrees, IsOpen}
-use Rattle.nb_base.specs.Beginnings.{IsAttached, Attaches, first_of}
 use Rattle.nb_base.proofs.AttachLaws.{start_broken, start_rest}
-use Rattle.nb_model.proofs.MainLaws.{some_page}
 use Rattle.nb_base.proofs.OwnedLaws.{Holds, owned-alone, frozen_in, bytes-state, bytes-size, shows, base-header, base-state, base-size, base-length}
+use Rattle.nb_model.proofs.OpeningLaws.{owner_applying}
 
 -- in the normal state the difference file isn't looked at
 pub holds_whatever : (b : Base) (m d e : File) (h : Holds b m d) → image_state h.main ≡ normal_state → Holds b m e
@@ -43,23 +19,15 @@ holds_whatever b m d e h normal = record {
   frozen = h.frozen;
 }
 
-some_same : {a b : Refusal} → Some a ≡ Some b → a ≡ b
-some_same e = cc
-
--- why the main file isn't opened, the two files aren't
-owner_in-applying : (name bytes : List ℕ) (delta : File) → owner_in 3 name bytes delta ≡ Err Unfinished
-unfolding owner_in
-owner_in-applying name bytes delta = refl
-
 main_refused : (name : List ℕ) (m d : File) (r : Refusal) → main_cause name m ≡ Some r → owner name m d ≡ Err r
-main_refused name None d r e = owner-none name d ∙ ap (λ (x : Refusal). Err x) (some_same e)
+main_refused name None d r e = owner-none name d ∙ ap (λ (x : Refusal). Err x) (some_same {X = Refusal} _ _ e)
 main_refused name (Some bytes) d r e = by (not_database bytes) refl
   where
     by : (cause : Cause) → not_database bytes ≡ cause → owner name (Some bytes) d ≡ Err r
-    by (Some q) is = owner-refused name bytes d q is ∙ ap (λ (x : Refusal). Err x) (some_same (sym (start_broken bytes q is) ∙ e))
+    by (Some q) is = owner-refused name bytes d q is ∙ ap (λ (x : Refusal). Err x) (some_same {X = Refusal} _ _ (sym (start_broken bytes q is) ∙ e))
     by None is =
         let rest = start_rest bytes r is e in
-        owner-formed name bytes d is ∙ ap (λ n. owner_in n name bytes d) rest.0 ∙ owner_in-applying name bytes d ∙ ap (λ (x : Refusal). Err x) (sym rest.1)
+        owner-formed name bytes d is ∙ ap (λ n. owner_in n name bytes d) rest.0 ∙ owner_applying name bytes d ∙ ap (λ (x : Refusal). Err x) (sym rest.1)
 
 pub start_refused : (S A : Type 0) (result : Result (Held × A) Fault) (fault : Fault) (old new : World) (name : List ℕ) → IsErr result × IsErrAnd result (λ f. f ≡ fault) → Tested {T = S} (Err fault) (main_cause name (old.files name)) → Attaches (first_of result) old new name
 start_refused S A (Ok value) fault old new name is tested = absurd is.1

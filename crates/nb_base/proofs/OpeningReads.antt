@@ -1,18 +1,6 @@
 -- How many reads the opening of a database makes.
-use Rattle.std.proofs.Common.{◌≡◌, ◌≢◌, ℕ, zero, suc, ◌+◌, ◌/◌, ◌-◌, ◌≤◌, ◌<◌, List, length, refl, sym, ap, ◌∙◌, arith}
-use Rattle.std.specs.Prelude.{Some, Result, Ok, Err, IfOk, IsTrue}
-use Rattle.std.proofs.Math.Nat.{mul-div_cancel}
-use Rattle.nb_fields.specs.Header.{size_of}
-use Rattle.nb_fields.specs.Places.{is_page_size, slots_in}
-use Rattle.nb_fields.proofs.SizeLaws.{size_facts}
-use Rattle.nb_fields.specs.States.{normal_state}
-use Rattle.nb_host.specs.Files.{File}
-use Rattle.nb_host.specs.declared.faults.Fault.{Fault}
-use Rattle.nb_delta.specs.Known.{Known}
-use Rattle.nb_model.specs.Image.{image_in}
-use Rattle.nb_base.specs.declared.attach.Start.{Start}
-use Rattle.nb_base.specs.Attach.{IsStart}
-use Rattle.nb_base.specs.Reads.{table_reads, zero_pages}
+use Rattle.std.proofs.Common.{◌≡◌, ◌≢◌, ℕ, zero, suc, ◌+◌, ◌/◌, ◌-◌, ◌≤◌, ◌<◌, List, length, refl, sym, ap, ◌∙◌, arith, Some, Result, Ok, Err, IfOk, IsTrue}
+use Rattle.nb_base.proofs.Common.{mul-div_cancel, size_of, is_page_size, slots_in, size_facts, normal_state, File, Fault, Known, image_in, Start, IsStart, table_reads, zero_pages}
 
 -- in the normal state no table is read
 pub none_read : (result : Result Known Fault) (state size reads : ℕ) → IfOk result (λ d. reads ≤ reads + table_reads state size d.entries)

@@ -1,30 +1,15 @@
 -- What two files stand for, and what they show, after a page of one of them was written.
-use Rattle.std.proofs.Common.{◌≡◌, ◌≢◌, ◌⊎◌, inl, inr, ⊎_elim, ℕ, ◌*◌, ◌<◌, ◌≤◌, List, [], ◌∷◌, ◌++◌, length, refl, sym, ap, subst, ◌∙◌, arith, length-append}
-use Rattle.std.specs.Prelude.{false, Option, Some, None, Result, Ok}
-use Rattle.nb_fields.specs.Table.{page_in, slot_place, table_of}
-use Rattle.nb_fields.specs.States.{stalled_state}
-use Rattle.nb_host.specs.Files.{File, bytes_of, with_page as with_page_at}
-use Rattle.nb_host.specs.Crash.{PageLeft}
-use Rattle.nb_delta.specs.Slots.{HasTable, SlotStep, SlotPut, Adds, AddStep, slot_page}
-use Rattle.nb_model.specs.Image.{Page, Image, image_size, image_state, with_page}
-use Rattle.nb_model.specs.Account.{Base}
-use Rattle.nb_model.specs.Strokes.{Stroke, page, on_base, merged_page}
-use Rattle.nb_model.specs.Owner.{entry_for, owned, owner}
-use Rattle.nb_model.specs.Trail.{Trail, after_stroke, IsFirm}
-use Rattle.nb_base.specs.Firm.{must_sync, StandsFirmOn}
-use Rattle.nb_model.proofs.TrailLaws.{itself_firm, trail_base}
-use Rattle.nb_base.specs.Seen.{IsWrite}
-use Rattle.nb_base.proofs.OwnedLaws.{Holds, holds, shows, main-some, main-long, base-state, base-size, entry_shows, entry-front, entry-behind, some_same}
-use Rattle.nb_base.proofs.LeftLaws.{stroke-image, stroke-frozen, stroke-stalled, noted-new, later_size, later_length, later_front, put_left, stay_left}
+use Rattle.std.proofs.Common.{◌≡◌, ◌≢◌, ◌⊎◌, inl, inr, ⊎_elim, ℕ, ◌*◌, ◌<◌, ◌≤◌, List, [], ◌∷◌, ◌++◌, length, refl, sym, ap, subst, ◌∙◌, arith, length-append, false, Option, Some, None, Ok}
+use Rattle.nb_base.proofs.Common.{page_in, slot_place, table_of, stalled_state, File, bytes_of, PageLeft, HasTable, SlotStep, SlotPut, Adds, AddStep, slot_page, Page, Image, image_size, image_state, with_page, Base, Stroke, page, on_base, merged_page, entry_for, owned, owner, Trail, after_stroke, IsFirm, must_sync, StandsFirmOn, itself_firm, trail_base, IsWrite, ok_same, some_same, stroke_page, stroke-frozen}
+use Rattle.nb_host.specs.Files.{with_page as with_page_at}
+use Rattle.nb_base.proofs.OwnedLaws.{Holds, holds, shows, main-some, main-long, base-state, base-size, entry_shows, entry-front, entry-behind}
+use Rattle.nb_base.proofs.LeftLaws.{stroke-stalled, noted-new, later_size, later_length, later_front, put_left, stay_left}
 use Rattle.nb_base.proofs.StepLaws.{main-state, main-size, holds_main, left_main, holds_slots, holds_slot, none_left}
-
-same_table : (xs ys : List ℕ) (found : Result (List ℕ) ℕ) → found ≡ Ok xs → found ≡ Ok ys → xs ≡ ys
-same_table xs ys found e f = cc
 
 -- one table for a file
 one_table : (size : ℕ) (file : File) (xs ys : List ℕ) → HasTable size file xs → HasTable size file ys → xs ≡ ys
 one_table size None xs ys a b = absurd a
-one_table size (Some bytes) xs ys a b = same_table xs ys (table_of size bytes) a b
+one_table size (Some bytes) xs ys a b = ok_same xs ys (table_of size bytes) a b
 
 module _ (name : List ℕ) (t : Trail) (p : ℕ) (bytes : Page) (is : IsWrite t p bytes) where
   abbrev s : Stroke
@@ -106,7 +91,7 @@ module _ (name : List ℕ) (t : Trail) (p : ℕ) (bytes : Page) (is : IsWrite t 
 
         by : (x : Option ℕ) → entry_for p o.base.diverted ≡ x → StandsFirmOn name t m c ⊎ StandsFirmOn name (after_stroke s t) m c
         by (Some j) e =
-            let same : j ≡ k = some_same (sym (entry-front p o.base.diverted o.left.rest.diverted.0 j e) ∙ ap (entry_for p) (sym o.left.rest.diverted.1) ∙ at) in
+            let same : j ≡ k = some_same {X = ℕ} _ _ (sym (entry-front p o.base.diverted o.left.rest.diverted.0 j e) ∙ ap (entry_for p) (sym o.left.rest.diverted.1) ∙ at) in
             let here : entry_for p o.base.diverted ≡ Some k = e ∙ ap (λ n. Some n) same in
             ⊎_elim
             (λ kept. inl (stands_same o.base o.left m c (holds_slots t p bytes is o.base o.left m d h diverts c table (λ i low. ⊎_elim (λ (w : i ≡ k). ap (slot_page (image_size now) c) w ∙ kept ∙ ap (slot_page (image_size now) d) (sym w)) (λ ne. step.others i ne) (Rattle.std.proofs.lemmas.Bool.cases_eq i k)))))
@@ -144,7 +129,7 @@ module _ (name : List ℕ) (t : Trail) (p : ℕ) (bytes : Page) (is : IsWrite t 
           has = h.has;
           opened = h.opened;
           entries = record { none = λ e. absurd (omega (arith, e, state)); some = λ some. subst (λ n. HasTable n c (on_base s t.base).diverted) (sym size) (subst (λ (x : List ℕ). HasTable (image_size now) c x) (sym entries) adds.table) };
-          image = stroke-image t.base p bytes ∙ ap (λ (x : Image). with_page p (merged_page p bytes x) x) image
+          image = stroke_page t.base p bytes ∙ ap (λ (x : Image). with_page p (merged_page p bytes x) x) image
               ∙ sym (entry_shows (image_size h.main) h.main (bytes_of reads) (bytes_of c) (main-some o.base m d h) (main-long o.base m d h) t.base.diverted p bytes none low
               (subst (λ n. page_in n (bytes_of c) (slot_place n (length t.base.diverted)) ≡ bytes) (sym size) adds.slot)
               (λ j below. subst (λ n. page_in n (bytes_of c) (slot_place n j) ≡ page_in n (bytes_of reads) (slot_place n j)) (sym size) (adds.others j below)))

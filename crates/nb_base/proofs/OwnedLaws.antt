@@ -1,31 +1,7 @@
 -- What two files hold of a database, in each backup state, and what a change of one of them makes of its image.
-use Rattle.std.proofs.Common.{◌≡◌, ◌≢◌, inl, inr, ℕ, zero, suc, ◌+◌, ◌<◌, ◌≤◌, List, [], ◌∷◌, ◌++◌, length, get_or, take, drop, refl, sym, ap, subst, ◌∙◌, arith, length-append}
-use Rattle.std.specs.Prelude.{Bool, true, false, ◌==◌, Option, Some, None, Result, Ok, Err, max}
-use Rattle.std.proofs.lemmas.Bool.Decides.{leb_tells, eqb_tells}
-use Rattle.std.proofs.lemmas.List.{ext_get_or, length-drop, length-replicate, length-take-le}
-use Rattle.nb_fields.specs.Header.{is_header, state_of, size_of}
-use Rattle.nb_fields.specs.Table.{table_of, page_in, slot_place}
-use Rattle.nb_fields.specs.States.{normal_state, stalled_state}
-use Rattle.nb_host.specs.Files.{File, bytes_of}
-use Rattle.nb_host.specs.declared.refusals.Refusal.{Refusal}
-use Rattle.nb_host.specs.declared.refusals.Refusal.TheVariants.{BadDelta, Unfinished}
-use Rattle.nb_delta.specs.Slots.{HasTable}
-use Rattle.nb_delta.proofs.PageLaws.{length-page_in}
-use Rattle.nb_model.specs.Image.{Page, Image, page_at, first_page, image_size, image_state, image_in, trimmed, with_page, written_at}
-use Rattle.nb_model.specs.Sound.{IsOfSize}
-use Rattle.nb_model.specs.Causes.{Cause, not_database}
-use Rattle.nb_model.specs.Account.{Base, base_of}
-use Rattle.nb_model.specs.Strokes.{merged_page}
-use Rattle.nb_model.specs.Owner.{entry_for, behind_entries, slot_page, main_page, owned_page, owned, diverted_base, owner_with, owner_in, owner}
-use Rattle.nb_model.proofs.FormLaws.{formed}
-use Rattle.nb_model.proofs.HeaderLaws.{header-long, header-state, same-header, same-number}
-use Rattle.nb_model.proofs.MainLaws.{laid, laid-front, laid-wide, some_page, owner-none, owner-refused, owner-formed, owner_in-normal, owned-first, owned-front, ok_same}
-use Rattle.nb_model.proofs.OwnerLaws.{main_here, main_past, other_page, written_length, named}
-use Rattle.nb_model.proofs.SoundLaws.{all_at, with_page_length}
-use Rattle.nb_model.proofs.ImageLaws.{IsTrimmed, all-left}
-use Rattle.nb_model.proofs.StrokeLaws.{with_page_same, with_page_other}
-use Rattle.nb_model.proofs.TrimLaws.{trimmed_length, trimmed_at, trimmed_page}
-use Rattle.nb_model.proofs.OverLaws.{owned_length, owned_at}
+use Rattle.std.proofs.Common.{◌≡◌, ◌≢◌, inl, inr, ℕ, zero, suc, ◌+◌, ◌<◌, ◌≤◌, List, [], ◌∷◌, ◌++◌, length, get_or, take, drop, refl, sym, ap, subst, ◌∙◌, arith, length-append, Bool, true, false, ◌==◌, Option, Some, None, Result, Ok, Err, max}
+use Rattle.nb_base.proofs.Common.{leb_tells, eqb_tells, ext_get_or, length-drop, length-replicate, length-take-le, is_header, state_of, size_of, table_of, page_in, slot_place, normal_state, stalled_state, File, bytes_of, Refusal, BadDelta, Unfinished, HasTable, length-page_in, Page, Image, page_at, first_page, image_size, image_state, image_in, trimmed, with_page, written_at, IsOfSize, Cause, not_database, Base, base_of, merged_page, entry_for, behind_entries, main_page, owned_page, owned, diverted_base, owner_with, owner_in, owner, formed, header-long, header-state, same-header, same-number, laid, laid-front, laid-wide, some_page, owner-none, owner-refused, owner-formed, owner_in-normal, owned-first, owned-front, main_here, main_past, other_page, written_length, named, all_at, with_page_length, IsTrimmed, all-left, with_page_same, with_page_other, trimmed_length, trimmed_at, trimmed_page, owned_length, owned_at, none_there, for_here, ok_same, err_ok, some_same, owned-none}
+use Rattle.nb_model.specs.Owner.{slot_page}
 use Rattle.nb_base.proofs.WrittenLaws.{HasMain, laid_formed, laid_image, written_same, written_inner, written_sizes}
 
 -- The image of two files, page by page.
@@ -39,10 +15,6 @@ module _ (size : ℕ) (main : Image) (delta table : List ℕ) where
   pub owned-entry : (p k : ℕ) → entry_for p table ≡ Some k → owned_page size main delta table p ≡ slot_page size main delta p k
   unfolding owned_page
   owned-entry p k is = ap (λ (x : Option ℕ). elim x as (λ z. Page) [ Some k ↦ slot_page size main delta p k | None ↦ main_page size main p ]) is
-
-  pub owned-none : (p : ℕ) → entry_for p table ≡ None → owned_page size main delta table p ≡ main_page size main p
-  unfolding owned_page
-  owned-none p is = ap (λ (x : Option ℕ). elim x as (λ z. Page) [ Some k ↦ slot_page size main delta p k | None ↦ main_page size main p ]) is
 
 -- each page of them has the size of a page
 module _ (size : ℕ) (main : Image) (delta table : List ℕ) (sizes : IsOfSize size main) (wide : 64 ≤ size) (some : 1 ≤ length main) where
@@ -73,21 +45,10 @@ pub owned-alone : (size : ℕ) (main : Image) (delta : List ℕ) → main ≡ ow
 unfolding entry_for
 owned-alone size main delta = is_owned size main delta [] main (omega arith) (λ p low. sym (main_here size main p low) ∙ sym (owned-none size main delta [] p refl))
 
--- Entries by their place.
-pub none_some : {k : ℕ} → None ≡ Some k → ⊥
-none_some h = cc
-
-pub some_same : {j k : ℕ} → Some j ≡ Some k → j ≡ k
-some_same h = cc
-
 -- after the first entry
 abbrev pub later : Option ℕ → Option ℕ
 later None = None
 later (Some k) = Some (suc k)
-
-pub entry-first : (p q : ℕ) (qs : List ℕ) → p ≡ q → entry_for p (q ∷ qs) ≡ Some 0
-unfolding entry_for
-entry-first p q qs same = elim (eqb_tells p q) [ inl w ↦ rw (w.0, entry_for) refl | inr w ↦ absurd (w.1 same) ]
 
 pub entry-later : (p q : ℕ) (qs : List ℕ) → p ≢ q → entry_for p (q ∷ qs) ≡ later (entry_for p qs)
 unfolding entry_for
@@ -99,7 +60,7 @@ entry-later p q qs other = elim (eqb_tells p q) [ inl w ↦ absurd (other w.1) |
 
 later-none : (x : Option ℕ) → later x ≡ None → x ≡ None
 later-none None e = refl
-later-none (Some k) e = absurd (none_some (sym e))
+later-none (Some k) e = absurd (none_there (sym e))
 
 -- the entry at a place names the page
 pub record IsEntry (p k : ℕ) (table : List ℕ) : Type 0 where
@@ -108,9 +69,9 @@ pub record IsEntry (p k : ℕ) (table : List ℕ) : Type 0 where
 
 pub entry_at : (p : ℕ) (table : List ℕ) (k : ℕ) → entry_for p table ≡ Some k → IsEntry p k table
 unfolding entry_for
-entry_at p [] k e = absurd (none_some e)
+entry_at p [] k e = absurd (none_there e)
 entry_at p (q ∷ qs) k e = elim (eqb_tells p q) [
-  | inl w ↦ here k (some_same (sym (entry-first p q qs w.1) ∙ e)) w.1
+  | inl w ↦ here k (some_same {X = ℕ} _ _ (sym (for_here p q qs w.1) ∙ e)) w.1
   | inr w ↦ by (entry_at p qs) (entry_for p qs) refl (sym (entry-later p q qs w.1) ∙ e)
 ]
   where
@@ -119,10 +80,10 @@ entry_at p (q ∷ qs) k e = elim (eqb_tells p q) [
     here (suc k) is same = absurd (omega arith)
 
     by : ((j : ℕ) → entry_for p qs ≡ Some j → IsEntry p j qs) → (x : Option ℕ) → entry_for p qs ≡ x → later (entry_for p qs) ≡ Some k → IsEntry p k (q ∷ qs)
-    by so_far None is h = absurd (none_some (ap later (sym is) ∙ h))
+    by so_far None is h = absurd (none_there (ap later (sym is) ∙ h))
     by so_far (Some j) is h =
         let rest = so_far j is in
-        subst (λ n. IsEntry p n (q ∷ qs)) (some_same (ap later (sym is) ∙ h)) (record { below = omega (arith, rest.below); names = rest.names })
+        subst (λ n. IsEntry p n (q ∷ qs)) (some_same {X = ℕ} _ _ (ap later (sym is) ∙ h)) (record { below = omega (arith, rest.below); names = rest.names })
 
 -- so no two pages have one entry
 pub entry_apart : (p q k j : ℕ) (table : List ℕ) → entry_for p table ≡ Some k → entry_for q table ≡ Some j → q ≢ p → j ≢ k
@@ -131,9 +92,9 @@ entry_apart p q k j table e f other same = other (sym (entry_at q table j f).nam
 -- with one entry more
 pub entry-added : (p : ℕ) (table : List ℕ) → entry_for p table ≡ None → entry_for p (table ++ p ∷ []) ≡ Some (length table)
 unfolding entry_for
-entry-added p [] none = entry-first p p [] refl
+entry-added p [] none = for_here p p [] refl
 entry-added p (q ∷ qs) none = elim (eqb_tells p q) [
-  | inl w ↦ absurd (none_some (sym none ∙ entry-first p q qs w.1))
+  | inl w ↦ absurd (none_there (sym none ∙ for_here p q qs w.1))
   | inr w ↦ entry-later p q (qs ++ p ∷ []) w.1 ∙ ap later (entry-added p qs (later-none (entry_for p qs) (sym (entry-later p q qs w.1) ∙ none))) ∙ ap (λ n. Some n) (let e : suc (length qs) ≡ length (q ∷ qs) = omega arith in e)
 ]
 
@@ -141,21 +102,21 @@ pub entry-others : (p q : ℕ) (table : List ℕ) → q ≢ p → entry_for q (t
 unfolding entry_for
 entry-others p q [] other = entry-later q p [] other
 entry-others p q (x ∷ xs) other = elim (eqb_tells q x) [
-  | inl w ↦ entry-first q x (xs ++ p ∷ []) w.1 ∙ sym (entry-first q x xs w.1)
+  | inl w ↦ for_here q x (xs ++ p ∷ []) w.1 ∙ sym (for_here q x xs w.1)
   | inr w ↦ entry-later q x (xs ++ p ∷ []) w.1 ∙ ap later (entry-others p q xs other) ∙ sym (entry-later q x xs w.1)
 ]
 
 -- an entry of a front is the same entry of the whole
 pub entry-front : (p : ℕ) (front rest : List ℕ) (k : ℕ) → entry_for p front ≡ Some k → entry_for p (front ++ rest) ≡ Some k
 unfolding entry_for
-entry-front p [] rest k e = absurd (none_some e)
+entry-front p [] rest k e = absurd (none_there e)
 entry-front p (q ∷ qs) rest k e = elim (eqb_tells p q) [
-  | inl w ↦ entry-first p q (qs ++ rest) w.1 ∙ sym (entry-first p q qs w.1) ∙ e
+  | inl w ↦ for_here p q (qs ++ rest) w.1 ∙ sym (for_here p q qs w.1) ∙ e
   | inr w ↦ entry-later p q (qs ++ rest) w.1 ∙ by (entry-front p qs rest) (entry_for p qs) refl (sym (entry-later p q qs w.1) ∙ e)
 ]
   where
     by : ((j : ℕ) → entry_for p qs ≡ Some j → entry_for p (qs ++ rest) ≡ Some j) → (x : Option ℕ) → entry_for p qs ≡ x → later (entry_for p qs) ≡ Some k → later (entry_for p (qs ++ rest)) ≡ Some k
-    by so_far None is h = absurd (none_some (ap later (sym is) ∙ h))
+    by so_far None is h = absurd (none_there (ap later (sym is) ∙ h))
     by so_far (Some j) is h = ap later (so_far j is ∙ sym is) ∙ h
 
 -- and one that the front doesn't have stands after it
@@ -163,13 +124,13 @@ pub entry-behind : (p : ℕ) (front rest : List ℕ) (k : ℕ) → entry_for p f
 unfolding entry_for
 entry-behind p [] rest k none e = omega arith
 entry-behind p (q ∷ qs) rest k none e = elim (eqb_tells p q) [
-  | inl w ↦ absurd (none_some (sym none ∙ entry-first p q qs w.1))
+  | inl w ↦ absurd (none_there (sym none ∙ for_here p q qs w.1))
   | inr w ↦ by (λ j none. entry-behind p qs rest j none) (entry_for p (qs ++ rest)) refl (later-none (entry_for p qs) (sym (entry-later p q qs w.1) ∙ none)) (sym (entry-later p q (qs ++ rest) w.1) ∙ e)
 ]
   where
     by : ((j : ℕ) → entry_for p qs ≡ None → entry_for p (qs ++ rest) ≡ Some j → length qs ≤ j) → (x : Option ℕ) → entry_for p (qs ++ rest) ≡ x → entry_for p qs ≡ None → later (entry_for p (qs ++ rest)) ≡ Some k → suc (length qs) ≤ k
-    by so_far None is none h = absurd (none_some (ap later (sym is) ∙ h))
-    by so_far (Some j) is none h = let low = so_far j none is in omega (arith, low, some_same (ap later (sym is) ∙ h))
+    by so_far None is none h = absurd (none_there (ap later (sym is) ∙ h))
+    by so_far (Some j) is none h = let low = so_far j none is in omega (arith, low, some_same {X = ℕ} _ _ (ap later (sym is) ∙ h))
 
 pub behind-added : (p : ℕ) (table : List ℕ) → behind_entries (table ++ p ∷ []) ≡ max (behind_entries table) (p + 1)
 behind-added p [] = omega arith
@@ -234,7 +195,7 @@ module _ (size : ℕ) (main : Image) (delta table : List ℕ) (p : ℕ) (page : 
       ])
       (λ q below. owned_at size main delta table q below
       ∙ sym (owned_alike size (trimmed new) main delta table q (ap (take 64) (trimmed_at new 0 there) ∙ front_stays)
-      (λ none. trimmed_page size new (written_sizes size p page main sizes wide) q ∙ other_page size p page main q (λ same. none_some (sym none ∙ ap (λ n. entry_for n table) same ∙ is))))))
+      (λ none. trimmed_page size new (written_sizes size p page main sizes wide) q ∙ other_page size p page main q (λ same. none_there (sym none ∙ ap (λ n. entry_for n table) same ∙ is))))))
 
 -- The difference file changes, and the main file stays.
 module _ (size : ℕ) (main : Image) (delta new : List ℕ) where
@@ -336,9 +297,6 @@ module _ (bytes : List ℕ) (formed : not_database bytes ≡ None) where
   pub bytes-size : image_size (image_in bytes) ≡ size_of bytes
   bytes-size = sym (same-number bytes (first_page (image_in bytes)) (laid-front (image_in bytes) bytes (laid bytes formed)) 24 4 (omega arith))
 
-err_ok : {r : Refusal} {b : Base} → Err r ≡ Ok b → ⊥
-err_ok h = cc
-
 -- the frozen image by a test of the state
 pub frozen_in : (state : ℕ) (main : Image) → IsFrozen state main (elim (state == stalled_state) as (λ z. Image) [ true ↦ main | false ↦ [] ])
 frozen_in state main = elim (eqb_tells state 1) [
@@ -413,19 +371,19 @@ module _ (name : List ℕ) (b : Base) (bytes : List ℕ) (d : File) (formed : no
   -- what the owner of the files says
   table_holds : 0 < state_of bytes → state_of bytes ≤ 2 → (delta : List ℕ) → d ≡ Some delta → (found : Result (List ℕ) ℕ) → table_of (size_of bytes) delta ≡ found
       → elim found as (λ z. Result Base Refusal) [ Err page ↦ Err (BadDelta page) | Ok table ↦ Ok (diverted_base bytes delta table) ] ≡ Ok b → Holds b (Some bytes) d
-  table_holds diverts opened delta there (Err page) has is = absurd (err_ok is)
+  table_holds diverts opened delta there (Err page) has is = absurd (err_ok {E = Refusal} {T = Base} _ _ is)
   table_holds diverts opened delta there (Ok table) has is = holds_diverted diverts opened delta table there has (ok_same (diverted_base bytes delta table) b (Ok (diverted_base bytes delta table)) refl is)
 
   with_holds : 0 < state_of bytes → state_of bytes ≤ 2 → (f : File) → d ≡ f → owner_with name bytes f ≡ Ok b → Holds b (Some bytes) d
   unfolding owner_with
-  with_holds diverts opened None there is = absurd (err_ok is)
+  with_holds diverts opened None there is = absurd (err_ok {E = Refusal} {T = Base} _ _ is)
   with_holds diverts opened (Some delta) there is = table_holds diverts opened delta there (table_of (size_of bytes) delta) refl is
 
   in_holds : state_of bytes ≤ 3 → (state : ℕ) → state_of bytes ≡ state → owner_in state name bytes d ≡ Ok b → Holds b (Some bytes) d
   unfolding owner_in
   in_holds most zero at is = holds_normal at (ok_same (base_of main_) b (owner_in 0 name bytes d) (owner_in-normal name bytes d) is)
   in_holds most (suc k) at is = elim (eqb_tells k 2) [
-    | inl w ↦ absurd (err_ok (sym (ap (λ (t : Bool). elim t as (λ z. Result Base Refusal) [ true ↦ Err Unfinished | false ↦ owner_with name bytes d ]) w.0) ∙ is))
+    | inl w ↦ absurd (err_ok {E = Refusal} {T = Base} _ _ (sym (ap (λ (t : Bool). elim t as (λ z. Result Base Refusal) [ true ↦ Err Unfinished | false ↦ owner_with name bytes d ]) w.0) ∙ is))
     | inr w ↦ with_holds (omega (arith, at)) (low k at w.1) d refl (sym (ap (λ (t : Bool). elim t as (λ z. Result Base Refusal) [ true ↦ Err Unfinished | false ↦ owner_with name bytes d ]) w.0) ∙ is)
   ]
     where
@@ -437,11 +395,11 @@ module _ (name : List ℕ) (b : Base) (bytes : List ℕ) (d : File) (formed : no
 
 -- Files that show a database hold it.
 pub holds : (name : List ℕ) (b : Base) (m d : File) → owner name m d ≡ Ok b → Holds b m d
-holds name b None d is = absurd (err_ok (sym (owner-none name d) ∙ is))
+holds name b None d is = absurd (err_ok {E = Refusal} {T = Base} _ _ (sym (owner-none name d) ∙ is))
 holds name b (Some bytes) d is = by (not_database bytes) refl
   where
     by : (cause : Cause) → not_database bytes ≡ cause → Holds b (Some bytes) d
-    by (Some r) e = absurd (err_ok (sym (owner-refused name bytes d r e) ∙ is))
+    by (Some r) e = absurd (err_ok {E = Refusal} {T = Base} _ _ (sym (owner-refused name bytes d r e) ∙ is))
     by None e = in_holds name b bytes d e (header-state bytes (formed bytes e).header) (state_of bytes) refl (sym (owner-formed name bytes d e) ∙ is)
 
 -- And files that hold it show it.

@@ -1,29 +1,9 @@
 -- What is read of a main file, and of the image by the file that owns a page.
-use Rattle.std.proofs.Common.{◌≡◌, ◌≢◌, inl, inr, ℕ, zero, suc, ◌+◌, ◌-◌, ◌*◌, ◌<◌, ◌≤◌, List, [], ◌++◌, length, take, drop, replicate, refl, sym, ap, ◌∙◌, arith, length-append, length-take, suc-mul, mul-le-mul_right, le_of_mul-le-mul_right}
-use Rattle.std.specs.Prelude.{Bool, true, false, Option, Some, None}
-use Rattle.std.proofs.lemmas.Bool.Decides.{leb_tells}
-use Rattle.std.proofs.lemmas.List.{take_all, get_or_append_left, get_or-append_right}
-use Rattle.nb_fields.specs.Bytes.{is_zeros}
-use Rattle.nb_fields.specs.Header.{size_of}
-use Rattle.nb_fields.specs.Table.{page_in, slot_place}
-use Rattle.nb_fields.specs.States.{stalled_state}
-use Rattle.nb_host.specs.Files.{File, Files, bytes_of}
-use Rattle.nb_delta.specs.Known.{Known}
-use Rattle.nb_host.specs.Calls.{ReadsPage, ReadsBytes}
-use Rattle.nb_model.specs.Image.{Page, Image, page_at, first_page, image_size, image_state, image_in}
-use Rattle.nb_model.specs.Causes.{not_database}
-use Rattle.nb_model.specs.Account.{Base}
-use Rattle.nb_model.specs.Trail.{ShowsIn}
-use Rattle.nb_model.specs.Owner.{delta_name, entry_for, main_page, slot_page, owned_page}
-use Rattle.nb_model.proofs.FormLaws.{formed}
-use Rattle.nb_model.proofs.HeaderLaws.{header-long}
-use Rattle.nb_model.proofs.ImageLaws.{all-right, length-joined, page-joined}
-use Rattle.nb_model.proofs.MainLaws.{laid, laid-front, laid-wide}
-use Rattle.nb_model.proofs.OwnerLaws.{main_here, main_past}
-use Rattle.nb_model.proofs.SoundLaws.{all_at}
-use Rattle.nb_model.proofs.HeadSound.{all_zeros}
+use Rattle.std.proofs.Common.{◌≡◌, ◌≢◌, inl, inr, ℕ, zero, suc, ◌+◌, ◌-◌, ◌*◌, ◌<◌, ◌≤◌, List, [], ◌++◌, length, take, drop, replicate, refl, sym, ap, ◌∙◌, arith, length-append, length-take, suc-mul, mul-le-mul_right, le_of_mul-le-mul_right, Bool, true, false, Option, Some, None}
+use Rattle.nb_base.proofs.Common.{leb_tells, take_all, get_or_append_left, get_or-append_right, is_zeros, size_of, page_in, slot_place, stalled_state, File, Files, bytes_of, Known, ReadsPage, ReadsBytes, Page, Image, page_at, first_page, image_size, image_state, image_in, not_database, Base, ShowsIn, delta_name, entry_for, main_page, owned_page, formed, header-long, all-right, length-joined, page-joined, laid, laid-front, laid-wide, main_here, main_past, all_at, all_zeros, false_true, true≢false, owned-none}
+use Rattle.nb_model.specs.Owner.{slot_page}
 use Rattle.nb_base.proofs.WrittenLaws.{laid_formed, laid_image}
-use Rattle.nb_base.proofs.OwnedLaws.{Holds, holds, bytes-size, base-page, base-size, base-state, owned-entry, owned-none}
+use Rattle.nb_base.proofs.OwnedLaws.{Holds, holds, bytes-size, base-page, base-size, base-state, owned-entry}
 
 -- A page of a main file of that form.
 module _ (bytes : List ℕ) (formed : not_database bytes ≡ None) (p size : ℕ) (same : size_of bytes ≡ size) where
@@ -73,19 +53,13 @@ module _ (bytes : List ℕ) (formed : not_database bytes ≡ None) (p size : ℕ
       let all : length (bytes_of file) ≡ length bytes = ap (λ (f : File). length (bytes_of f)) is in
       let fits : p * size + size ≤ length bytes = omega (arith, reads.0, all, ap (λ n. p * n + n) wide_) in
       reads.1 ∙ ap (λ (f : File). take (length before) (drop (p * length before) (bytes_of f))) is ∙ ap (λ n. take n (drop (p * n) bytes)) (sym wide_) ∙ there fits
-  page_there file is before after wide_ false e reads = absurd (no e)
-    where
-      no : false ≡ true → ⊥
-      no h = cc
+  page_there file is before after wide_ false e reads = absurd (false_true e)
 
   pub page_past : (file : File) → file ≡ Some bytes → (before after : List ℕ) → size ≡ length before → (found : Bool) → found ≡ false → ReadsPage file (p * length before) before after found → replicate size 0 ≡ main_page size (image_in bytes) p
   page_past file is before after wide_ false e reads =
       let all : length (bytes_of file) ≡ length bytes = ap (λ (f : File). length (bytes_of f)) is in
       past (omega (arith, reads.0, all, ap (λ n. p * n + n) wide_))
-  page_past file is before after wide_ true e reads = absurd (no e)
-    where
-      no : true ≡ false → ⊥
-      no h = cc
+  page_past file is before after wide_ true e reads = absurd (true≢false e)
 
 -- the first 64 bytes of a file
 pub front_read : (file : File) (bytes before after : List ℕ) (count : ℕ) → file ≡ Some bytes → length before ≡ 64 → length after ≡ 64 → 64 ≤ length bytes → ReadsBytes file 0 before after count → after ≡ take 64 bytes

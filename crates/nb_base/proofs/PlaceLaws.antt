@@ -1,14 +1,6 @@
 -- The place of an entry, as the object of the difference file knows it.
-use Rattle.std.proofs.Common.{◌≡◌, inl, inr, ℕ, suc, ◌+◌, List, [], ◌∷◌, ◌++◌, refl, sym, ap, ◌∙◌, arith}
-use Rattle.std.specs.Prelude.{Option, Some, None, Result, Ok, nat_eq, option_map, true, false, Bool}
-use Rattle.std.specs.List.{position_from}
-use Rattle.std.proofs.lemmas.Bool.{cond-true, cond-false}
-use Rattle.std.proofs.lemmas.Bool.Decides.{eqb_tells}
-use Rattle.nb_fields.specs.Table.{slot_place}
-use Rattle.nb_delta.specs.Entries.{place_of}
-use Rattle.nb_delta.specs.Known.{Known}
-use Rattle.nb_model.specs.Strokes.{noted}
-use Rattle.nb_model.specs.Owner.{entry_for}
+use Rattle.std.proofs.Common.{◌≡◌, inl, inr, ℕ, suc, ◌+◌, List, [], ◌∷◌, ◌++◌, refl, sym, ap, ◌∙◌, arith, Option, Some, None, Result, Ok, nat_eq, option_map, true, false, Bool}
+use Rattle.nb_base.proofs.Common.{position_from, cond-true, cond-false, eqb_tells, slot_place, place_of, Known, noted, entry_for, none_some, ok_same, some_same}
 
 place_from : (p i : ℕ) (entries : List ℕ) → position_from (nat_eq p) i entries ≡ option_map (λ k. i + k) (entry_for p entries)
 unfolding entry_for
@@ -40,20 +32,11 @@ slot_found : (size slot p : ℕ) (entries : List ℕ) (found : Option ℕ) → f
 slot_found size slot p entries found is some = by (place_of entries p) refl
   where
     by : (x : Option ℕ) → place_of entries p ≡ x → IsSlotOf size slot p entries
-    by None e = absurd (none_some (sym (is ∙ ap (option_map (slot_place size)) e) ∙ some))
-      where
-        none_some : None ≡ Some slot → ⊥
-        none_some h = cc
-    by (Some k) e = record { k = k; at = sym (place-entry p entries) ∙ e; place = some_same (sym some ∙ is ∙ ap (option_map (slot_place size)) e) }
-      where
-        some_same : Some slot ≡ Some (slot_place size k) → slot ≡ slot_place size k
-        some_same h = cc
-
-ok_same : {E : Type 0} (answer : Result (Option ℕ) E) (x y : Option ℕ) → answer ≡ Ok x → answer ≡ Ok y → x ≡ y
-ok_same answer x y e f = cc
+    by None e = absurd (none_some slot (sym (is ∙ ap (option_map (slot_place size)) e) ∙ some))
+    by (Some k) e = record { k = k; at = sym (place-entry p entries) ∙ e; place = some_same slot (slot_place size k) (sym some ∙ is ∙ ap (option_map (slot_place size)) e) }
 
 pub slot_answered : {E : Type 0} (answer : Result (Option ℕ) E) (size slot p : ℕ) (entries : List ℕ) (found : Option ℕ) → answer ≡ Ok found → answer ≡ Ok (option_map (slot_place size) (place_of entries p)) → found ≡ Some slot → IsSlotOf size slot p entries
-slot_answered answer size slot p entries found was is some = slot_found size slot p entries found (ok_same answer found (option_map (slot_place size) (place_of entries p)) was is) some
+slot_answered answer size slot p entries found was is some = slot_found size slot p entries found (ok_same found (option_map (slot_place size) (place_of entries p)) answer was is) some
 
 pub none_found : (p : ℕ) (entries : List ℕ) → place_of entries p ≡ None → entry_for p entries ≡ None
 none_found p entries is = sym (place-entry p entries) ∙ is

@@ -1,24 +1,7 @@
 -- A page that waited goes out: what one outcome holds then, what a crash leaves, and what reads.
-use Rattle.std.proofs.Common.{◌≡◌, ◌≢◌, ◌⊎◌, inl, inr, ⊎_elim, ℕ, ◌*◌, List, length, refl, sym, ap, subst, ◌∙◌, arith}
-use Rattle.std.specs.Prelude.{Bool, IsTrue, None, Ok, Result}
-use Rattle.nb_fields.specs.States.{stalled_state}
-use Rattle.nb_host.specs.Files.{File, Files, with_file, with_page as with_page_at}
-use Rattle.nb_host.specs.World.{World}
-use Rattle.nb_host.specs.Crash.{PageLeft}
-use Rattle.nb_host.specs.Calls.{WritesPage}
-use Rattle.nb_host.specs.Moments.{IsTimely, Passes}
-use Rattle.nb_change.specs.Changes.{Only, Changes}
-use Rattle.nb_change.proofs.NameLaws.{with_file-same, with_file-other}
-use Rattle.nb_change.proofs.ChangesLaws.{begun}
-use Rattle.nb_change.proofs.CallLaws.{page_more}
-use Rattle.nb_model.specs.Image.{Page, image_state}
-use Rattle.nb_model.specs.Account.{Base}
-use Rattle.nb_model.specs.Owner.{delta_name, entry_for, owner}
-use Rattle.nb_model.specs.Strokes.{page, on_base}
-use Rattle.nb_model.specs.Trail.{settled, ShowsIn}
-use Rattle.nb_model.proofs.TrailLaws.{itself_firm}
-use Rattle.nb_base.specs.Seen.{IsWrite}
-use Rattle.nb_base.specs.Put.{MayPut, PutLeft}
+use Rattle.std.proofs.Common.{◌≡◌, ◌≢◌, ◌⊎◌, inl, inr, ⊎_elim, ℕ, ◌*◌, List, length, refl, sym, ap, subst, ◌∙◌, arith, Bool, IsTrue, None, Ok, Result}
+use Rattle.nb_base.proofs.Common.{stalled_state, File, Files, with_file, World, PageLeft, WritesPage, IsTimely, Passes, Only, Changes, with_file-same, with_file-other, begun, page_more, Page, image_state, Base, delta_name, entry_for, owner, page, on_base, settled, ShowsIn, itself_firm, IsWrite, MayPut, PutLeft}
+use Rattle.nb_host.specs.Files.{with_page as with_page_at}
 use Rattle.nb_base.proofs.OwnedLaws.{Holds, holds, shows, base-state}
 use Rattle.nb_base.proofs.StepLaws.{left_main, holds_main}
 use Rattle.nb_base.proofs.WriteLaws.{delta_apart}

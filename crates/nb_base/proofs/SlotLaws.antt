@@ -1,33 +1,8 @@
 -- Pages go into their slots in the stalled state, before their entries are in the table: what a crash leaves, and what reads after each.
-use Rattle.std.proofs.Common.{◌≡◌, ◌≢◌, ◌⊎◌, inl, inr, ⊎_elim, ℕ, ◌+◌, ◌<◌, ◌≤◌, List, [], ◌++◌, length, refl, sym, ap, subst, ◌∙◌, arith, append_assoc}
-use Rattle.std.specs.Prelude.{Bool, true, false, Option, Some, None, Ok}
-use Rattle.std.proofs.lemmas.Bool.{true≢false, cases_eq}
-use Rattle.std.proofs.lemmas.Bool.Decides.{eqb_tells}
-use Rattle.nb_fields.specs.Places.{is_scn_place}
-use Rattle.nb_fields.specs.Header.{state_of, size_of}
-use Rattle.nb_fields.specs.States.{stalled_state}
-use Rattle.nb_host.specs.Files.{File, bytes_of}
-use Rattle.nb_host.specs.World.{World}
-use Rattle.nb_host.specs.Moments.{IsTimely}
-use Rattle.nb_change.specs.Changes.{Changes, Only, Moved}
-use Rattle.nb_change.proofs.ChangesLaws.{begun, moved_on, weaker_has}
-use Rattle.nb_delta.specs.Known.{Known}
-use Rattle.nb_delta.specs.Slots.{HasTable, SlotStep, SlotPut, slot_page}
-use Rattle.nb_model.specs.Image.{Page, page_at, first_page, image_size, image_state}
-use Rattle.nb_model.specs.Account.{Base}
-use Rattle.nb_model.specs.Owner.{delta_name, entry_for, owner}
-use Rattle.nb_model.specs.Strokes.{page, on_base}
-use Rattle.nb_model.specs.Trail.{Trail, bases_of, settled, HasPage, IsFirm, StandsIn}
-use Rattle.nb_model.specs.Behind.{IsBehind, IsRewritten, IsOnTheWay}
-use Rattle.nb_model.proofs.BehindLaws.{way_left}
-use Rattle.nb_model.proofs.OwnerLaws.{named}
-use Rattle.nb_model.proofs.TrailLaws.{itself_firm}
-use Rattle.nb_model.proofs.WayLaws.{put_same, put_other, put_first, put_long, put_frozen}
-use Rattle.nb_base.specs.Open.{Held, Agrees}
-use Rattle.nb_base.specs.Seen.{IsSeen, IsWrite}
-use Rattle.nb_base.specs.Going.{StandsAs, HasPageIn, MaySlot, IsSlotted, GoesIn}
+use Rattle.std.proofs.Common.{◌≡◌, ◌≢◌, ◌⊎◌, inl, inr, ⊎_elim, ℕ, ◌+◌, ◌<◌, ◌≤◌, List, [], ◌++◌, length, refl, sym, ap, subst, ◌∙◌, arith, append_assoc, Bool, true, false, Option, Some, None, Ok}
+use Rattle.nb_base.proofs.Common.{true≢false, cases_eq, eqb_tells, is_scn_place, state_of, size_of, stalled_state, File, bytes_of, World, IsTimely, Changes, Only, Moved, begun, moved_on, weaker_has, Known, HasTable, SlotStep, SlotPut, slot_page, Page, page_at, first_page, image_size, image_state, Base, delta_name, entry_for, owner, page, on_base, Trail, bases_of, settled, HasPage, IsFirm, StandsIn, IsBehind, IsRewritten, IsOnTheWay, way_left, named, itself_firm, put_same, put_other, put_first, put_long, Held, Agrees, IsSeen, IsWrite, StandsAs, HasPageIn, MaySlot, IsSlotted, GoesIn, none_there, some_same, stroke-frozen}
 use Rattle.nb_base.proofs.LeftLaws.{stroke-stalled, noted-there}
-use Rattle.nb_base.proofs.OwnedLaws.{Holds, holds, shows, base-length, base-state, base-size, entry-front, entry-behind, entry_apart, some_same, none_some}
+use Rattle.nb_base.proofs.OwnedLaws.{Holds, holds, shows, base-length, base-state, base-size, entry-front, entry-behind, entry_apart}
 use Rattle.nb_base.proofs.StepLaws.{holds_slots, holds_slot}
 use Rattle.nb_base.proofs.WriteLaws.{main_apart}
 
@@ -82,7 +57,7 @@ module _ (f t : Trail) (p k : ℕ) (b : Base) (some : 1 ≤ p) (stalled : image_
           (way.others q (below q low_q) plain)
     ];
     below = λ s q j e. let low = way.below stalled q j (sym (ap (entry_for q) table) ∙ e) in omega (arith, low, put_long b p own some inside);
-    frozen = put_frozen b p own some inside ∙ way.frozen;
+    frozen = stroke-frozen b p own ∙ way.frozen;
     diverted = (way.diverted.0, way.diverted.1 ∙ ap (λ (x : List ℕ). x ++ way.diverted.0) (sym table));
     merging = λ m. absurd (omega (arith, m, stalled));
   }
@@ -129,7 +104,7 @@ module _ (w : World) (held : Held) (f t : Trail) (waits : ℕ → Bool) (seen : 
   }
     where
       by : (p : ℕ) → entry_for p t.base.diverted ≡ None → (u : Bool) → waits p ≡ u → page_at f.base.image p ≡ page_at t.base.image p
-      by p none true is = absurd (none_some (sym none ∙ (each p is).2.1))
+      by p none true is = absurd (none_there (sym none ∙ (each p is).2.1))
       by p none false is = clean p is
 
 -- A page goes into its slot.
@@ -153,7 +128,7 @@ module _ (w new : World) (held : Held) (f t : Trail) (waits : ℕ → Bool) (goe
   -- where its entry stands, if the table has it
   module _ (b : Base) (rest : List ℕ) (all : t.base.diverted ≡ b.diverted ++ rest) where
     entry_is : (j : ℕ) → entry_for p b.diverted ≡ Some j → j ≡ k
-    entry_is j e = some_same (sym (entry-front p b.diverted rest j e) ∙ ap (entry_for p) (sym all) ∙ at)
+    entry_is j e = some_same {X = ℕ} _ _ (sym (entry-front p b.diverted rest j e) ∙ ap (entry_for p) (sym all) ∙ at)
 
     entry_past : entry_for p b.diverted ≡ None → length b.diverted ≤ k
     entry_past e = entry-behind p b.diverted rest k e (ap (entry_for p) (sym all) ∙ at)
@@ -271,10 +246,10 @@ module _ (w new : World) (held : Held) (f t : Trail) (waits : ℕ → Bool) (goe
                     | inr v ↦ slot_there t p k r may.some inside is_one is.first here q v.1 ∙ is.named q i e_q (sym (as_before q v.1) ∙ gone)
                   ];
                   others = λ q none. elim (eqb_tells q p) [
-                    | inl v ↦ absurd (none_some (sym none ∙ ap (entry_for q) (sym is.diverted) ∙ ap (λ n. entry_for n r.diverted) v.1 ∙ here))
+                    | inl v ↦ absurd (none_there (sym none ∙ ap (entry_for q) (sym is.diverted) ∙ ap (λ n. entry_for n r.diverted) v.1 ∙ here))
                     | inr v ↦ slot_there t p k r may.some inside is_one is.first here q v.1 ∙ is.others q none
                   ];
-                  frozen = put_frozen r p (page_at t.base.image p) may.some inside ∙ is.frozen;
+                  frozen = stroke-frozen r p (page_at t.base.image p) ∙ is.frozen;
                   diverted = slot_table t p k r may.some inside is_one is.first here ∙ is.diverted;
                 });
               }
@@ -287,7 +262,7 @@ module _ (w new : World) (held : Held) (f t : Trail) (waits : ℕ → Bool) (goe
                   long = is.long;
                   first = is.first;
                   named = λ q i e_q gone. elim (eqb_tells q p) [
-                    | inl v ↦ absurd (none_some (sym e ∙ ap (λ n. entry_for n r.diverted) (sym v.1) ∙ ap (entry_for q) is.diverted ∙ e_q))
+                    | inl v ↦ absurd (none_there (sym e ∙ ap (λ n. entry_for n r.diverted) (sym v.1) ∙ ap (entry_for q) is.diverted ∙ e_q))
                     | inr v ↦ is.named q i e_q (sym (as_before q v.1) ∙ gone)
                   ];
                   others = is.others;
@@ -299,7 +274,7 @@ module _ (w new : World) (held : Held) (f t : Trail) (waits : ℕ → Bool) (goe
       slots_next : (q j : ℕ) → entry_for q t.base.diverted ≡ Some j → length f.base.diverted ≤ j → later q ≡ false → HasPageIn held.page_size j (page_at t.base.image q) (new.files (delta_name held.name))
       slots_next q j e late gone = elim (eqb_tells q p) [
         | inl v ↦
-            let same : j ≡ k = some_same (sym e ∙ ap (λ n. entry_for n t.base.diverted) v.1 ∙ at) in
+            let same : j ≡ k = some_same {X = ℕ} _ _ (sym e ∙ ap (λ n. entry_for n t.base.diverted) v.1 ∙ at) in
             subst (λ n. HasPageIn held.page_size n (page_at t.base.image q) c) (sym same) (record { whole = put.whole; same = put.slot ∙ may.same ∙ sym (ap (page_at t.base.image) v.1) })
         | inr v ↦
             let old : HasPageIn held.page_size j (page_at t.base.image q) d = goes.slots q j e late (sym (as_before q v.1) ∙ gone) in

@@ -1,22 +1,6 @@
 -- What the control strokes make of the two files of a database.
-use Rattle.std.proofs.Common.{◌≡◌, ℕ, ◌+◌, ◌≤◌, List, [], length, refl, sym, ap, subst, ◌∙◌, arith}
-use Rattle.std.specs.Prelude.{Option, Some, None}
-use Rattle.nb_fields.specs.Bytes.{part}
-use Rattle.nb_fields.specs.Header.{size_of, state_of}
-use Rattle.nb_fields.proofs.PartLaws.{length-part, part-take}
-use Rattle.nb_fields.specs.States.{normal_state, stalled_state, merge_state}
-use Rattle.nb_host.specs.Files.{File, bytes_of}
-use Rattle.nb_delta.specs.Slots.{HasTable}
-use Rattle.nb_model.specs.Image.{Image, first_page, image_size, image_state, image_scn, image_guid, is_forced, trimmed}
-use Rattle.nb_model.specs.Account.{Ask, Base}
-use Rattle.nb_model.specs.Strokes.{controlled, with_control, begin, ends, finish, on_base}
-use Rattle.nb_model.specs.Owner.{owned}
-use Rattle.nb_model.proofs.HeaderLaws.{header-long, same-number}
-use Rattle.nb_model.proofs.MainLaws.{some_page}
-use Rattle.nb_model.proofs.TrimLaws.{finish_base}
-use Rattle.nb_model.proofs.ControlLaws.{control_size, control_state}
-use Rattle.nb_base.specs.Control.{next_scn, next_guid, in_state, HasImage}
-use Rattle.nb_base.specs.Open.{Held, Agrees}
+use Rattle.std.proofs.Common.{◌≡◌, ℕ, ◌+◌, ◌≤◌, List, [], length, refl, sym, ap, subst, ◌∙◌, arith, Option, Some, None}
+use Rattle.nb_base.proofs.Common.{part, size_of, state_of, length-part, part-take, normal_state, stalled_state, merge_state, File, bytes_of, HasTable, Image, first_page, image_size, image_state, image_scn, image_guid, is_forced, trimmed, Ask, Base, controlled, with_control, begin, ends, finish, on_base, owned, header-long, same-number, some_page, finish_base, control_size, control_state, next_scn, next_guid, in_state, HasImage, Held, Agrees}
 use Rattle.nb_base.proofs.ControlLaws.{with_control-first, with_control-length, owned-control}
 use Rattle.nb_base.proofs.BlockLaws.{to_main}
 use Rattle.nb_base.proofs.OwnedLaws.{Holds, owned-alone, main-some, main-long, base-front, base-header, base-state, base-size}

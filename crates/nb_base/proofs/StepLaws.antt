@@ -1,21 +1,10 @@
 -- One outcome and one step: what two files hold after a page of one of them was written.
-use Rattle.std.proofs.Common.{◌≡◌, ◌≢◌, ◌⊎◌, inl, inr, ⊎_elim, ℕ, ◌*◌, ◌<◌, ◌≤◌, List, length, take, refl, sym, ap, subst, ◌∙◌, arith}
-use Rattle.std.specs.Prelude.{Option, Some, None}
-use Rattle.nb_fields.specs.Table.{page_in, slot_place}
-use Rattle.nb_fields.specs.States.{stalled_state}
-use Rattle.nb_host.specs.Files.{File, bytes_of, with_page as with_page_at}
-use Rattle.nb_host.specs.Crash.{PageLeft}
-use Rattle.nb_delta.specs.Slots.{HasTable, slot_page}
-use Rattle.nb_model.specs.Image.{Page, Image, page_at, first_page, image_size, image_state, with_page, written_at}
-use Rattle.nb_model.specs.Account.{Base}
-use Rattle.nb_model.specs.Strokes.{Stroke, page, on_base, merged_page}
-use Rattle.nb_model.specs.Owner.{entry_for, owned}
-use Rattle.nb_model.specs.Trail.{Trail, IsFirm}
-use Rattle.nb_model.proofs.HeaderLaws.{same-header, same-number}
-use Rattle.nb_base.specs.Seen.{IsWrite}
+use Rattle.std.proofs.Common.{◌≡◌, ◌≢◌, ◌⊎◌, inl, inr, ⊎_elim, ℕ, ◌*◌, ◌<◌, ◌≤◌, List, length, take, refl, sym, ap, subst, ◌∙◌, arith, Option, Some, None}
+use Rattle.nb_base.proofs.Common.{page_in, slot_place, stalled_state, File, bytes_of, PageLeft, HasTable, slot_page, Page, Image, page_at, first_page, image_size, image_state, with_page, written_at, Base, Stroke, page, on_base, merged_page, entry_for, owned, Trail, IsFirm, same-header, same-number, IsWrite, none_there, stroke_page, stroke-frozen, stroke-diverted}
+use Rattle.nb_host.specs.Files.{with_page as with_page_at}
 use Rattle.nb_base.proofs.WrittenLaws.{HasMain, MayWrite, main_put, main_written}
-use Rattle.nb_base.proofs.OwnedLaws.{Holds, main-some, main-long, base-front, base-state, base-size, front_stays, main_shows, slots_stay, slot_shows, entry-front, none_some}
-use Rattle.nb_base.proofs.LeftLaws.{stroke-image, stroke-frozen, stroke-stalled, stroke-other, noted-there, fits_left, state_left, size_left, put_is}
+use Rattle.nb_base.proofs.OwnedLaws.{Holds, main-some, main-long, base-front, base-state, base-size, front_stays, main_shows, slots_stay, slot_shows, entry-front}
+use Rattle.nb_base.proofs.LeftLaws.{stroke-stalled, noted-there, fits_left, state_left, size_left, put_is}
 
 -- Another main file with the same header, in the normal and the merge state.
 pub main_moved : (b new : Base) (m d c : File) (h : Holds b m d) (main : Image) → image_state h.main ≢ stalled_state → HasMain main c → take 64 (first_page main) ≡ take 64 (first_page h.main)
@@ -86,7 +75,7 @@ module _ (t : Trail) (p : ℕ) (bytes : Page) (is : IsWrite t p bytes) where
     shows_main other none c has =
         let low : p ≤ length (owned (image_size h.main) h.main (bytes_of d) b.diverted) = omega (arith, (fits_left t p bytes is.fits b left).low, ap length h.image) in
         main_moved b (on_base s b) m d c h new_main (λ e. other (sym main-state ∙ e)) has new_front
-        (stroke-other b p bytes (λ e. other (sym (state_left t p bytes is.fits b left) ∙ e))) (stroke-frozen b p bytes)
+        (stroke-diverted b p bytes (λ e. other (sym (state_left t p bytes is.fits b left) ∙ e))) (stroke-frozen b p bytes)
         (put_is t p bytes is.fits b left ∙ ap (λ (x : Image). with_page p bytes x) h.image
         ∙ sym (main_shows (image_size h.main) h.main (bytes_of d) b.diverted p bytes (main-some b m d h) (main-long b m d h) front_main none low))
 
@@ -116,7 +105,7 @@ module _ (t : Trail) (p : ℕ) (bytes : Page) (is : IsWrite t p bytes) where
         let slot_ : page_in (image_size h.main) (bytes_of c) (slot_place (image_size h.main) k) ≡ bytes = subst (λ n. page_in n (bytes_of c) (slot_place n k) ≡ bytes) (sym main-size) slot in
         delta_moved b (on_base s b) m d c h (omega (arith, diverts, main-state))
         (subst (λ n. HasTable n c (on_base s b).diverted) (sym main-size) (subst (λ (x : List ℕ). HasTable (image_size now) c x) (sym kept) table)) (stroke-frozen b p bytes)
-        (stroke-image b p bytes ∙ ap (λ (x : Image). with_page p (merged_page p bytes x) x) h.image
+        (stroke_page b p bytes ∙ ap (λ (x : Image). with_page p (merged_page p bytes x) x) h.image
         ∙ sym (slot_shows (image_size h.main) h.main (bytes_of d) (bytes_of c) (main-some b m d h) (main-long b m d h) b.diverted p k bytes at slot_
         (λ j low ne. subst (λ n. page_in n (bytes_of c) (slot_place n j) ≡ page_in n (bytes_of d) (slot_place n j)) (sym main-size) (same j low ne)))
         ∙ ap (λ (x : List ℕ). owned (image_size h.main) h.main (bytes_of c) x) (sym kept))
@@ -124,7 +113,7 @@ module _ (t : Trail) (p : ℕ) (bytes : Page) (is : IsWrite t p bytes) where
         entries_stay : (k : ℕ) → entry_for p b.diverted ≡ Some k → (on_base s b).diverted ≡ b.diverted
         entries_stay k at = elim (Rattle.std.proofs.lemmas.Bool.Decides.eqb_tells (image_state b.image) 1) [
           | inl w ↦ stroke-stalled b p bytes w.1 ∙ noted-there p b.diverted k at
-          | inr w ↦ stroke-other b p bytes w.1
+          | inr w ↦ stroke-diverted b p bytes w.1
         ]
 
     -- no entry names it here where none does in what was seen
@@ -133,4 +122,4 @@ module _ (t : Trail) (p : ℕ) (bytes : Page) (is : IsWrite t p bytes) where
       where
         by : (x : Option ℕ) → entry_for p b.diverted ≡ x → entry_for p b.diverted ≡ None
         by None e = e
-        by (Some k) e = absurd (none_some (sym none ∙ ap (entry_for p) left.rest.diverted.1 ∙ entry-front p b.diverted left.rest.diverted.0 k e))
+        by (Some k) e = absurd (none_there (sym none ∙ ap (entry_for p) left.rest.diverted.1 ∙ entry-front p b.diverted left.rest.diverted.0 k e))

@@ -1,30 +1,7 @@
 -- The control strokes: what a crash leaves at each moment, and what is open after.
-use Rattle.std.proofs.Common.{◌≡◌, ◌≢◌, inl, inr, ⊎_elim, ℕ, ◌<◌, List, [], ◌∷◌, length, refl, sym, ap, subst, ◌∙◌, arith}
-use Rattle.std.specs.Prelude.{true, Option, Some, Ok}
-use Rattle.nb_fields.specs.States.{normal_state, stalled_state}
-use Rattle.nb_host.specs.Files.{File, Files}
-use Rattle.nb_host.specs.World.{World}
-use Rattle.nb_host.specs.Crash.{Leaves, IsDurable}
-use Rattle.nb_host.specs.Calls.{IsStill}
-use Rattle.nb_host.specs.Moments.{IsTimely, Passes}
-use Rattle.nb_change.specs.Changes.{Changes, Only, Remade}
-use Rattle.nb_change.proofs.MomentLaws.{left_before}
-use Rattle.nb_change.proofs.ChangesLaws.{weaker_has, composed_within}
-use Rattle.nb_change.proofs.CallLaws.{still_alone}
-use Rattle.nb_change.proofs.SettledLaws.{durable_is}
-use Rattle.nb_delta.specs.Slots.{HasTable}
-use Rattle.nb_model.specs.Image.{Image, image_size, image_state, image_scn, is_forced}
-use Rattle.nb_model.specs.Account.{Ask, Base}
-use Rattle.nb_model.specs.Strokes.{Stroke, begin, ends, finish, on_base}
-use Rattle.nb_model.specs.Owner.{delta_name}
-use Rattle.nb_model.specs.Trail.{Trail, settles_at, after_stroke}
-use Rattle.nb_base.specs.Firm.{StandsFirmOn, StandsFirm}
-use Rattle.nb_model.proofs.TrailLaws.{settles_after, trail_base}
+use Rattle.std.proofs.Common.{◌≡◌, ◌≢◌, inl, inr, ⊎_elim, ℕ, ◌<◌, List, [], ◌∷◌, length, refl, sym, ap, subst, ◌∙◌, arith, true, Option, Some, Ok}
+use Rattle.nb_base.proofs.Common.{normal_state, stalled_state, File, Files, World, Leaves, IsDurable, IsStill, IsTimely, Passes, Changes, Only, Remade, left_before, weaker_has, composed_within, still_alone, durable_is, HasTable, Image, image_size, image_state, image_scn, is_forced, Ask, Base, Stroke, begin, ends, finish, on_base, delta_name, Trail, settles_at, after_stroke, StandsFirmOn, StandsFirm, settles_after, trail_base, same-number, in_state, HasRoom, HasImage, IsImageOf, ControlLeft, Held, OfFiles, Agrees, IsOpen, StrikesFirm}
 use Rattle.nb_base.proofs.FirmLaws.{last_firm, shows_firm}
-use Rattle.nb_model.proofs.HeaderLaws.{same-number}
-use Rattle.nb_base.specs.Control.{in_state, HasRoom, HasImage, IsImageOf, ControlLeft}
-use Rattle.nb_base.specs.Open.{Held, OfFiles, Agrees, IsOpen}
-use Rattle.nb_base.specs.Takes.{StrikesFirm}
 use Rattle.nb_base.proofs.BlockLaws.{to_main, of_main}
 use Rattle.nb_base.proofs.OpenedLaws.{holds_whatever}
 use Rattle.nb_base.proofs.OwnedLaws.{Holds, holds, shows, base-front, base-state, base-size}

@@ -1,17 +1,7 @@
 -- What a crash leaves of two files that are kept for good.
-use Rattle.std.proofs.Common.{◌≡◌, ◌≢◌, ℕ, zero, suc, refl, sym, ap, subst, ◌∙◌, arith}
-use Rattle.std.specs.Prelude.{Ok}
-use Rattle.nb_fields.specs.States.{normal_state}
-use Rattle.nb_host.specs.Files.{File, Files}
-use Rattle.nb_host.specs.World.{World}
-use Rattle.nb_host.specs.Crash.{IsDurable}
-use Rattle.nb_host.specs.Calls.{IsStill}
-use Rattle.nb_change.proofs.SettledLaws.{durable_is}
-use Rattle.nb_model.specs.Account.{Base}
-use Rattle.nb_model.specs.Owner.{delta_name, owner}
-use Rattle.nb_model.specs.Trail.{settled, ShowsIn}
+use Rattle.std.proofs.Common.{◌≡◌, ◌≢◌, ℕ, zero, suc, refl, sym, ap, subst, ◌∙◌, arith, Ok}
+use Rattle.nb_base.proofs.Common.{normal_state, File, Files, World, IsDurable, IsStill, durable_is, Base, delta_name, owner, settled, ShowsIn, Held, Agrees, IsOpen}
 use Rattle.nb_base.proofs.FirmLaws.{shows_firm}
-use Rattle.nb_base.specs.Open.{Held, Agrees, IsOpen}
 use Rattle.nb_base.proofs.OpenedLaws.{holds_whatever}
 use Rattle.nb_base.proofs.OwnedLaws.{Holds, holds, shows, base-state}
 

@@ -1,18 +1,6 @@
 -- What calls touch: one call, calls one after another, and by the backup state.
-use Rattle.std.proofs.Common.{◌≡◌, ◌≢◌, inl, inr, ℕ, zero, suc, List, refl, sym, ◌∙◌, subst}
-use Rattle.std.specs.Prelude.{Bool, IsTrue, Result}
-use Rattle.nb_fields.specs.States.{normal_state, stalled_state}
-use Rattle.nb_host.specs.Files.{Files}
-use Rattle.nb_host.specs.World.{World}
-use Rattle.nb_host.specs.Calls.{WritesPage, IsStill}
-use Rattle.nb_host.specs.Moments.{IsTimely, Passes}
-use Rattle.nb_change.specs.Changes.{Names, Only, Changes}
-use Rattle.nb_change.proofs.ChangesLaws.{begun, rested, weakened, composed, still_more}
-use Rattle.nb_change.proofs.CallLaws.{page_alone}
-use Rattle.nb_page.specs.Quiet.{Quiet}
-use Rattle.nb_model.specs.Owner.{delta_name}
-use Rattle.nb_base.specs.Open.{OfFiles}
-use Rattle.nb_base.specs.Touches.{Touches, WritesIn}
+use Rattle.std.proofs.Common.{◌≡◌, ◌≢◌, inl, inr, ℕ, zero, suc, List, refl, sym, ◌∙◌, subst, Bool, IsTrue, Result}
+use Rattle.nb_base.proofs.Common.{normal_state, stalled_state, Files, World, WritesPage, IsStill, IsTimely, Passes, Names, Only, Changes, begun, rested, weakened, composed, still_more, page_alone, Quiet, delta_name, OfFiles, Touches, WritesIn}
 
 -- whatever calls make of the files, those alone are touched
 pub touched : (old new : World) (names : Names) (P : Files → Type 0) → Changes old new names P → Touches old new names

@@ -1,33 +1,10 @@
 -- A page is written: what a crash leaves at each moment, and what is seen once the call has answered Ok.
-use Rattle.std.proofs.Common.{◌≡◌, ◌≢◌, ◌⊎◌, inl, inr, ⊎_elim, ℕ, zero, suc, ◌*◌, ◌<◌, ◌≤◌, List, [], ◌∷◌, length, refl, sym, ap, subst, ◌∙◌, arith, length-append}
-use Rattle.std.specs.Prelude.{Bool, true, false, IsTrue, Some, None, Result, Ok, Err, IsErr, OnOk}
-use Rattle.nb_fields.specs.States.{normal_state, stalled_state, merge_state}
-use Rattle.nb_host.specs.Files.{File, Files, with_file, with_page as with_page_at}
-use Rattle.nb_host.specs.World.{World}
-use Rattle.nb_host.specs.Crash.{Leaves, IsDurable, Untouched}
-use Rattle.nb_host.specs.Calls.{WritesPage, IsStill}
-use Rattle.nb_host.specs.Moments.{IsTimely, Passes}
+use Rattle.std.proofs.Common.{◌≡◌, ◌≢◌, ◌⊎◌, inl, inr, ⊎_elim, ℕ, zero, suc, ◌*◌, ◌<◌, ◌≤◌, List, [], ◌∷◌, length, refl, sym, ap, subst, ◌∙◌, arith, length-append, Bool, true, false, IsTrue, Some, None, Result, Ok, Err, IsErr, OnOk}
+use Rattle.nb_base.proofs.Common.{normal_state, stalled_state, merge_state, File, Files, with_file, World, Leaves, IsDurable, Untouched, WritesPage, IsStill, IsTimely, Passes, Only, Changes, Moved, Reached, left_before, with_file-same, with_file-other, all_before, begun, left_with, moved_on, page_more, durable_is, HasTable, SlotStep, SlotPut, Adds, AddStep, Page, image_size, image_state, Base, Stroke, page, delta_name, entry_for, owner, Trail, after_stroke, ShowsIn, must_sync, StandsFirmOn, StandsFirm, OfFiles, IsSeen, IsWrite, StrikesFirm, TakesFirm, place_of, trail_base, none_there, for_nothing, no_err, stroke-diverted}
+use Rattle.nb_host.specs.Files.{with_page as with_page_at}
 use Rattle.nb_host.specs.Names.{delta_suffix}
-use Rattle.nb_change.specs.Changes.{Only, Changes, Moved, Reached}
-use Rattle.nb_change.proofs.MomentLaws.{left_before}
-use Rattle.nb_change.proofs.NameLaws.{with_file-same, with_file-other}
-use Rattle.nb_change.proofs.ChangesLaws.{all_before, begun, left_with, moved_on}
-use Rattle.nb_change.proofs.CallLaws.{page_more}
-use Rattle.nb_change.proofs.SettledLaws.{durable_is}
-use Rattle.nb_delta.specs.Slots.{HasTable, SlotStep, SlotPut, Adds, AddStep}
-use Rattle.nb_model.specs.Image.{Page, image_size, image_state}
-use Rattle.nb_model.specs.Account.{Base}
-use Rattle.nb_model.specs.Strokes.{Stroke, page}
-use Rattle.nb_model.specs.Owner.{delta_name, entry_for, owner}
-use Rattle.nb_model.specs.Trail.{Trail, after_stroke, ShowsIn}
-use Rattle.nb_base.specs.Firm.{must_sync, StandsFirmOn, StandsFirm}
-use Rattle.nb_base.specs.Open.{OfFiles}
-use Rattle.nb_base.specs.Seen.{IsSeen, IsWrite}
-use Rattle.nb_base.specs.Takes.{StrikesFirm, TakesFirm}
-use Rattle.nb_delta.specs.Entries.{place_of}
-use Rattle.nb_model.proofs.TrailLaws.{trail_base}
-use Rattle.nb_base.proofs.OwnedLaws.{Holds, holds, base-state, base-size, none_some}
-use Rattle.nb_base.proofs.LeftLaws.{later_state, stroke-other}
+use Rattle.nb_base.proofs.OwnedLaws.{Holds, holds, base-state, base-size}
+use Rattle.nb_base.proofs.LeftLaws.{later_state}
 use Rattle.nb_base.proofs.PlaceLaws.{place-entry}
 use Rattle.nb_base.proofs.OutcomeLaws.{stands_stays, stands_main, stands_main_put, shows_main_put, all_entries, stands_slot, stands_slot_put, shows_slot_put, stands_add, stands_added, shows_added}
 
@@ -37,9 +14,6 @@ delta_apart name same = absurd (omega (arith, length-append name delta_suffix, a
 
 pub main_apart : (name : List ℕ) → name ≢ delta_name name
 main_apart name same = delta_apart name (sym same)
-
-no_err : (T E : Type 0) (x : T) → IsErr {T = T} {E = E} (Ok x) → ⊥
-no_err T E x h = cc
 
 -- nothing is said of what stands at Ok where the answer is none
 pub not_done : {T E : Type 0} (result : Result T E) (X : Type 0) → IsErr result → OnOk result X
@@ -244,7 +218,7 @@ module _ (t : Trail) (p : ℕ) (bytes : Page) where
   merges_later is merges = later_state t p bytes is.fits ∙ merges
 
   pub entry_later : image_state t.base.image ≡ merge_state → (k : ℕ) → entry_for p t.base.diverted ≡ Some k → entry_for p (after_stroke (page p bytes) t).base.diverted ≡ Some k
-  entry_later merges k at = ap (λ (b : Base). entry_for p b.diverted) (trail_base (page p bytes) t) ∙ ap (entry_for p) (stroke-other t.base p bytes (λ e. absurd (omega (arith, e, merges)))) ∙ at
+  entry_later merges k at = ap (λ (b : Base). entry_for p b.diverted) (trail_base (page p bytes) t) ∙ ap (entry_for p) (stroke-diverted t.base p bytes (λ e. absurd (omega (arith, e, merges)))) ∙ at
 
 -- What a call took, passed on as a failure, and from a world that is the same.
 pub takes_passed : {T E U F : Type 0} (result : Result T E) (passed : Result U F) (old mid new : World) (name : List ℕ) (opened other : Trail → Type 0) (t : Trail) (strokes : List Stroke)
@@ -265,13 +239,9 @@ takes_done x y old mid new name opened t strokes same takes = record {
   done = takes.done;
 }
 
-entry_none : (p : ℕ) → entry_for p [] ≡ None
-unfolding entry_for
-entry_none p = refl
-
 -- where there are no entries, none names a page
 pub none_at : (p k : ℕ) (entries : List ℕ) → entries ≡ [] → entry_for p entries ≡ Some k → ⊥
-none_at p k entries none at = none_some (sym (entry_none p) ∙ ap (entry_for p) (sym none) ∙ at)
+none_at p k entries none at = none_there (sym (for_nothing p) ∙ ap (entry_for p) (sym none) ∙ at)
 
 -- where an entry names a page, but not in the stalled state, the state is the merge state
 pub merges_where : (name : List ℕ) (t : Trail) (w : World) → IsSeen w name t → image_state t.base.image ≢ stalled_state → (p k : ℕ) → entry_for p t.base.diverted ≡ Some k → image_state t.base.image ≡ merge_state

@@ -1,23 +1,8 @@
 -- A page written into a main file, in any backup state: what the file holds then, and what a crash leaves of it.
-use Rattle.std.proofs.Common.{◌≡◌, ◌⊎◌, inl, inr, ℕ, zero, suc, ◌+◌, ◌-◌, ◌*◌, ◌<◌, ◌≤◌, List, [], ◌∷◌, ◌++◌, length, take, drop, replicate, refl, sym, ap, subst, ◌∙◌, arith, length-append, append_assoc, add-mul, suc-mul, mul-le-mul_right, le_of_mul-le-mul_right, get_or-set_same}
-use Rattle.std.specs.Prelude.{true, false, IsTrue, Some}
-use Rattle.std.proofs.lemmas.Bool.Decides.{leb_tells, eqb_tells}
-use Rattle.std.proofs.lemmas.List.{drop_all, get_or_append_left, get_or-append_right, length-take-le, length-drop, length-replicate, replicate-append-replicate}
-use Rattle.nb_fields.specs.Bytes.{is_zeros}
-use Rattle.nb_fields.specs.Places.{is_page_size, most_pages}
-use Rattle.nb_fields.specs.Header.{is_header, size_of}
-use Rattle.nb_host.specs.Files.{File, bytes_of, padded, put_at, with_page as with_page_at}
-use Rattle.nb_host.specs.Crash.{PageLeft}
-use Rattle.nb_model.specs.Image.{Page, Image, page_at, first_page, image_size, image_in, trimmed, with_page, written_at}
-use Rattle.nb_model.specs.Causes.{not_database}
-use Rattle.nb_model.specs.Levels.{joined}
-use Rattle.nb_model.specs.Sound.{IsOfSize}
+use Rattle.std.proofs.Common.{◌≡◌, ◌⊎◌, inl, inr, ℕ, zero, suc, ◌+◌, ◌-◌, ◌*◌, ◌<◌, ◌≤◌, List, [], ◌∷◌, ◌++◌, length, take, drop, replicate, refl, sym, ap, subst, ◌∙◌, arith, length-append, append_assoc, add-mul, suc-mul, mul-le-mul_right, le_of_mul-le-mul_right, get_or-set_same, true, false, IsTrue, Some}
+use Rattle.nb_base.proofs.Common.{leb_tells, eqb_tells, drop_all, get_or_append_left, get_or-append_right, length-take-le, length-drop, length-replicate, replicate-append-replicate, is_zeros, is_page_size, most_pages, is_header, size_of, File, bytes_of, padded, put_at, PageLeft, Page, Image, page_at, first_page, image_size, image_in, trimmed, with_page, written_at, not_database, joined, IsOfSize, same-header, same-number, AreZeros, IsTrimmed, length-joined, trimmed-append_zeros, trimmed-before, trimmed-over, trimmed-drop, all-append, all-left, all-right, all-take, all-drop, all-replicate, trimmed-nothing, IsLaid, IsLaidOut, whole_laid, trimmed_laid, laid-front, laid-wide, image_in-is, some_page, with_page-split, laid_put, laid_grown, put-joined, put-first, all_zeros, some_same}
+use Rattle.nb_host.specs.Files.{with_page as with_page_at}
 use Rattle.nb_model.proofs.FormLaws.{no_cause}
-use Rattle.nb_model.proofs.HeaderLaws.{same-header, same-number}
-use Rattle.nb_model.proofs.ImageLaws.{AreZeros, IsTrimmed, length-joined, trimmed-append_zeros, trimmed-before, trimmed-over, trimmed-drop, all-append, all-left, all-right, all-take, all-drop, all-replicate, trimmed-nothing}
-use Rattle.nb_model.proofs.MainLaws.{IsLaid, IsLaidOut, whole_laid, trimmed_laid, laid-front, laid-wide, image_in-is, some_page}
-use Rattle.nb_model.proofs.PutLaws.{with_page-split, laid_put, laid_grown, put-joined, put-first}
-use Rattle.nb_model.proofs.HeadSound.{all_zeros}
 
 -- a file that is laid so has the form of a database, and holds the image
 pub laid_formed : (image : Image) (bytes : List ℕ) → IsLaid image bytes → not_database bytes ≡ Rattle.std.specs.Prelude.None
@@ -41,10 +26,7 @@ pub record HasMain (image : Image) (file : File) : Type 0 where
 
 -- it holds one image
 pub one_main : (i j : Image) (file : File) → HasMain i file → HasMain j file → i ≡ j
-one_main i j file h k = sym (laid_image i h.bytes h.laid) ∙ ap image_in (one_file (sym h.there ∙ k.there)) ∙ laid_image j k.bytes k.laid
-  where
-    one_file : {a b : List ℕ} → Some a ≡ Some b → a ≡ b
-    one_file e = cc
+one_main i j file h k = sym (laid_image i h.bytes h.laid) ∙ ap image_in (some_same {X = List ℕ} _ _ (sym h.there ∙ k.there)) ∙ laid_image j k.bytes k.laid
 
 -- each page of the image has the page size
 pub main_sizes : (image : Image) (bytes : List ℕ) → IsLaid image bytes → (p : ℕ) → p < length image → length (page_at image p) ≡ image_size image

@@ -24,7 +24,6 @@ use nb_cases::{Case, Event, case_of};
 use nb_delta::Delta;
 use nb_fields::layouts::header;
 use nb_host::{Host, HostFault, Name, RunError};
-use std::alloc::Global;
 use std::marker::Model;
 
 /// Whether a page that is written goes to the difference file alone.

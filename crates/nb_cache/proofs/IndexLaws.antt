@@ -1,22 +1,7 @@
 -- The pages that an index finds, as frames move.
 use Rattle.std.proofs.Common.{◌≡◌, ℕ, suc, ◌+◌, ◌-◌, ◌<◌, ◌≤◌, nat_eq, false, inl, inr, List, [], ◌∷◌, ◌++◌, length, take, drop, Option, Some, None, refl, sym, ap, ap₂, ◌∙◌, subst, arith, min, MatchOption, length-append, append_assoc, Contains, cond}
-use Rattle.std.specs.List.{AllByRecursion, IsDistinct}
-use Rattle.std.specs.Map.{keys_of}
-use Rattle.std.proofs.Math.Seq.{take-append-add}
-use Rattle.std.proofs.lemmas.Bool.{eq-eqb, ne_eqb, eqb-false, cases_eq}
-use Rattle.lru.specs.LruCache.{last_entry}
-use Rattle.std.proofs.lemmas.List.{map-append, append-nil, take_all, take-append-le, take-append-drop, length-take-le}
-use Rattle.std.proofs.lemmas.Map.Keys.{IsDistinct-head, IsDistinct-tail}
-use Rattle.std.proofs.lemmas.List.Elements.{Contains-append_left}
-use Rattle.lru.proofs.Splits.{Contains-head, Contains-tail, Contains-cons, Contains-nil, Contains-middle, Contains-without, Contains-with, all_at, all_from}
-use Rattle.nb_cache.specs.declared.frames.Frame.{Frame}
-use Rattle.nb_cache.specs.declared.index.Index.{Index}
-use Rattle.nb_cache.specs.Frames.{Frames, NoneHolds, FoundAt}
-use Rattle.nb_cache.specs.Index.{holder, places, Finds}
+use Rattle.nb_cache.proofs.Common.{AllByRecursion, IsDistinct, keys_of, take-append-add, eq-eqb, ne_eqb, eqb-false, cases_eq, last_entry, map-append, append-nil, take_all, take-append-le, take-append-drop, length-take-le, IsDistinct-head, IsDistinct-tail, Contains-append_left, Contains-head, Contains-tail, Contains-cons, Contains-nil, Contains-middle, Contains-without, Contains-with, all_at, all_from, Frame, Index, Frames, NoneHolds, FoundAt, holder, places, Finds, some_same}
 use Rattle.nb_cache.proofs.KeyedLaws.{misses_before, last_parts}
-
-same_some : (k q : ℕ) → Some k ≡ Some q → k ≡ q
-same_some k q e = cc
 
 -- a frame is in its place
 place_of : (es : Frames) (x : ℕ × Frame) → Contains es x → Contains (places es) (x.1.page, x.0)
@@ -55,7 +40,7 @@ around (e ∷ es) page key c = elim (Contains-cons (e.1.page, e.0) (places es) (
 
 -- a page is in one place only
 pub once : (index : Index) (ps : List (ℕ × ℕ)) → Finds index ps → (page key other : ℕ) → Contains ps (page, key) → Contains ps (page, other) → key ≡ other
-once index ps finds page key other one two = same_some key other (sym (finds.each page key one) ∙ finds.each page other two)
+once index ps finds page key other one two = some_same key other (sym (finds.each page key one) ∙ finds.each page other two)
 
 -- what an index finds, and what it doesn't
 module _ (index : Index) (es : Frames) (held page : ℕ) (finds : Finds index (places (take held es))) where
@@ -74,20 +59,14 @@ module _ (index : Index) (es : Frames) (held page : ℕ) (finds : Finds index (p
       let only : AllByRecursion (λ e. nat_eq key e.0 ≡ false) a.before = misses_before es a.before key a.frame (a.behind ++ rest) parts distinct in
       let size : length (take held es) ≡ length a.before + suc (length a.behind) = ap length a.parts ∙ length-append a.before (x ∷ a.behind) in
       let here : (y : ℕ × Frame) → Contains a.before y → Contains (take held es) y =
-      λ y c. subst (λ (l : Frames). Contains l y) (sym a.parts) (contains_left a.before (x ∷ a.behind) y c) in record {
+      λ y c. subst (λ (l : Frames). Contains l y) (sym a.parts) (Contains-append_left a.before (x ∷ a.behind) y c) in record {
         split = record { before = a.before; frame = a.frame; behind = a.behind ++ rest; parts = parts; only = only };
         inside = omega (arith, length-take-le held es within);
         holds = a.holds;
         first = all_from (λ e. nat_eq page e.1.page ≡ false) a.before (λ y c. ne_eqb page y.1.page (λ same.
             let again : holder index page ≡ Some y.0 = ap (holder index) same ∙ finds.each y.1.page y.0 (place_of (take held es) y (here y c)) in
-            eqb-false key y.0 (all_at (λ e. nat_eq key e.0 ≡ false) a.before y only c) (same_some key y.0 (sym some ∙ again))));
-      } where
-        contains_left : (xs ys : Frames) (y : ℕ × Frame) → Contains xs y → Contains (xs ++ ys) y
-        contains_left [] ys y c = absurd (Contains-nil y c)
-        contains_left (z ∷ xs) ys y c = elim (Contains-cons z xs y c) [
-          | inl same ↦ subst (λ (w : ℕ × Frame). Contains (w ∷ (xs ++ ys)) y) (sym same) (Contains-head y (xs ++ ys))
-          | inr on ↦ Contains-tail z (xs ++ ys) y (contains_left xs ys y on)
-        ]
+            eqb-false key y.0 (all_at (λ e. nat_eq key e.0 ≡ false) a.before y only c) (some_same key y.0 (sym some ∙ again))));
+      }
 
 -- no frame holds the page, so it has no place
 pub no-place : (page : ℕ) (es : Frames) → NoneHolds page es → (key : ℕ) → Contains (places es) (page, key) → ⊥
@@ -120,7 +99,7 @@ module _ (old new : Index) (page key : ℕ) (entered : (q : ℕ) → holder new 
   Finds-entered = record {
     only = λ q k some. elim (cases_eq page q) [
       | inl same ↦
-          let one : key ≡ k = same_some key k (sym (here q same) ∙ some) in
+          let one : key ≡ k = some_same key k (sym (here q same) ∙ some) in
           subst (λ (p : ℕ × ℕ). Contains ((page, key) ∷ ps) p) (ap₂ (λ (a b : ℕ). (a, b)) same one) (Contains-head (page, key) ps)
       | inr apart ↦ Contains-tail (page, key) ps (q, k) (finds.only q k (sym (there q apart) ∙ some))
     ];
@@ -136,7 +115,7 @@ module _ (old new : Index) (page key : ℕ) (entered : (q : ℕ) → holder new 
   Finds-pushed = record {
     only = λ q k some. elim (cases_eq page q) [
       | inl same ↦
-          let is : key ≡ k = same_some key k (sym (entered q ∙ ap (λ b. cond b (Some key) (holder old q)) (eq-eqb page q same)) ∙ some) in
+          let is : key ≡ k = some_same key k (sym (entered q ∙ ap (λ b. cond b (Some key) (holder old q)) (eq-eqb page q same)) ∙ some) in
           subst (λ (p : ℕ × ℕ). Contains (ps ++ (page, key) ∷ []) p) (ap₂ (λ (a b : ℕ). (a, b)) same is) (Contains-middle ps (page, key) [])
       | inr apart ↦
           Contains-with ps (page, key) [] (q, k) (subst (λ (l : List (ℕ × ℕ)). Contains l (q, k)) (sym (append-nil ps))

@@ -1,15 +1,6 @@
 -- An index stays true to the frames as they move.
 use Rattle.std.proofs.Common.{◌≡◌, ℕ, zero, suc, ◌+◌, ◌-◌, ◌*◌, ◌<◌, ◌≤◌, nat_eq, false, inl, inr, List, [], ◌∷◌, ◌++◌, length, take, min, Some, None, refl, sym, ap, ◌∙◌, subst, arith, length-append, Contains, cond}
-use Rattle.std.specs.List.{AllByRecursion, IsDistinct}
-use Rattle.std.specs.Map.{keys_of, set_value}
-use Rattle.std.proofs.Math.Seq.{take-append-add}
-use Rattle.std.proofs.lemmas.List.{map-append, append-nil, take-append-le}
-use Rattle.std.proofs.lemmas.List.Elements.{Contains-append_cases}
-use Rattle.lru.specs.LruCache.{promoted, demoted}
-use Rattle.nb_cache.specs.declared.frames.Frame.{Frame}
-use Rattle.nb_cache.specs.declared.index.Index.{Index}
-use Rattle.nb_cache.specs.Frames.{Frames, NoneHolds, Split, FoundAt, IsLast}
-use Rattle.nb_cache.specs.Index.{holder, places, room_of, Finds, IsIndexed}
+use Rattle.nb_cache.proofs.Common.{AllByRecursion, IsDistinct, keys_of, set_value, take-append-add, map-append, append-nil, take-append-le, Contains-append_cases, promoted, demoted, Frame, Index, Frames, NoneHolds, Split, FoundAt, IsLast, holder, places, room_of, Finds, IsIndexed}
 use Rattle.nb_cache.proofs.IndexLaws.{places-at, Finds-front, Finds-entered, Finds-left, no-place, no-key, misses_behind}
 use Rattle.nb_cache.proofs.ShownLaws.{promoted-split, demoted-split, set_value-split, set_value-promoted, length-split}
 

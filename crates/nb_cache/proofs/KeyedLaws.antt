@@ -1,14 +1,7 @@
 -- Lists of pairs at the first pair whose key passes a test.
 use Rattle.std.proofs.Common.{◌≡◌, ◌<◌, ℕ, length, Bool, true, false, List, [], ◌∷◌, ◌++◌, Some, None, refl, sym, ap, subst, ◌∙◌, nat_eq}
-use Rattle.std.specs.List.{AllByRecursion, IsDistinct}
-use Rattle.std.proofs.lemmas.Bool.{ne_eqb, eqb-false}
-use Rattle.std.proofs.lemmas.Map.Keys.{IsDistinct-head, IsDistinct-tail}
-use Rattle.std.specs.Option.{option_map_or}
-use Rattle.lru.specs.LruCache.{last_entry, promoted, demoted}
+use Rattle.nb_cache.proofs.Common.{AllByRecursion, IsDistinct, ne_eqb, eqb-false, IsDistinct-head, IsDistinct-tail, option_map_or, last_entry, promoted, demoted, Frame, Frames, IsLast, keys_of, lookup, lookup_entry, remove_entry, set_value}
 use Rattle.lru.proofs.Pairs.{cut_end, last_of_push}
-use Rattle.nb_cache.specs.declared.frames.Frame.{Frame}
-use Rattle.nb_cache.specs.Frames.{Frames, IsLast}
-use Rattle.std.specs.Map.{keys_of, lookup, lookup_entry, remove_entry, set_value}
 
 module _ {K V : Type 0} (test : K → Bool) where
   -- no key passes
@@ -53,15 +46,6 @@ module _ {K V : Type 0} (test : K → Bool) where
     demoted-at before none =
         let l : List (K × V) = before ++ x ∷ behind in
         ap (λ o. option_map_or (λ e. remove_entry test l ++ e ∷ []) o l) (lookup_entry-at before none) ∙ ap (λ r. r ++ x ∷ []) (remove_entry-at before none)
-
--- two lists, and both as one
-pub All-parts : {X : Type 0} (P : X → Type 0) (xs ys : List X) → AllByRecursion P (xs ++ ys) → AllByRecursion P xs × AllByRecursion P ys
-All-parts P [] ys all = (tt, all)
-All-parts P (x ∷ xs) ys all = let rest = All-parts P xs ys all.1 in ((all.0, rest.0), rest.1)
-
-pub All-join : {X : Type 0} (P : X → Type 0) (xs ys : List X) → AllByRecursion P xs → AllByRecursion P ys → AllByRecursion P (xs ++ ys)
-All-join P [] ys front back = back
-All-join P (x ∷ xs) ys front back = (front.0, All-join P xs ys front.1 back)
 
 -- one more at the end
 pub All-snoc : {X : Type 0} (P : X → Type 0) (xs : List X) (x : X) → AllByRecursion P xs → P x → AllByRecursion P (xs ++ x ∷ [])

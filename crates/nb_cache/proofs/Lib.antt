@@ -3,3 +3,4 @@ pub mod IndexedLaws
 pub mod KeyedLaws
 pub mod NextLaws
 pub mod ShownLaws
+mod Common

@@ -1,13 +1,7 @@
 -- Which of the waiting pages goes out first, as one page more is seen.
 use Rattle.std.proofs.Common.{◌≡◌, ℕ, ◌<◌, ◌≤◌, ◌⊎◌, inl, inr, List, [], ◌∷◌, ◌++◌, Option, Some, arith, ⊎_elim, Contains}
-use Rattle.std.specs.List.{AllByRecursion}
-use Rattle.std.proofs.lemmas.List.Elements.{Contains-append_right}
-use Rattle.lru.proofs.Splits.{Contains-head}
-use Rattle.nb_cache.specs.Held.{Slot, NoneWaits, IsNoLater, GoesFirst}
+use Rattle.nb_cache.proofs.Common.{AllByRecursion, Contains-append_right, Contains-head, Slot, NoneWaits, IsNoLater, GoesFirst, some_same}
 use Rattle.nb_cache.proofs.KeyedLaws.{All-snoc}
-
-same_rank : (r q : ℕ) → Some r ≡ Some q → r ≡ q
-same_rank r q e = cc
 
 module _ (pages : List (ℕ × Slot)) (page : ℕ) (bytes : List ℕ) where
   abbrev slot : Option ℕ → ℕ × Slot
@@ -18,7 +12,7 @@ module _ (pages : List (ℕ × Slot)) (page : ℕ) (bytes : List ℕ) where
     here = Contains-append_right pages (slot (Some rank) ∷ []) (slot (Some rank)) (Contains-head (slot (Some rank)) [])
 
     itself : IsNoLater page rank (slot (Some rank))
-    itself r e = inr (same_rank rank r e, omega arith)
+    itself r e = inr (some_same rank r e, omega arith)
 
     none_waits : (ps : List (ℕ × Slot)) → NoneWaits ps → AllByRecursion (IsNoLater page rank) ps
     none_waits [] none = tt

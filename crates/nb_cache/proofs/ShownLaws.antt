@@ -1,17 +1,8 @@
 -- The held pages that frames show, as frames move.
 use Rattle.std.proofs.Common.{◌≡◌, ℕ, suc, ◌+◌, ◌-◌, ◌<◌, ◌≤◌, nat_eq, Bool, true, false, inl, inr, List, [], ◌∷◌, ◌++◌, length, take, map, min, Option, Some, None, IsSome, refl, sym, ap, ◌∙◌, subst, arith, length-append}
-use Rattle.std.specs.List.{AllByRecursion, slice_get}
-use Rattle.std.specs.Option.{option_map_or, option_and_then, option_map}
-use Rattle.std.specs.Map.{lookup, lookup_entry, remove_entry, set_value}
-use Rattle.std.proofs.Math.Seq.{take-append-add}
+use Rattle.nb_cache.proofs.Common.{AllByRecursion, slice_get, option_map_or, option_and_then, option_map, lookup, lookup_entry, remove_entry, set_value, take-append-add, eq-eqb, ne_eqb, cases_lt, map-append, take-append-le, append-nil, take_all, take-take, take-map, length-take-le, LruCache, last_entry, lru_cache, promoted, demoted, put_entries, Frame, Slot, Held, slot_of, rank_of, with_rank, Frames, slot_in, shown, NoneHolds, Split, FoundAt, IsLast, IsCache, all_append, all_parts}
 use Rattle.std.proofs.lemmas.Option.{slice_get-map}
-use Rattle.std.proofs.lemmas.Bool.{eq-eqb, ne_eqb, cases_lt}
-use Rattle.std.proofs.lemmas.List.{map-append, take-append-le, append-nil, take_all, take-take, take-map, length-take-le}
-use Rattle.lru.specs.LruCache.{LruCache, last_entry, lru_cache, promoted, demoted, put_entries}
-use Rattle.nb_cache.specs.declared.frames.Frame.{Frame}
-use Rattle.nb_cache.specs.Held.{Slot, Held, slot_of, rank_of, with_rank}
-use Rattle.nb_cache.specs.Frames.{Frames, slot_in, shown, NoneHolds, Split, FoundAt, IsLast, IsCache}
-use Rattle.nb_cache.proofs.KeyedLaws.{Misses, lookup-at, lookup_entry-at, lookup-absent, lookup_entry-absent, remove_entry-absent, remove_entry-at, set_value-at, promoted-at, demoted-at, All-parts, All-join}
+use Rattle.nb_cache.proofs.KeyedLaws.{Misses, lookup-at, lookup_entry-at, lookup-absent, lookup_entry-absent, remove_entry-absent, remove_entry-at, set_value-at, promoted-at, demoted-at}
 
 pub some_is : {X : Type 0} (o : Option X) (x : X) → o ≡ Some x → IsSome o
 some_is o x e = subst IsSome (sym e) refl
@@ -69,7 +60,7 @@ module _ (es : Frames) (key : ℕ) (split : Split es key) where
     IsSized e = length e.1.bytes.items ≡ size
 
     sized : AllByRecursion IsSized split.before × (IsSized here × AllByRecursion IsSized split.behind)
-    sized = All-parts IsSized split.before (here ∷ split.behind) (subst (AllByRecursion IsSized) split.parts cache.sizes)
+    sized = all_parts IsSized split.before (here ∷ split.behind) (subst (AllByRecursion IsSized) split.parts cache.sizes)
 
     pub size_here : length split.frame.bytes.items ≡ size
     size_here = sized.1.0
@@ -81,7 +72,7 @@ module _ (es : Frames) (key : ℕ) (split : Split es key) where
       some = cache.some;
       few = cache.few;
       within = within;
-      sizes = (fits, All-join IsSized split.before split.behind sized.0 sized.1.1);
+      sizes = (fits, all_append IsSized split.before split.behind sized.0 sized.1.1);
     }
 
     -- the frame goes last
@@ -91,7 +82,7 @@ module _ (es : Frames) (key : ℕ) (split : Split es key) where
       some = cache.some;
       few = cache.few;
       within = within;
-      sizes = All-join IsSized others (here ∷ []) (All-join IsSized split.before split.behind sized.0 sized.1.1) (sized.1.0, tt);
+      sizes = all_append IsSized others (here ∷ []) (all_append IsSized split.before split.behind sized.0 sized.1.1) (sized.1.0, tt);
     }
 
     -- the frame stays in its place
@@ -101,7 +92,7 @@ module _ (es : Frames) (key : ℕ) (split : Split es key) where
       some = cache.some;
       few = cache.few;
       within = cache.within;
-      sizes = All-join IsSized split.before ((key, w) ∷ split.behind) sized.0 (fits, sized.1.1);
+      sizes = all_append IsSized split.before ((key, w) ∷ split.behind) sized.0 (fits, sized.1.1);
     }
 
     pub IsCache-promoted : IsCache (promoted (nat_eq key) es) cap held size

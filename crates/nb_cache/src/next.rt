@@ -1,4 +1,4 @@
-ghost use Rattle.std.specs.Prelude.{◌≡◌, ◌≤◌, ◌∷◌, ◌++◌, ℕ, [], List, length};
+ghost use Rattle.std.specs.Prelude.{◌≤◌, ◌∷◌, ◌++◌, ℕ, [], List, length};
 ghost use Rattle.nb_cache.specs.Held.{Slot, IsNext};
 ghost use Rattle.nb_cache.specs.Frames.{shown};
 

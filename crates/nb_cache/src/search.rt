@@ -1,9 +1,8 @@
-ghost use Rattle.std.specs.Prelude.{◌≡◌, ◌<◌, ℕ, List, nat_eq, length, IsSome, IfSome};
+ghost use Rattle.std.specs.Prelude.{◌≡◌, ◌<◌, nat_eq, length, IsSome, IfSome};
 ghost use Rattle.std.specs.Map.{lookup};
 ghost use Rattle.std.specs.Option.{option_and_then, option_map};
 ghost use Rattle.lru.specs.LruCache.{lru_cache, promoted, last_entry};
 ghost use Rattle.std.specs.Map.{set_value};
-ghost use Rattle.nb_cache.specs.Held.{Slot};
 ghost use Rattle.nb_cache.specs.Frames.{slot_in};
 ghost use Rattle.nb_cache.specs.declared.frames.Frame.{Frame};
 

@@ -1,19 +1,12 @@
 -- The table of states and events: each cell says what its state says of its event.
-use Rattle.std.proofs.Common.{◌≡◌, ℕ, zero, suc, List, [], ◌∷◌, refl, ap, ◌∙◌, arith}
-use Rattle.std.specs.Prelude.{Bool, true, false, not, ◌||◌, ◌==◌, Some, None, is_some}
+use Rattle.std.proofs.Common.{◌≡◌, ℕ, zero, suc, List, [], ◌∷◌, refl, ap, ◌∙◌, arith, Bool, true, false, not, ◌||◌, ◌==◌, Some, None, is_some}
+use Rattle.nb_cases.proofs.Common.{normal_state, stalled_state, merge_state, applying_state, DeltaPresent, Base, Cause, first_cause, when, not_state, Image, image_state, delta_name, owner_in, noted, on_base, AreTheCases, DivertsNone, IsFileIn, IsMainAlone, IsWithDelta, Diverts, none_to_end}
 use Rattle.nb_fields.specs.Header.{state_of}
-use Rattle.nb_fields.specs.States.{normal_state, stalled_state, merge_state, applying_state}
 use Rattle.nb_host.specs.Files.{File}
-use Rattle.nb_host.specs.declared.refusals.Refusal.TheVariants.{DeltaPresent, WrongState as in_state}
-use Rattle.nb_model.specs.Account.{Base}
-use Rattle.nb_model.specs.Causes.{Cause, first_cause, when, not_state}
-use Rattle.nb_model.specs.Image.{Image, image_state}
+use Rattle.nb_host.specs.declared.refusals.Refusal.TheVariants.{WrongState as in_state}
 use Rattle.nb_model.specs.InPlace.{not_finishing, not_mergeable, not_next, not_standby}
 use Rattle.nb_model.specs.Jobs.{not_fixable}
 use Rattle.nb_model.specs.Levels.{Contents}
-use Rattle.nb_model.specs.Owner.{delta_name, owner_in}
-use Rattle.nb_model.specs.Strokes.{noted, on_base}
-use Rattle.nb_cases.specs.Events.{AreTheCases, DivertsNone, IsFileIn, IsMainAlone, IsWithDelta, Diverts, none_to_end}
 use Rattle.nb_cases.specs.declared.events.Event.TheVariants.{Attach, Begin, End, MergeTurn, Fixup, Write, CopyTo, Apply, Access}
 
 -- the rows of the table

@@ -1,3 +1,4 @@
 pub mod EventLaws
 pub mod StateLaws
 pub mod SyncLaws
+mod Common

@@ -1,25 +1,16 @@
 -- Which state a case of the table tells.
-use Rattle.std.proofs.Common.{◌≡◌, ◌≢◌, ◌≤◌, inl, inr, ℕ, zero, suc, List, [], ◌∷◌, ◌++◌, replicate, refl, sym, ap, subst, ◌∙◌, arith}
-use Rattle.std.specs.Prelude.{Bool, not, ◌==◌, Some, None, Result, Ok, Err}
+use Rattle.std.proofs.Common.{◌≡◌, ◌≢◌, ◌≤◌, inl, inr, ℕ, zero, suc, List, [], ◌∷◌, ◌++◌, replicate, refl, sym, ap, subst, ◌∙◌, arith, Bool, not, ◌==◌, None, Result, Ok, Err}
+use Rattle.nb_cases.proofs.Common.{normal_state, stalled_state, applying_state, NoFile, Base, base_of, Cause, when, not_state, Image, image_state, delta_name, owner_in, owner_with, noted, Diverts, DivertsNone, OnAttach, OnOpen, OnWrite, none_to_end}
 use Rattle.std.proofs.lemmas.Bool.Decides.{eqb_tells}
 use Rattle.nb_fields.specs.Bytes.{number_in, number_of}
-use Rattle.nb_fields.specs.States.{normal_state, stalled_state, applying_state}
 use Rattle.nb_host.specs.declared.refusals.Refusal.{Refusal}
-use Rattle.nb_host.specs.declared.refusals.Refusal.TheVariants.{NoFile, WrongState as in_state, Unfinished as unfinished}
-use Rattle.nb_model.specs.Account.{Base, base_of}
-use Rattle.nb_model.specs.Causes.{Cause, when, not_state}
-use Rattle.nb_model.specs.Image.{Image, image_state}
-use Rattle.nb_model.specs.Owner.{delta_name, owner_in, owner_with}
-use Rattle.nb_model.specs.Strokes.{noted}
-use Rattle.nb_cases.specs.Events.{Diverts, DivertsNone, OnAttach, OnOpen, OnWrite, none_to_end}
+use Rattle.nb_host.specs.declared.refusals.Refusal.TheVariants.{WrongState as in_state, Unfinished as unfinished}
 use Rattle.nb_cases.specs.declared.events.Case.{Case}
 use Rattle.nb_cases.specs.declared.events.Case.TheVariants.{NoCall, Go, WrongState, Unfinished, Main, Delta, BothOrMain, GoWithDelta, GoWithoutDelta, GoOrUnfinished}
 use Rattle.nb_cases.proofs.EventLaws.{diverts_none_merge, diverts_none_normal, diverts_stalled}
+use Rattle.nb_host.proofs.PlainLaws.{some_none}
 
 -- ---- an open database is asked for a turn
-
-some_none : (r : Refusal) → Some r ≡ None → ⊥
-some_none r e = cc
 
 -- an image of a state
 image_of : ℕ → Image

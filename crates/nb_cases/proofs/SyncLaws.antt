@@ -1,14 +1,8 @@
 -- The table of the syncs of a page write: each cell has the syncs of its state.
-use Rattle.std.proofs.Common.{◌≡◌, ◌≢◌, ℕ, zero, suc, List, [], ◌∷◌, refl, sym, ap, ◌∙◌, arith}
-use Rattle.std.specs.Prelude.{Bool, true, false, not, ◌&&◌, Option, Some, None, is_some}
+use Rattle.std.proofs.Common.{◌≡◌, ◌≢◌, ℕ, zero, suc, List, [], ◌∷◌, refl, sym, ap, ◌∙◌, arith, Bool, true, false, not, ◌&&◌, Option, Some, None, is_some}
+use Rattle.nb_cases.proofs.Common.{normal_state, stalled_state, merge_state, Base, Page, image_state, entry_for, noted, on_base, page, AreTheSyncs, IsKept, SyncsOf, syncs_at}
 use Rattle.std.proofs.lemmas.Bool.{true≢false, ne_eqb}
-use Rattle.nb_fields.specs.States.{normal_state, stalled_state, merge_state}
-use Rattle.nb_model.specs.Account.{Base}
-use Rattle.nb_model.specs.Image.{Page, image_state}
-use Rattle.nb_model.specs.Owner.{entry_for}
-use Rattle.nb_model.specs.Strokes.{noted, on_base, page}
 use Rattle.nb_model.proofs.EntryLaws.{noted_none}
-use Rattle.nb_cases.specs.Syncs.{AreTheSyncs, IsKept, SyncsOf, syncs_at}
 use Rattle.nb_cases.specs.declared.syncs.Syncs.{Syncs}
 use Rattle.nb_cases.proofs.EventLaws.{diverts_none_merge, diverts_none_normal, diverts_stalled}
 

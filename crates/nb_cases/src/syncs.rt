@@ -1,8 +1,7 @@
 // Which files a page write syncs.
 ghost use Rattle.std.specs.Prelude.{◌≡◌, ◌<◌, ◌≤◌, false};
 ghost use Rattle.nb_fields.specs.States.{normal_state};
-ghost use Rattle.nb_cases.specs.Syncs.{AreTheSyncs, IsKept, SyncsOf, column_of, row_of, syncs_at};
-ghost use Rattle.nb_model.specs.Account.{Base};
+ghost use Rattle.nb_cases.specs.Syncs.{AreTheSyncs, SyncsOf, row_of, syncs_at};
 
 use nb_fields::{CaseTable, cases};
 

@@ -1,31 +1,17 @@
 -- The line of each restore point is a chain.
-use Rattle.std.proofs.Common.{◌≡◌, ℕ, zero, suc, ◌+◌, ◌<◌, List, [], ◌∷◌, ◌++◌, length, map, refl, sym, ap, subst, ◌∙◌, arith, append_assoc}
-use Rattle.std.specs.Prelude.{true, Option, Some, None, Ok, is_some, Contains}
-use Rattle.std.specs.List.{slice_index_or}
-use Rattle.std.proofs.lemmas.List.{append-nil, map-append, get_or-map}
-use Rattle.std.proofs.lemmas.List.Quantifiers.{position-Some}
-use Rattle.nb_host.specs.Files.{Files}
-use Rattle.nb_model.specs.Restoring.{Link, first_link, next_link, next_links, linked, verdict}
-use Rattle.nb_level.specs.declared.head.LevelHead.{LevelHead}
-use Rattle.nb_chain.proofs.LinkLaws.{first_there}
-use Rattle.nb_catalog.specs.declared.entry.Entry.{Entry}
-use Rattle.nb_catalog.specs.Heads.{whole_head, read_files}
-use Rattle.nb_catalog.specs.Lines.{is_parent, parent, parents_of, line_at}
-use Rattle.nb_catalog.specs.Plans.{entries_of, line, is_point, points}
-use Rattle.nb_catalog.specs.Chained.{names_at, IsChained}
+use Rattle.std.proofs.Common.{◌≡◌, ℕ, zero, suc, ◌+◌, ◌<◌, List, [], ◌∷◌, ◌++◌, length, map, refl, sym, ap, subst, ◌∙◌, arith, append_assoc, true, Option, Some, None, Ok, is_some, Contains}
+use Rattle.nb_catalog.proofs.Common.{slice_index_or, append-nil, map-append, get_or-map, position-Some, Files, Link, first_link, next_link, next_links, linked, verdict, LevelHead, Entry, whole_head, read_files, is_parent, parent, parents_of, line_at, entries_of, line, is_point, points, names_at, IsChained}
 use Rattle.nb_catalog.proofs.InLaws.{in_from, in_filter}
 use Rattle.nb_catalog.proofs.EntryLaws.{entry_at, in_entries}
 use Rattle.nb_catalog.proofs.LineLaws.{line_split, length-line}
 use Rattle.nb_catalog.proofs.ReadLaws.{IsRead, is_read, each_read, parent_level}
+use Rattle.nb_model.proofs.ChainLaws.{none_left}
+use Rattle.nb_model.proofs.WholeLaws.{verdict_there}
 
 -- a file after another in a chain
 next_there : (files : Files) (k : ℕ) (last l : Link) (name bytes : List ℕ) (names : List (List ℕ)) → files name ≡ Some bytes → next_link k last name bytes ≡ Ok l → next_links files k last (name ∷ names) ≡ linked l (next_links files (k + 1) l names)
 unfolding next_links
 next_there files k last l name bytes names there accepted = rw (there, next_links) (rw (accepted, next_links) refl)
-
-none_next : (files : Files) (k : ℕ) (last : Link) → next_links files k last [] ≡ Ok []
-unfolding next_links
-none_next files k last = refl
 
 -- with it the chain goes on
 goes_on : (files : Files) (level : ℕ) (before l : Link) (name bytes : List ℕ) (behind : List (List ℕ)) (ls : List Link) → files name ≡ Some bytes → next_link (level + 1) before name bytes ≡ Ok l
@@ -44,7 +30,7 @@ names_joined names l front place behind is =
 begins_with : (files : Files) (names : List (List ℕ)) (l : List ℕ) (place : ℕ) (bytes : List ℕ) (link : Link) (behind : List (List ℕ)) (ls : List Link) → place ∷ [] ≡ l → files (slice_index_or names place []) ≡ Some bytes
     → first_link (slice_index_or names place []) bytes ≡ Ok link → next_links files 1 link behind ≡ Ok ls → verdict files (names_at names l ++ behind) ≡ Ok (link ∷ ls)
 begins_with files names l place bytes link behind ls same there accepted next =
-    ap (λ (ps : List ℕ). verdict files (names_at names ps ++ behind)) (sym same) ∙ first_there files (slice_index_or names place []) behind bytes link there accepted ∙ ap (linked link) next
+    ap (λ (ps : List ℕ). verdict files (names_at names ps ++ behind)) (sym same) ∙ verdict_there files (slice_index_or names place []) behind bytes link there accepted ∙ ap (linked link) next
 
 module _ (files : Files) (names : List (List ℕ)) (heads : List LevelHead) (read : read_files files names ≡ Ok heads) where
   abbrev head : ℕ → LevelHead
@@ -94,7 +80,7 @@ module _ (files : Files) (names : List (List ℕ)) (heads : List LevelHead) (rea
   at_entry i within lined =
       let found = some_line (line heads (entry_at i (head i))) lined in
       let is = file_at i within in
-      let chain = chain_from (head i).level i found.0 found.1 within refl [] [] (none_next files ((head i).level + 1) is.link) in
+      let chain = chain_from (head i).level i found.0 found.1 within refl [] [] (none_left files ((head i).level + 1) is.link) in
       let long = length-line (parents_of heads) (head i).level i found.0 found.1 in
       record {
         chain = found.0;

@@ -1,10 +1,6 @@
 -- The files of a catalogue with their places.
 use Rattle.std.proofs.Common.{◌≡◌, inl, inr, ℕ, suc, ◌+◌, ◌<◌, ◌≤◌, List, [], ◌∷◌, ◌++◌, length, drop, refl, sym, ap, ◌∙◌, arith, append_assoc}
-use Rattle.std.specs.List.{slice_index_or}
-use Rattle.std.proofs.lemmas.List.{append-nil, at_drop_more, at_drop_all}
-use Rattle.nb_level.specs.declared.head.LevelHead.{LevelHead}
-use Rattle.nb_catalog.specs.declared.entry.Entry.{Entry}
-use Rattle.nb_catalog.specs.Plans.{entries_from, entries_of}
+use Rattle.nb_catalog.proofs.Common.{slice_index_or, append-nil, at_drop_more, at_drop_all, LevelHead, Entry, entries_from, entries_of}
 use Rattle.nb_catalog.proofs.InLaws.{In}
 
 abbrev pub entry_at : ℕ → LevelHead → Entry

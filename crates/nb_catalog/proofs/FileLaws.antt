@@ -1,17 +1,6 @@
 -- Reading files one by one.
-use Rattle.std.proofs.Common.{◌≡◌, ℕ, ◌+◌, ◌<◌, ◌≤◌, List, [], ◌∷◌, ◌++◌, length, drop, refl, sym, ap, subst, ◌∙◌, arith, append_assoc}
-use Rattle.std.specs.Prelude.{Result, Ok, Err, sum_by}
-use Rattle.std.specs.List.{slice_index_or}
-use Rattle.std.proofs.lemmas.List.{append-nil, at_drop_more, at_drop_all}
-use Rattle.std.proofs.lemmas.List.Sums.{sum_by-drop_more}
-use Rattle.nb_host.specs.Files.{Files}
-use Rattle.nb_host.specs.declared.faults.Fault.{Fault}
-use Rattle.nb_host.specs.declared.faults.Fault.TheVariants.{Refused, Device, Memory}
-use Rattle.nb_host.specs.declared.refusals.Refusal.{Refusal}
-use Rattle.nb_level.specs.declared.head.LevelHead.{LevelHead}
-use Rattle.nb_catalog.specs.Answers.{Says, with_first}
-use Rattle.nb_catalog.specs.Heads.{read_file, read_files}
-use Rattle.nb_catalog.specs.Reads.{reads_of, all_reads}
+use Rattle.std.proofs.Common.{◌≡◌, ℕ, ◌+◌, ◌<◌, ◌≤◌, List, [], ◌∷◌, ◌++◌, length, drop, refl, sym, ap, subst, ◌∙◌, arith, append_assoc, Result, Ok, Err, sum_by}
+use Rattle.nb_catalog.proofs.Common.{slice_index_or, append-nil, at_drop_more, at_drop_all, sum_by-drop_more, Files, Fault, Refused, Device, Memory, Refusal, LevelHead, Says, with_first, read_file, read_files, reads_of, all_reads}
 
 -- with all of these in front
 abbrev pub with_all : {T : Type 0} → List T → Result (List T) Refusal → Result (List T) Refusal

@@ -1,27 +1,13 @@
 -- What the answers of the calls below say of a file.
-use Rattle.std.proofs.Common.{◌≡◌, ℕ, ◌-◌, List, take, drop, refl, sym, ap, ◌∙◌, arith, nat_eq, ◌+◌, length, ◌≤◌}
-use Rattle.std.specs.Prelude.{Bool, true, false, Some, None, Result, Ok, Err, IfOk}
+use Rattle.std.proofs.Common.{◌≡◌, ℕ, ◌-◌, List, take, drop, refl, sym, ap, ◌∙◌, arith, nat_eq, ◌+◌, length, ◌≤◌, Bool, true, false, Some, None, Result, Ok, Err, IfOk}
+use Rattle.nb_catalog.proofs.Common.{take-take, File, bytes_of, Fault, Refused, Device, Memory, Refusal, NoFile, BadLevel, ChainLevel, Cause, Head, Contents, begins_level, level_signature, read_level, Link, first_link, not_whole, whole_link, LevelHead, Says, level_head, whole_head, read_file, WholeSays, IsWhole, reads_of}
 use Rattle.std.specs.Cmp.Lexicographic.{pointwise}
-use Rattle.std.proofs.lemmas.List.{take-take}
-use Rattle.nb_host.specs.Files.{File, bytes_of}
-use Rattle.nb_host.specs.declared.faults.Fault.{Fault}
-use Rattle.nb_host.specs.declared.faults.Fault.TheVariants.{Refused, Device, Memory}
-use Rattle.nb_host.specs.declared.refusals.Refusal.{Refusal}
-use Rattle.nb_host.specs.declared.refusals.Refusal.TheVariants.{NoFile, BadLevel, ChainLevel}
 use Rattle.nb_page.specs.Header.{header_in}
 use Rattle.nb_page.specs.declared.header.Header.{Header}
-use Rattle.nb_model.specs.Causes.{Cause}
-use Rattle.nb_model.specs.Levels.{Head, Contents, begins_level, level_signature, read_level}
-use Rattle.nb_model.specs.Restoring.{Link, first_link, not_whole, whole_link}
 use Rattle.nb_model.specs.Stands.{nil}
 use Rattle.nb_model.proofs.StandsLaws.{not_level}
-use Rattle.nb_level.specs.declared.head.LevelHead.{LevelHead}
 use Rattle.nb_chain.specs.declared.first_file.First.{First}
 use Rattle.nb_chain.specs.First.{FirstSays}
-use Rattle.nb_catalog.specs.Answers.{Says}
-use Rattle.nb_catalog.specs.Heads.{level_head, whole_head, read_file}
-use Rattle.nb_chain.specs.Level.{WholeSays, IsWhole}
-use Rattle.nb_catalog.specs.Reads.{reads_of}
 
 -- four bytes tell a level file
 pub first_begins : (first bytes : List ℕ) → first ≡ take 4 (drop 0 bytes) → begins_level first ≡ begins_level bytes

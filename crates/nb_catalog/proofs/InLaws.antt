@@ -1,7 +1,6 @@
 -- What is among the elements of a list, element by element.
-use Rattle.std.proofs.Common.{◌≡◌, inl, inr, ℕ, zero, suc, ◌<◌, List, [], ◌∷◌, length, map, refl, sym, ap, ◌∙◌, arith}
-use Rattle.std.specs.Prelude.{◌⊎◌, Bool, true, false, ◌||◌, cond, filter, Contains}
-use Rattle.std.specs.List.{list_any, slice_index_or}
+use Rattle.std.proofs.Common.{◌≡◌, inl, inr, ℕ, zero, suc, ◌<◌, List, [], ◌∷◌, length, map, refl, sym, ap, ◌∙◌, arith, ◌⊎◌, Bool, true, false, ◌||◌, cond, filter, Contains}
+use Rattle.nb_catalog.proofs.Common.{list_any, slice_index_or, or_true}
 
 abbrev pub In : {X : Type 0} → List X → X → Type 0
 In [] x = ⊥
@@ -35,10 +34,6 @@ pub in_map : {X Y : Type 0} (f : X → Y) (xs : List X) (y : Y) → In (map f xs
 in_map f [] y is = absurd is
 in_map f (x ∷ xs) y (inl same) = (x, inl refl, same)
 in_map f (x ∷ xs) y (inr is) = let found = in_map f xs y is in (found.0, inr found.1, found.2)
-
-or_true : (b : Bool) → (b || true) ≡ true
-or_true true = refl
-or_true false = refl
 
 -- one that passes is found
 pub any_of : {X : Type 0} (test : X → Bool) (xs : List X) (x : X) → In xs x → test x ≡ true → list_any test xs ≡ true

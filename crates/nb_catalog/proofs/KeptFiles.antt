@@ -1,19 +1,6 @@
 -- The files of a kept line by their names.
-use Rattle.std.proofs.Common.{◌≡◌, inl, inr, ℕ, zero, suc, ◌+◌, ◌<◌, List, [], ◌∷◌, length, refl, sym, ap, subst, ◌∙◌, arith}
-use Rattle.std.specs.Prelude.{◌⊎◌, Option, Some, None, Result, Ok, Err, Contains}
-use Rattle.std.specs.List.{slice_index_or}
-use Rattle.std.proofs.lemmas.List.{get_or-map}
-use Rattle.std.proofs.lemmas.List.Quantifiers.{position-Some}
-use Rattle.nb_host.specs.Files.{Files}
-use Rattle.nb_host.specs.declared.refusals.Refusal.{Refusal}
-use Rattle.nb_level.specs.declared.head.LevelHead.{LevelHead}
-use Rattle.nb_catalog.specs.declared.entry.Entry.{Entry}
-use Rattle.nb_catalog.specs.Answers.{with_first}
-use Rattle.nb_catalog.specs.Chained.{IsSafe, KeepsFiles, names_at}
-use Rattle.nb_catalog.specs.Heads.{read_file, read_files, whole_head}
-use Rattle.nb_catalog.specs.Lines.{is_parent, parent, parents_of, line_at}
-use Rattle.nb_catalog.specs.NameLists.{AreDistinct}
-use Rattle.nb_catalog.specs.Plans.{ArePlaces, Retention, entries_of, is_point, plan_of, points}
+use Rattle.std.proofs.Common.{◌≡◌, inl, inr, ℕ, zero, suc, ◌+◌, ◌<◌, List, [], ◌∷◌, length, refl, sym, ap, subst, ◌∙◌, arith, ◌⊎◌, Some, None, Result, Ok, Err, Contains}
+use Rattle.nb_catalog.proofs.Common.{slice_index_or, get_or-map, position-Some, Files, Refusal, LevelHead, Entry, with_first, IsSafe, KeepsFiles, names_at, read_file, read_files, whole_head, is_parent, parent, parents_of, line_at, AreDistinct, ArePlaces, Retention, entries_of, is_point, plan_of, points, err_ok, ok_equal, some_same}
 use Rattle.nb_catalog.proofs.EntryLaws.{in_entries}
 use Rattle.nb_catalog.proofs.FileLaws.{by_first, none_left}
 use Rattle.nb_catalog.proofs.InLaws.{In, in_from, in_to, in_filter, in_map}
@@ -23,22 +10,16 @@ use Rattle.nb_catalog.proofs.PlaceLaws.{plan_within}
 use Rattle.nb_catalog.proofs.WholeLaws.{in_last}
 
 -- as many heads are read as there are names
-heads_ok : (a b : List LevelHead) → ◌≡◌ {A = Result (List LevelHead) Refusal} (Ok a) (Ok b) → a ≡ b
-heads_ok a b e = cc
-
-no_heads : (r : Refusal) (heads : List LevelHead) → ◌≡◌ {A = Result (List LevelHead) Refusal} (Err r) (Ok heads) → ⊥
-no_heads r heads e = cc
-
 heads_counted : (files : Files) (names : List (List ℕ)) (heads : List LevelHead) → read_files files names ≡ Ok heads → length heads ≡ length names
-heads_counted files [] heads is = sym (ap length (heads_ok [] heads (sym (none_left files) ∙ is)))
+heads_counted files [] heads is = sym (ap length (ok_equal {T = List LevelHead} {E = Refusal} [] heads (sym (none_left files) ∙ is)))
 heads_counted files (name ∷ names) heads is = by (read_file name (files name)) refl (heads_counted files names)
   where
     further : (head : LevelHead) (rest : Result (List LevelHead) Refusal) → read_files files names ≡ rest → with_first head rest ≡ Ok heads → ((hs : List LevelHead) → read_files files names ≡ Ok hs → length hs ≡ length names) → length heads ≡ length (name ∷ names)
-    further head (Err r) read e behind = absurd (no_heads r heads e)
-    further head (Ok hs) read e behind = sym (ap length (heads_ok (head ∷ hs) heads e)) ∙ ap suc (behind hs read)
+    further head (Err r) read e behind = absurd (err_ok r heads e)
+    further head (Ok hs) read e behind = sym (ap length (ok_equal {T = List LevelHead} {E = Refusal} (head ∷ hs) heads e)) ∙ ap suc (behind hs read)
 
     by : (r : Result LevelHead Refusal) → read_file name (files name) ≡ r → ((hs : List LevelHead) → read_files files names ≡ Ok hs → length hs ≡ length names) → length heads ≡ length (name ∷ names)
-    by (Err r) read behind = absurd (no_heads r heads (sym (by_first files name names (Err r) read) ∙ is))
+    by (Err r) read behind = absurd (err_ok r heads (sym (by_first files name names (Err r) read) ∙ is))
     by (Ok head) read behind = further head (read_files files names) refl (sym (by_first files name names (Ok head) read) ∙ is) behind
 
 -- a place among some
@@ -51,11 +32,8 @@ module _ (heads : List LevelHead) where
   -- each place of a line is one of the list
   line_within : (level place : ℕ) (l : List ℕ) → line_at (parents_of heads) level place ≡ Some l → place < length heads → (p : ℕ) → In l p → p < length heads
   unfolding line_at
-  line_within zero place l lined within p is = by (subst (λ (ps : List ℕ). In ps p) (sym (one_place lined)) is)
+  line_within zero place l lined within p is = by (subst (λ (ps : List ℕ). In ps p) (sym (some_same {X = List ℕ} (place ∷ []) l lined)) is)
     where
-      one_place : ◌≡◌ {A = Option (List ℕ)} (Some (place ∷ [])) (Some l) → place ∷ [] ≡ l
-      one_place e = cc
-
       by : In (place ∷ []) p → p < length heads
       by (inl same) = subst (λ (n : ℕ). n < length heads) same within
       by (inr none) = absurd none

@@ -1,11 +1,6 @@
 -- What a plan drops is in no line of a kept point.
-use Rattle.std.proofs.Common.{◌≡◌, ℕ, List, refl, sym, ap, subst, ◌∙◌, eq-eqb}
-use Rattle.std.specs.Prelude.{Bool, true, false, not, ◌==◌, nat_lt, Option, Some, filter, count_by, option_map, unwrap_or, Contains}
-use Rattle.nb_level.specs.declared.head.LevelHead.{LevelHead}
-use Rattle.nb_catalog.specs.declared.entry.Entry.{Entry}
-use Rattle.nb_catalog.specs.Lines.{parents_of, is_among}
-use Rattle.nb_catalog.specs.Plans.{line, points, kept, dropped, is_newer, is_in_line, is_needed, plan_of, Retention}
-use Rattle.nb_catalog.specs.Chained.{IsSafe}
+use Rattle.std.proofs.Common.{◌≡◌, ℕ, List, refl, sym, ap, subst, ◌∙◌, eq-eqb, Bool, true, false, not, ◌==◌, nat_lt, Option, Some, filter, count_by, option_map, Contains}
+use Rattle.nb_catalog.proofs.Common.{unwrap_or, LevelHead, Entry, parents_of, is_among, line, points, kept, dropped, is_newer, is_in_line, is_needed, plan_of, Retention, IsSafe}
 use Rattle.nb_catalog.proofs.InLaws.{in_from, in_to, in_filter, in_map, any_of}
 
 module _ (heads : List LevelHead) (keep : ℕ) where

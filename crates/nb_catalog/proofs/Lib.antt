@@ -13,3 +13,4 @@ pub mod WholeLaws
 pub mod PlaceLaws
 pub mod DistinctLaws
 pub mod KeptFiles
+mod Common

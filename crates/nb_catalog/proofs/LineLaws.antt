@@ -1,13 +1,7 @@
 -- The line of a file, step by step.
-use Rattle.std.proofs.Common.{◌≡◌, ◌≢◌, ℕ, zero, suc, ◌+◌, ◌-◌, ◌==◌, List, [], ◌∷◌, ◌++◌, Bool, true, false, refl, sym, ap, ◌∙◌, arith, length, length-append}
-use Rattle.std.specs.Prelude.{◌||◌, Option, Some, None, option_map}
-use Rattle.std.specs.List.{slice_index_or, list_any}
+use Rattle.std.proofs.Common.{◌≡◌, ◌≢◌, ℕ, zero, suc, ◌+◌, ◌-◌, ◌==◌, List, [], ◌∷◌, ◌++◌, Bool, refl, sym, ap, ◌∙◌, arith, length, length-append, ◌||◌, Option, Some, None, option_map}
+use Rattle.nb_catalog.proofs.Common.{slice_index_or, list_any, line_at, is_among, or_false}
 use Rattle.std.proofs.lemmas.List.Folds.{list_any-append}
-use Rattle.nb_catalog.specs.Lines.{line_at, is_among}
-
-or_false : (b : Bool) → (b || false) ≡ b
-or_false true = refl
-or_false false = refl
 
 -- a file of level 0 alone is its line
 pub line_of_zero : (parents : List (Option ℕ)) (level place : ℕ) → level ≡ 0 → line_at parents level place ≡ Some (place ∷ [])

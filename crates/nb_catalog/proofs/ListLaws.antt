@@ -1,14 +1,6 @@
 -- Reading names line by line.
-use Rattle.std.proofs.Common.{◌≡◌, ◌≢◌, inl, inr, ℕ, zero, suc, ◌+◌, ◌-◌, ◌≤◌, List, [], ◌∷◌, ◌++◌, length, refl, sym, ap, ◌∙◌, arith, length-append}
-use Rattle.std.specs.Prelude.{true, false, Result, Ok, Err}
-use Rattle.std.proofs.lemmas.Bool.{cases_Bool, cond-true, cond-false}
-use Rattle.std.proofs.lemmas.List.{append-nil}
-use Rattle.nb_host.specs.declared.refusals.Refusal.{Refusal}
-use Rattle.nb_host.specs.declared.refusals.Refusal.TheVariants.{BadScript}
-use Rattle.nb_script.specs.Words.{Bytes}
-use Rattle.nb_script.specs.Scripts.{Numbered}
-use Rattle.nb_catalog.specs.Answers.{with_first}
-use Rattle.nb_catalog.specs.NameLists.{is_next, names_on}
+use Rattle.std.proofs.Common.{◌≡◌, ◌≢◌, inl, inr, ℕ, zero, suc, ◌+◌, ◌-◌, ◌≤◌, List, [], ◌∷◌, ◌++◌, length, refl, sym, ap, ◌∙◌, arith, length-append, true, false, Result, Ok, Err}
+use Rattle.nb_catalog.proofs.Common.{cases_Bool, cond-true, cond-false, append-nil, Refusal, BadScript, Bytes, Numbered, with_first, is_next, names_on}
 use Rattle.nb_catalog.proofs.FileLaws.{with_all, with_all-first}
 
 no_lines : (most : ℕ) (before : List Bytes) → names_on most before [] ≡ Ok []

@@ -1,12 +1,6 @@
 -- The places of a plan are those of files of the list.
-use Rattle.std.proofs.Common.{◌≡◌, ◌∙◌, ℕ, zero, suc, ◌+◌, ◌<◌, ◌≤◌, List, [], ◌∷◌, ◌++◌, length, take, get_or, sym, ap, ap₂, subst, arith}
-use Rattle.std.specs.Prelude.{Bool, true, false, cond, filter, not}
-use Rattle.std.specs.List.{AllByRecursion, slice_index_or}
-use Rattle.std.proofs.lemmas.List.{take_more, map-append}
-use Rattle.nb_level.specs.declared.head.LevelHead.{LevelHead}
-use Rattle.nb_catalog.specs.declared.entry.Entry.{Entry}
-use Rattle.nb_catalog.specs.Chained.{names_at}
-use Rattle.nb_catalog.specs.Plans.{ArePlaces, IsWithin, Retention, entries_from, entries_of, is_needed, is_point, places, plan_of, points}
+use Rattle.std.proofs.Common.{◌≡◌, ℕ, zero, suc, ◌+◌, ◌<◌, ◌≤◌, List, [], ◌∷◌, length, get_or, sym, subst, arith, Bool, true, false, cond, filter, not}
+use Rattle.nb_catalog.proofs.Common.{AllByRecursion, LevelHead, Entry, ArePlaces, IsWithin, Retention, entries_from, entries_of, is_needed, is_point, places, plan_of, points}
 
 -- what holds of all holds of some of them
 some_of : {X : Type 0} (P : X → Type 0) (test : X → Bool) (xs : List X) → AllByRecursion P xs → AllByRecursion P (filter test xs)
@@ -40,10 +34,3 @@ pub place_at : (count : ℕ) (places : List ℕ) (i d : ℕ) → ArePlaces count
 place_at count [] i d all low = absurd (omega (arith, low))
 place_at count (p ∷ ps) zero d all low = all.0
 place_at count (p ∷ ps) (suc i) d all low = place_at count ps i d all.1 (omega (arith, low))
-
--- one name more
-pub names_more : (names : List (List ℕ)) (places : List ℕ) (i d : ℕ) (list new : List (List ℕ)) (name : List ℕ) → i < length places → list ≡ names_at names (take i places) → name ≡ slice_index_or names (get_or places i d) []
-    → new ≡ list ++ name ∷ [] → new ≡ names_at names (take (i + 1) places)
-names_more names places i d list new name low so_far is put =
-    let at : ℕ → List ℕ = λ place. slice_index_or names place [] in
-    put ∙ ap₂ (λ (xs : List (List ℕ)) (x : List ℕ). xs ++ x ∷ []) so_far is ∙ sym (ap (names_at names) (take_more places i d low) ∙ map-append at (take i places) (get_or places i d ∷ []))

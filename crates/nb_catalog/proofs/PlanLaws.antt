@@ -1,10 +1,6 @@
 -- A plan by its parts.
-use Rattle.std.proofs.Common.{◌≡◌, ℕ, List, ap, ap₂, ◌∙◌}
-use Rattle.std.specs.Prelude.{Option, filter, count_by, is_some, not}
-use Rattle.nb_level.specs.declared.head.LevelHead.{LevelHead}
-use Rattle.nb_catalog.specs.declared.entry.Entry.{Entry}
-use Rattle.nb_catalog.specs.Lines.{parents_of}
-use Rattle.nb_catalog.specs.Plans.{entries_of, points, kept, line_by, newest, is_in_lines, places, plan_of}
+use Rattle.std.proofs.Common.{◌≡◌, ℕ, List, ap, ap₂, ◌∙◌, Option, filter, count_by, is_some, not}
+use Rattle.nb_catalog.proofs.Common.{LevelHead, Entry, parents_of, entries_of, points, kept, line_by, newest, is_in_lines, places, plan_of}
 
 module _ (heads : List LevelHead) (keep : ℕ) (ps : List (Option ℕ)) (es lined last : List Entry) (parents_are : ps ≡ parents_of heads) (entries_are : es ≡ entries_of heads)
     (lined_are : lined ≡ filter (λ e. is_some (line_by ps e)) es) (last_are : last ≡ newest keep lined) where

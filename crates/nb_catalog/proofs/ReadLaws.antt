@@ -1,20 +1,8 @@
 -- A file that was read, in a chain.
-use Rattle.std.proofs.Common.{◌≡◌, ℕ, zero, suc, ◌+◌, ◌<◌, ◌≤◌, List, [], ◌∷◌, length, refl, sym, ap, ◌∙◌, arith, eq-eqb}
-use Rattle.std.specs.Prelude.{Bool, true, false, ◌==◌, nat_le, Some, None, Result, Ok, Err}
-use Rattle.std.specs.List.{slice_index_or}
-use Rattle.std.proofs.lemmas.Bool.{and_parts, leb-true, eqb-true}
-use Rattle.nb_host.specs.Files.{File, Files}
-use Rattle.nb_host.specs.Names.{same_name}
-use Rattle.nb_host.specs.declared.refusals.Refusal.{Refusal}
-use Rattle.nb_model.specs.Causes.{Cause, first_cause}
-use Rattle.nb_model.specs.Levels.{Contents, begins_level, read_level}
-use Rattle.nb_model.specs.Restoring.{Link, level_link, whole_link, first_link, next_link, not_behind, not_whole}
-use Rattle.nb_level.specs.declared.head.LevelHead.{LevelHead}
+use Rattle.std.proofs.Common.{◌≡◌, ℕ, zero, suc, ◌+◌, ◌<◌, ◌≤◌, List, [], ◌∷◌, length, refl, sym, ap, ◌∙◌, arith, eq-eqb, Bool, true, false, ◌==◌, nat_le, Some, None, Result, Ok, Err}
+use Rattle.nb_catalog.proofs.Common.{slice_index_or, and_parts, leb-true, eqb-true, File, Files, same_name, Refusal, Cause, first_cause, Contents, begins_level, read_level, Link, level_link, whole_link, first_link, next_link, not_behind, not_whole, LevelHead, with_first, level_head, whole_head, read_file, read_files, is_parent}
 use Rattle.nb_level.proofs.ToldLaws.{level_told}
 use Rattle.nb_chain.proofs.StartLaws.{first_whole, next_accepted}
-use Rattle.nb_catalog.specs.Answers.{with_first}
-use Rattle.nb_catalog.specs.Heads.{level_head, whole_head, read_file, read_files}
-use Rattle.nb_catalog.specs.Lines.{is_parent}
 use Rattle.nb_catalog.proofs.HeadLaws.{read_none, read_level_ok, read_level_err, by_cause}
 use Rattle.nb_catalog.proofs.FileLaws.{none_left, by_first}
 

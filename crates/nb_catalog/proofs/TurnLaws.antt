@@ -1,26 +1,9 @@
 -- A plan by what the files are read as.
-use Rattle.std.proofs.Common.{◌≡◌, ℕ, List, refl, sym, ap, ◌∙◌}
-use Rattle.std.specs.Prelude.{Result, Ok, Err}
-use Rattle.nb_host.specs.Files.{Files}
-use Rattle.nb_host.specs.declared.faults.Fault.{Fault}
-use Rattle.nb_host.specs.declared.faults.Fault.TheVariants.{Refused, Device, Memory}
-use Rattle.nb_host.specs.declared.refusals.Refusal.{Refusal}
-use Rattle.nb_level.specs.declared.head.LevelHead.{LevelHead}
-use Rattle.nb_catalog.specs.Answers.{Says}
-use Rattle.nb_catalog.specs.Heads.{read_files}
-use Rattle.nb_catalog.specs.Plans.{Retention, plan_of}
-use Rattle.nb_catalog.specs.Chained.{IsSafe, KeepsChains, KeepsFiles}
-use Rattle.nb_catalog.specs.NameLists.{AreDistinct}
-use Rattle.nb_catalog.specs.Turns.{planned}
+use Rattle.std.proofs.Common.{◌≡◌, ℕ, List, refl, sym, ap, ◌∙◌, Result, Ok, Err}
+use Rattle.nb_catalog.proofs.Common.{Files, Fault, Refused, Device, Memory, Refusal, LevelHead, Says, read_files, Retention, plan_of, IsSafe, KeepsChains, KeepsFiles, AreDistinct, planned, err_ok, ok_equal}
 use Rattle.nb_catalog.proofs.ChainLaws.{points_chained}
 use Rattle.nb_catalog.proofs.KeptFiles.{keeps_files}
 use Rattle.nb_catalog.proofs.KeptLaws.{is_safe}
-
-err_ok : (refusal : Refusal) (plan : Retention) → Err refusal ≡ Ok plan → ⊥
-err_ok refusal plan h = cc
-
-same_plan : (a b : Retention) → ◌≡◌ {A = Result Retention Refusal} (Ok a) (Ok b) → a ≡ b
-same_plan a b h = cc
 
 module _ (files : Files) (names : List (List ℕ)) (keep : ℕ) where
   by_heads : (r : Result (List LevelHead) Refusal) → read_files files names ≡ r → planned files names keep ≡ elim r [ Err refusal ↦ Err refusal | Ok heads ↦ Ok (plan_of heads keep) ]
@@ -42,9 +25,9 @@ module _ (files : Files) (names : List (List ℕ)) (keep : ℕ) where
       by : (r : Result (List LevelHead) Refusal) → read_files files names ≡ r → KeepsChains files names keep plan
       by (Err refusal) read = absurd (err_ok refusal plan (sym (by_heads (Err refusal) read) ∙ is))
       by (Ok heads) read =
-          let safe : IsSafe heads keep plan = is_safe heads keep plan (same_plan plan (plan_of heads keep) (sym is ∙ by_heads (Ok heads) read)) in
-          record { heads = heads; read = read; chained = λ e kept. points_chained files names heads read e (safe.points e kept); safe = safe; by_name = keeps_files files names heads keep plan read (same_plan plan (plan_of heads keep) (sym is ∙ by_heads (Ok heads) read)) }
+          let safe : IsSafe heads keep plan = is_safe heads keep plan (ok_equal {T = Retention} {E = Refusal} plan (plan_of heads keep) (sym is ∙ by_heads (Ok heads) read)) in
+          record { heads = heads; read = read; chained = λ e kept. points_chained files names heads read e (safe.points e kept); safe = safe; by_name = keeps_files files names heads keep plan read (ok_equal {T = Retention} {E = Refusal} plan (plan_of heads keep) (sym is ∙ by_heads (Ok heads) read)) }
 
   -- so no file of a kept line by its name, where no name stands twice
   pub keeps_listed : (heads : List LevelHead) (plan : Retention) → planned files names keep ≡ Ok plan → read_files files names ≡ Ok heads → AreDistinct names → KeepsFiles names heads keep plan
-  keeps_listed heads plan is read = keeps_files files names heads keep plan read (same_plan plan (plan_of heads keep) (sym is ∙ by_heads (Ok heads) read))
+  keeps_listed heads plan is read = keeps_files files names heads keep plan read (ok_equal {T = Retention} {E = Refusal} plan (plan_of heads keep) (sym is ∙ by_heads (Ok heads) read))

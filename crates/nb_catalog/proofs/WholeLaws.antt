@@ -1,15 +1,6 @@
 -- Each file is needed, dropped or an orphan.
-use Rattle.std.proofs.Common.{◌≡◌, inl, inr, ℕ, zero, suc, ◌+◌, ◌<◌, List, [], ◌∷◌, ◌++◌, length, refl, sym, ap, subst, ◌∙◌, arith, eqb-true}
-use Rattle.std.specs.Prelude.{◌⊎◌, ◌==◌, Bool, true, false, not, cond, filter, count_by, nat_lt, Option, Some, None, is_some, option_map, unwrap_or, ◌||◌}
-use Rattle.std.specs.List.{list_any, slice_index_or}
-use Rattle.std.proofs.lemmas.List.{get_or-map, length-map}
-use Rattle.std.proofs.lemmas.List.Sums.{sum_by-cons}
-use Rattle.std.proofs.lemmas.List.Quantifiers.{position-Some}
-use Rattle.nb_level.specs.declared.head.LevelHead.{LevelHead}
-use Rattle.nb_catalog.specs.declared.entry.Entry.{Entry}
-use Rattle.nb_catalog.specs.Heads.{whole_head}
-use Rattle.nb_catalog.specs.Lines.{is_parent, parent, parents_of, line_at, is_among}
-use Rattle.nb_catalog.specs.Plans.{entries_of, line, is_point, points, kept, is_newer, is_in_line, is_needed, plan_of, Retention}
+use Rattle.std.proofs.Common.{◌≡◌, inl, inr, ℕ, zero, suc, ◌+◌, ◌<◌, List, [], ◌∷◌, ◌++◌, length, refl, sym, ap, subst, ◌∙◌, arith, eqb-true, ◌⊎◌, ◌==◌, Bool, true, false, not, cond, filter, count_by, nat_lt, Option, Some, None, is_some, option_map, ◌||◌}
+use Rattle.nb_catalog.proofs.Common.{unwrap_or, list_any, slice_index_or, get_or-map, length-map, sum_by-cons, position-Some, LevelHead, Entry, whole_head, is_parent, parent, parents_of, line_at, is_among, entries_of, line, is_point, points, kept, is_newer, is_in_line, is_needed, plan_of, Retention}
 use Rattle.nb_catalog.proofs.InLaws.{In, in_filter}
 use Rattle.nb_catalog.proofs.EntryLaws.{entry_at, in_entries, length-entries}
 use Rattle.nb_catalog.proofs.LineLaws.{line_split}

@@ -1,31 +1,10 @@
 -- What the answers of the calls below say of a file of a chain.
-use Rattle.std.proofs.Common.{◌≡◌, inl, inr, ℕ, ◌+◌, ◌*◌, ◌≤◌, List, [], length, refl, sym, ap, subst, ◌∙◌, arith}
-use Rattle.std.specs.Prelude.{true, false, ◌==◌, Some, None, Result, Ok, Err, IsErr, IsErrAnd, IfOk}
-use Rattle.std.proofs.lemmas.Bool.{cases_Bool}
-use Rattle.nb_fields.specs.Bytes.{number_in}
-use Rattle.nb_fields.specs.Header.{signature}
-use Rattle.nb_host.specs.Files.{File}
-use Rattle.nb_host.specs.declared.faults.Fault.{Fault}
-use Rattle.nb_host.specs.declared.faults.Fault.TheVariants.{Refused, Device, Memory}
-use Rattle.nb_host.specs.declared.refusals.Refusal.{Refusal}
-use Rattle.nb_host.specs.declared.refusals.Refusal.TheVariants.{BadLevel, ChainLevel}
-use Rattle.nb_page.specs.Header.{header_in}
-use Rattle.nb_model.specs.Levels.{Head, Contents, begins_level, read_level}
-use Rattle.nb_model.specs.Restoring.{not_whole, not_behind, level_link, first_link}
+use Rattle.std.proofs.Common.{◌≡◌, inl, inr, ℕ, ◌+◌, ◌*◌, ◌≤◌, List, [], length, refl, sym, ap, subst, ◌∙◌, arith, true, false, ◌==◌, Some, None, Result, Ok, Err, IfOk}
+use Rattle.nb_chain.proofs.Common.{cases_Bool, number_in, signature, File, Fault, Refused, Device, Memory, Refusal, BadLevel, ChainLevel, header_in, Head, Contents, begins_level, read_level, not_whole, not_behind, level_link, first_link, First, Mark, Tip, FirstSays, FirstRefused, IsRefused, Tested, WholeSays, LevelSays, LevelRefused, IsRead, NextSays, NextRefused, IsNext, tip_link}
 use Rattle.nb_level.specs.Heads.{head_of}
 use Rattle.nb_level.specs.declared.head.LevelHead.{LevelHead}
-use Rattle.nb_chain.specs.declared.first_file.First.{First}
-use Rattle.nb_chain.specs.declared.overlay.Mark.{Mark}
-use Rattle.nb_chain.specs.declared.tip.Tip.{Tip}
-use Rattle.nb_chain.specs.First.{FirstSays, FirstRefused, IsRefused, Tested}
-use Rattle.nb_chain.specs.Level.{WholeSays, LevelSays, LevelRefused, IsRead}
-use Rattle.nb_chain.specs.Next.{NextSays, NextRefused, IsNext, tip_link}
 use Rattle.nb_chain.proofs.StartLaws.{first_whole, first_parted, first_unread, first_level, next_signed, next_other, next_unread, next_refused, next_accepted}
-
--- a fault that is passed on
-pub passed : (T : Type 0) (P : Result T Fault → Type 0) (result : Result T Fault) (fault : Fault) → IsErr result × IsErrAnd result (λ f. f ≡ fault) → P (Err fault) → P result
-passed T P (Ok value) fault is here = absurd is.1
-passed T P (Err e) fault is here = subst (λ (f : Fault). P (Err f)) (sym is.1) here
+use Rattle.nb_host.proofs.PlainLaws.{some_same}
 
 pub whatever : (T : Type 0) (P : Type 0) (result : Result T Fault) → P → IfOk result (λ value. P)
 whatever T P (Ok value) here = here
@@ -38,9 +17,6 @@ level_unread file name bytes before after (Refused r) there begins says =
     first_unread name bytes is.0 begins is.1 ∙ ap (λ (x : Refusal). Err x) (sym is.2)
 level_unread file name bytes before after Device there begins says = tt
 level_unread file name bytes before after Memory there begins says = tt
-
-some_same : (a b : List ℕ) → Some a ≡ Some b → a ≡ b
-some_same a b e = cc
 
 pub level_first : (file : File) (name bytes : List ℕ) (before after : ℕ) (head : LevelHead) → file ≡ Some bytes → begins_level bytes ≡ true → WholeSays file name before after (Ok head)
     → first_link name bytes ≡ Err (ChainLevel name head.level 0)

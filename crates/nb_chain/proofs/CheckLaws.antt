@@ -1,24 +1,11 @@
 -- The verdict on a chain, from what its files are found to be.
-use Rattle.std.proofs.Common.{◌≡◌, ℕ, ◌+◌, ◌*◌, ◌<◌, ◌≤◌, List, [], ◌∷◌, length, refl, sym, ap, ◌∙◌, arith}
-use Rattle.std.specs.Prelude.{Some, None, Err, max}
-use Rattle.nb_fields.specs.Header.{size_of}
+use Rattle.std.proofs.Common.{◌≡◌, ℕ, ◌+◌, ◌*◌, ◌<◌, ◌≤◌, List, [], ◌∷◌, length, refl, sym, ap, ◌∙◌, arith, Some, None, Err, max}
+use Rattle.nb_chain.proofs.Common.{size_of, File, Files, Fault, Refused, Device, Memory, Refusal, header_in, HasForm, Link, whole_link, next_links, linked, verdict, all_over, applied, First, Mark, Tip, is_blank, without_blank, links_noted, CheckSays, IsChain, FirstSays, FirstRefused, IsFirst, LevelsSay, AreNext, tip_link, header_link, last_of}
 use Rattle.nb_fields.proofs.SizeLaws.{size_facts}
-use Rattle.nb_host.specs.Files.{File, Files}
-use Rattle.nb_host.specs.declared.faults.Fault.{Fault}
-use Rattle.nb_host.specs.declared.faults.Fault.TheVariants.{Refused, Device, Memory}
-use Rattle.nb_host.specs.declared.refusals.Refusal.{Refusal}
-use Rattle.nb_page.specs.Header.{header_in, HasForm}
-use Rattle.nb_model.specs.Restoring.{Link, whole_link, next_links, linked, verdict, all_over, applied}
-use Rattle.nb_chain.specs.declared.first_file.First.{First}
-use Rattle.nb_chain.specs.declared.overlay.Mark.{Mark}
-use Rattle.nb_chain.specs.declared.tip.Tip.{Tip}
-use Rattle.nb_chain.specs.Overlay.{is_blank, without_blank, links_noted}
-use Rattle.nb_chain.specs.Chain.{CheckSays, IsChain}
-use Rattle.nb_chain.specs.First.{FirstSays, FirstRefused, IsFirst}
-use Rattle.nb_chain.specs.Next.{LevelsSay, AreNext, tip_link, header_link, last_of}
 use Rattle.nb_chain.proofs.ImageLaws.{chain_length, chain_count}
-use Rattle.nb_chain.proofs.LinkLaws.{bare, links_bare, first_there, first_broken, first_missing, is_last, last_bare}
+use Rattle.nb_chain.proofs.LinkLaws.{bare, links_bare, first_broken, first_missing, is_last, last_bare}
 use Rattle.nb_chain.proofs.StartLaws.{size_is}
+use Rattle.nb_model.proofs.WholeLaws.{verdict_there}
 
 -- the first file is refused
 pub check_first : (files : Files) (name : List ℕ) (names : List (List ℕ)) (before after : ℕ) (fault : Fault) → FirstSays (files name) name (Err fault) → CheckSays files (name ∷ names) before after (Err fault)
@@ -38,7 +25,7 @@ module _ (files : Files) (name : List ℕ) (names : List (List ℕ)) (bytes : Li
 
   behind_first : verdict files (name ∷ names) ≡ linked (whole_link bytes) (next_links files 1 (tip_link tip) names)
   behind_first =
-      first_there files name names bytes (whole_link bytes) there is.accepted
+      verdict_there files name names bytes (whole_link bytes) there is.accepted
       ∙ ap (linked (whole_link bytes)) (links_bare files 1 (whole_link bytes) names ∙ ap (λ (l : Link). next_links files 1 l names) (sym begins))
 
   -- one of the others is refused

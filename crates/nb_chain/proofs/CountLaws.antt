@@ -1,10 +1,6 @@
 -- Counting pages from the end gives the length of an image without its pages of zeros.
-use Rattle.std.proofs.Common.{◌≡◌, inl, inr, ℕ, zero, suc, [], ◌∷◌, length, refl, sym, ap, ◌∙◌}
-use Rattle.std.specs.Prelude.{Bool, true, false}
-use Rattle.std.proofs.lemmas.Bool.{cases_Bool}
-use Rattle.nb_fields.specs.Bytes.{is_zeros}
-use Rattle.nb_model.specs.Image.{Page, Image, page_at, trimmed}
-use Rattle.nb_chain.specs.Overlay.{without_blank}
+use Rattle.std.proofs.Common.{◌≡◌, inl, inr, ℕ, zero, suc, [], ◌∷◌, length, refl, sym, ap, ◌∙◌, Bool, true, false}
+use Rattle.nb_chain.proofs.Common.{cases_Bool, is_zeros, Page, Image, page_at, trimmed, without_blank, trimmed-none}
 
 by_last : (blank : Bool) (below here : ℕ) → ℕ
 by_last blank below here = elim blank [ true ↦ below | false ↦ here ]
@@ -65,10 +61,6 @@ trimmed_by : (p : Page) (ps : Image) → trimmed (p ∷ ps) ≡ by_rest p (trimm
 unfolding trimmed by_rest
 trimmed_by p ps = refl
 
-none_by : trimmed [] ≡ []
-unfolding trimmed
-none_by = refl
-
 length_by : (p : Page) (rest : Image) → length (by_rest p rest) ≡ more (is_zeros p) (length rest)
 unfolding by_rest more
 length_by p (q ∷ qs) = refl
@@ -80,7 +72,7 @@ length_by p [] = from (is_zeros p)
 
 -- the length of an image without the pages of zeros at its end
 pub length_trimmed : (image : Image) → length (trimmed image) ≡ without_blank (λ p. is_zeros (page_at image p)) (length image)
-length_trimmed [] = ap length none_by ∙ sym (none_left (λ p. is_zeros (page_at [] p)))
+length_trimmed [] = ap length trimmed-none ∙ sym (none_left (λ p. is_zeros (page_at [] p)))
 length_trimmed (p ∷ ps) =
     ap length (trimmed_by p ps) ∙ length_by p (trimmed ps) ∙ ap (more (is_zeros p)) (length_trimmed ps) ∙ sym (before_others (λ q. is_zeros (page_at (p ∷ ps) q)) (length ps))
 

@@ -1,31 +1,12 @@
 -- What level files say of pages tells which pages of the image that a chain gives are all zeros.
-use Rattle.std.proofs.Common.{◌≡◌, ◌≢◌, inl, inr, ℕ, zero, suc, ◌+◌, ◌-◌, ◌*◌, ◌/◌, ◌<◌, ◌≤◌, List, [], ◌∷◌, ◌++◌, length, replicate, get_or, set, refl, sym, ap, ◌∙◌, arith, append_assoc, length-append, get_or-set_other}
-use Rattle.std.specs.Prelude.{Bool, true, false, nat_lt, max}
-use Rattle.std.proofs.lemmas.Bool.{cases_lt, cases_eq}
-use Rattle.std.proofs.lemmas.List.{append-nil, get_or_append_left, get_or-append_right, get_or-set_same, get_or_past}
+use Rattle.std.proofs.Common.{◌≡◌, ◌≢◌, inl, inr, ℕ, zero, suc, ◌+◌, ◌-◌, ◌*◌, ◌/◌, ◌<◌, ◌≤◌, List, [], ◌∷◌, ◌++◌, length, replicate, get_or, set, refl, sym, ap, ◌∙◌, arith, length-append, get_or-set_other, Bool, true, false, nat_lt, max}
+use Rattle.nb_chain.proofs.Common.{cases_lt, cases_eq, get_or_append_left, get_or-append_right, get_or-set_same, get_or_past, is_zeros, part, size_of, Page, Image, Numbered, page_at, cut, trimmed, written_at, overwritten, Link, whole_link, all_over, applied, Pages, pages_of, cut-joined, page-joined, zeros-are, lt_no, lt_yes, Mark, mark_of, grown, noted, all_noted, links_noted, is_blank_by, is_blank, without_blank}
 use Rattle.std.proofs.Math.ListN.{length-set, length-replicate}
 use Rattle.std.proofs.Math.Nat.{mul-div_cancel}
-use Rattle.nb_fields.specs.Bytes.{is_zeros, part}
-use Rattle.nb_fields.specs.Header.{size_of}
-use Rattle.nb_model.specs.Image.{Page, Image, Numbered, page_at, cut, trimmed, written_at, overwritten}
-use Rattle.nb_model.specs.Levels.{numbered_from}
-use Rattle.nb_model.specs.Restoring.{Link, whole_link, all_over, applied}
-use Rattle.nb_model.proofs.FollowsLaws.{written_end}
-use Rattle.nb_model.proofs.ImageLaws.{Pages, pages_of, cut-joined, page-joined, zeros-are}
-use Rattle.nb_model.proofs.ReadLaws.{lt_no, lt_yes}
-use Rattle.nb_chain.specs.declared.overlay.Mark.{Mark}
 use Rattle.nb_chain.specs.declared.overlay.Mark.TheVariants.{Untouched, Zeros, Filled}
-use Rattle.nb_chain.specs.Overlay.{mark_of, grown, noted, all_noted, links_noted, is_blank_by, is_blank, without_blank}
 use Rattle.nb_chain.proofs.CountLaws.{length_trimmed, counted_alike}
-
--- all pages written give the image
-pub writes_all : (size n : ℕ) (front a : Image) → length front ≡ n → overwritten size (numbered_from n a) front ≡ front ++ a
-unfolding overwritten numbered_from
-writes_all size n front [] e = sym (append-nil front)
-writes_all size n front (p ∷ ps) e =
-    let next : length (front ++ p ∷ []) ≡ n + 1 = omega (arith, length-append front (p ∷ [])) in
-    let here : written_at size (n, p) front ≡ front ++ p ∷ [] = ap (written_at size (n, p)) (sym (append-nil front)) ∙ written_end size n front p e ∙ append-nil (front ++ p ∷ []) in
-    ap (overwritten size (numbered_from (n + 1) ps)) here ∙ writes_all size (n + 1) (front ++ p ∷ []) ps next ∙ append_assoc front (p ∷ []) ps
+use Rattle.nb_model.proofs.LineLaws.{writes_all}
+use Rattle.nb_model.proofs.OwnerLaws.{tail_length}
 
 -- room after a list is read as its end
 same-grown : {X : Type 0} (xs : List X) (k p : ℕ) (d : X) → get_or (xs ++ replicate k d) p d ≡ get_or xs p d
@@ -76,10 +57,6 @@ pub written-past : (size : ℕ) (r : Numbered) (image : Image) → length image 
 unfolding written_at
 written-past size r image h = rw (lt_no r.0 (length image) h, written_at) refl
 
--- pages of zeros and one after them
-length-gap : (k : ℕ) (z p : Page) → length (replicate k z ++ p ∷ []) ≡ k + 1
-length-gap k z p = omega (arith, length-append (replicate k z) (p ∷ []), length-replicate k z)
-
 gap-last : (k : ℕ) (z p : Page) → get_or (replicate k z ++ p ∷ []) k [] ≡ p
 gap-last zero z p = refl
 gap-last (suc k) z p = gap-last k z p
@@ -95,7 +72,7 @@ length-written size r image = elim (cases_lt r.0 (length image)) [
   | inl w ↦ ap length (written-inside size r image w) ∙ length-set image r.0 r.1 ∙ omega arith
   | inr w ↦
       let gap : List Page = replicate (r.0 - length image) (replicate size 0) ++ r.1 ∷ [] in
-      ap length (written-past size r image w) ∙ omega (arith, length-append image gap, length-gap (r.0 - length image) (replicate size 0) r.1)
+      ap length (written-past size r image w) ∙ omega (arith, length-append image gap, tail_length (r.0 - length image) (replicate size 0) r.1)
 ]
 
 written-here : (size : ℕ) (r : Numbered) (image : Image) → page_at (written_at size r image) r.0 ≡ r.1

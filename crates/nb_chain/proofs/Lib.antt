@@ -5,3 +5,4 @@ pub mod LinkLaws
 pub mod StartLaws
 pub mod AnswerLaws
 pub mod CheckLaws
+mod Common

@@ -1,20 +1,8 @@
 -- Accepting the files of a chain one by one.
-use Rattle.std.proofs.Common.{◌≡◌, ℕ, suc, ◌+◌, ◌<◌, ◌≤◌, List, [], ◌∷◌, ◌++◌, length, drop, get_or, refl, sym, ap, subst, ◌∙◌, arith, append_assoc}
-use Rattle.std.specs.Prelude.{Some, None, Result, Ok, Err}
-use Rattle.std.proofs.lemmas.List.{append-nil, drop_all}
+use Rattle.std.proofs.Common.{◌≡◌, ℕ, suc, ◌+◌, ◌<◌, ◌≤◌, List, [], ◌∷◌, ◌++◌, length, drop, get_or, refl, sym, ap, subst, ◌∙◌, arith, append_assoc, Some, None, Result, Ok, Err}
+use Rattle.nb_chain.proofs.Common.{append-nil, drop_all, File, Files, Fault, Refused, Device, Memory, Refusal, NoFile, Link, next_link, next_links, not_behind, linked, first_link, verdict, Mark, Tip, Chain, all_noted, links_noted, level_reads, IsLast, tip_link, last_of, IsNext, NextRefused, NextSays, LevelsSay, AreNext}
 use Rattle.std.proofs.Math.Seq.{drop-cons}
-use Rattle.nb_host.specs.Files.{File, Files}
-use Rattle.nb_host.specs.declared.faults.Fault.{Fault}
-use Rattle.nb_host.specs.declared.faults.Fault.TheVariants.{Refused, Device, Memory}
-use Rattle.nb_host.specs.declared.refusals.Refusal.{Refusal}
-use Rattle.nb_host.specs.declared.refusals.Refusal.TheVariants.{NoFile}
-use Rattle.nb_model.specs.Restoring.{Link, next_link, next_links, not_behind, linked, first_link, verdict}
-use Rattle.nb_chain.specs.declared.overlay.Mark.{Mark}
-use Rattle.nb_chain.specs.declared.tip.Tip.{Tip}
-use Rattle.nb_chain.specs.declared.checking.Chain.{Chain}
-use Rattle.nb_chain.specs.Overlay.{all_noted, links_noted}
-use Rattle.nb_chain.specs.Chain.{level_reads, IsLast}
-use Rattle.nb_chain.specs.Next.{tip_link, last_of, IsNext, NextRefused, NextSays, LevelsSay, AreNext}
+use Rattle.nb_model.proofs.ChainLaws.{none_left, step_there}
 
 -- a link without its pages
 abbrev pub bare : Link → Link
@@ -39,13 +27,7 @@ unfolding next_links next_link not_behind
 links_bare files k l [] = refl
 links_bare files k l (name ∷ names) = refl
 
--- the next file is accepted, refused, or isn't there
-next_there : (files : Files) (k : ℕ) (last : Link) (name : List ℕ) (names : List (List ℕ)) (bytes : List ℕ) (l : Link) → files name ≡ Some bytes → next_link k last name bytes ≡ Ok l
-    → next_links files k last (name ∷ names) ≡ linked l (next_links files (k + 1) l names)
-unfolding next_links
-next_there files k last name names bytes l is link = rw (is, next_links) (rw (link, next_links) refl)
-
-next_broken : (files : Files) (k : ℕ) (last : Link) (name : List ℕ) (names : List (List ℕ)) (bytes : List ℕ) (r : Refusal) → files name ≡ Some bytes → next_link k last name bytes ≡ Err r
+pub next_broken : (files : Files) (k : ℕ) (last : Link) (name : List ℕ) (names : List (List ℕ)) (bytes : List ℕ) (r : Refusal) → files name ≡ Some bytes → next_link k last name bytes ≡ Err r
     → next_links files k last (name ∷ names) ≡ Err r
 unfolding next_links
 next_broken files k last name names bytes r is link = rw (is, next_links) (rw (link, next_links) refl)
@@ -53,15 +35,6 @@ next_broken files k last name names bytes r is link = rw (is, next_links) (rw (l
 next_missing : (files : Files) (k : ℕ) (last : Link) (name : List ℕ) (names : List (List ℕ)) → files name ≡ None → next_links files k last (name ∷ names) ≡ Err (NoFile name)
 unfolding next_links
 next_missing files k last name names is = rw (is, next_links) refl
-
-none_left : (files : Files) (k : ℕ) (last : Link) → next_links files k last [] ≡ Ok []
-unfolding next_links
-none_left files k last = refl
-
--- the first file likewise
-pub first_there : (files : Files) (name : List ℕ) (names : List (List ℕ)) (bytes : List ℕ) (l : Link) → files name ≡ Some bytes → first_link name bytes ≡ Ok l → verdict files (name ∷ names) ≡ linked l (next_links files 1 l names)
-unfolding verdict
-first_there files name names bytes l is link = rw (is, verdict) (rw (link, verdict) refl)
 
 pub first_broken : (files : Files) (name : List ℕ) (names : List (List ℕ)) (bytes : List ℕ) (r : Refusal) → files name ≡ Some bytes → first_link name bytes ≡ Err r → verdict files (name ∷ names) ≡ Err r
 unfolding verdict
@@ -126,7 +99,7 @@ module _ (files : Files) (first : Tip) (all : List (List ℕ)) (k : ℕ) (last :
   accepted_more tip new' after' is = record {
     links = accepted.links ++ is.link ∷ [];
     so_far =
-        accepted.so_far ∙ ap (linked_all accepted.links) (next_there files k (tip_link last) name names is.bytes is.link is.there is.accepted)
+        accepted.so_far ∙ ap (linked_all accepted.links) (step_there files k (tip_link last) name names is.bytes is.link is.there is.accepted)
         ∙ linked_more accepted.links is.link (next_links files (k + 1) is.link names)
         ∙ ap (linked_all (accepted.links ++ is.link ∷ [])) (links_bare files (k + 1) is.link names ∙ sym (ap (λ (l : Link). next_links files (k + 1) l names) is.next));
     next = is.next ∙ sym (ap (λ (l : Link). bare l) (last_more (tip_link first) accepted.links is.link));

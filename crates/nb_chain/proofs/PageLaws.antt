@@ -1,16 +1,10 @@
 -- Reading the pages of a level file one by one.
-use Rattle.std.proofs.Common.{◌≡◌, ℕ, ◌+◌, ◌≤◌, List, [], ◌∷◌, ◌++◌, length, refl, sym, ap, subst, ◌∙◌, arith, length-append}
-use Rattle.std.specs.Prelude.{Bool, IsTrue, Ok}
-use Rattle.nb_host.specs.Files.{File, bytes_of}
-use Rattle.nb_model.specs.Image.{Numbered}
-use Rattle.nb_model.specs.Levels.{behind}
-use Rattle.nb_level.specs.Reading.{Reading, still_to_come}
+use Rattle.std.proofs.Common.{◌≡◌, ℕ, ◌+◌, ◌≤◌, List, [], ◌∷◌, ◌++◌, length, refl, sym, ap, subst, ◌∙◌, arith, length-append, Bool, IsTrue, Ok}
+use Rattle.nb_chain.proofs.Common.{File, bytes_of, Numbered, behind, Reading, still_to_come, Mark, noted, all_noted}
 use Rattle.nb_level.specs.Answers.{NextSays}
 use Rattle.nb_level.specs.declared.item.Item.{Item}
 use Rattle.nb_level.specs.declared.item.Item.TheVariants.{PageAt}
 use Rattle.nb_level.proofs.ReadingLaws.{behind-behind, behind-none}
-use Rattle.nb_chain.specs.declared.overlay.Mark.{Mark}
-use Rattle.nb_chain.specs.Overlay.{noted, all_noted}
 
 -- one page more of those that were still to come
 pub pages_more : (file : File) (first now next : Reading) (pages : List Numbered) (page : Numbered) → still_to_come (bytes_of file) first ≡ behind pages (still_to_come (bytes_of file) now)

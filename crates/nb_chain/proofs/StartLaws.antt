@@ -1,25 +1,12 @@
 -- What the first bytes of a file tell of it.
-use Rattle.std.proofs.Common.{◌≡◌, ◌≢◌, ℕ, zero, suc, ◌+◌, ◌<◌, ◌≤◌, ◌^◌, List, [], ◌∷◌, length, get_or, take, drop, refl, sym, ap, subst, ◌∙◌, arith, nat_eq, length-drop}
-use Rattle.std.specs.Prelude.{Bool, true, false, not, ◌==◌, Some, None, Ok, Err}
+use Rattle.std.proofs.Common.{◌≡◌, ◌≢◌, ℕ, zero, suc, ◌+◌, ◌<◌, ◌≤◌, ◌^◌, List, [], ◌∷◌, length, get_or, take, drop, refl, sym, ap, subst, ◌∙◌, arith, nat_eq, length-drop, Bool, true, false, not, ◌==◌, Some, None, Ok, Err}
+use Rattle.nb_chain.proofs.Common.{take-take, take_all, get_or-drop, number_of, number_in, part, is_header, signature, state_of, size_of, scn_of, guid_of, is_header-take, Fault, Refused, Refusal, BadLevel, ChainLevel, header_in, Contents, begins_level, level_signature, read_level, Link, whole_link, not_whole, first_link, next_link, not_behind, level_link, is_bad_length, eq_no, eq_yes, Tested, is_bad_count}
 use Rattle.std.specs.Cmp.Lexicographic.{pointwise}
-use Rattle.std.proofs.lemmas.List.{take-take, take_all, get_or-drop}
-use Rattle.nb_fields.specs.Bytes.{number_of, number_in, part}
-use Rattle.nb_fields.specs.Header.{is_header, signature, state_of, size_of, scn_of, guid_of}
-use Rattle.nb_fields.proofs.HeaderLaws.{is_header-take}
 use Rattle.nb_fields.proofs.NumberLaws.{number_of-lt}
 use Rattle.nb_fields.proofs.PartLaws.{part-take, number_in-take}
 use Rattle.nb_fields.specs.States.{stalled_state}
-use Rattle.nb_host.specs.declared.faults.Fault.{Fault}
-use Rattle.nb_host.specs.declared.faults.Fault.TheVariants.{Refused}
-use Rattle.nb_host.specs.declared.refusals.Refusal.{Refusal}
-use Rattle.nb_host.specs.declared.refusals.Refusal.TheVariants.{BadLevel, ChainLevel}
-use Rattle.nb_page.specs.Header.{header_in}
 use Rattle.nb_page.specs.declared.header.Header.{Header}
 use Rattle.nb_model.specs.Causes.{Cause, first_cause, when}
-use Rattle.nb_model.specs.Levels.{Contents, begins_level, level_signature, read_level}
-use Rattle.nb_model.specs.Restoring.{Link, whole_link, not_whole, first_link, next_link, not_behind, level_link, is_bad_length}
-use Rattle.nb_model.proofs.ReadLaws.{eq_no, eq_yes}
-use Rattle.nb_chain.specs.First.{Tested, is_bad_count}
 
 -- the first 64 bytes
 module _ (first bytes : List ℕ) (read : first ≡ take 64 bytes) where

@@ -1,12 +1,6 @@
 -- What one call of a host changes: by itself, and after a run of calls.
-use Rattle.std.proofs.Common.{◌≡◌, ◌≢◌, ◌⊎◌, inl, inr, ⊎_elim, ℕ, Bool, List, refl, sym, ◌∙◌, ap, subst, length}
-use Rattle.std.specs.Prelude.{Result, Ok, Err, IsTrue}
-use Rattle.nb_host.specs.Files.{File, Files, bytes_of, with_file}
-use Rattle.nb_host.specs.World.{World}
-use Rattle.nb_host.specs.Crash.{Leaves, LeavesAll, PageLeft, AppendLeft}
-use Rattle.nb_host.specs.Calls.{IsStill, Remakes, Steps, WritesPage, AppendsBytes}
-use Rattle.nb_host.specs.Moments.{IsTimely, Passes}
-use Rattle.nb_change.specs.Changes.{Names, Other, Only, Changes, Moved, Remade}
+use Rattle.std.proofs.Common.{◌≡◌, ◌≢◌, ◌⊎◌, inl, inr, ⊎_elim, ℕ, Bool, List, refl, sym, ◌∙◌, ap, subst, length, Result, Ok, Err, IsTrue}
+use Rattle.nb_change.proofs.Common.{File, Files, bytes_of, with_file, World, Leaves, LeavesAll, PageLeft, AppendLeft, IsStill, Remakes, Steps, WritesPage, AppendsBytes, IsTimely, Passes, Names, Other, Only, Changes, Moved, Remade}
 use Rattle.nb_change.proofs.MomentLaws.{left_before, untouched_fewer}
 use Rattle.nb_change.proofs.NameLaws.{decide, with_file-same, with_file-other, whole-other}
 use Rattle.nb_change.proofs.ChangesLaws.{begun, one_more, still_more, left_with}

@@ -1,11 +1,6 @@
 -- How a run of calls goes on: by another run of calls, and by one call.
 use Rattle.std.proofs.Common.{◌≡◌, ◌≢◌, ⊎_elim, ℕ, List, refl, sym, ◌∙◌, ap, subst}
-use Rattle.nb_host.specs.Files.{File, Files, with_file}
-use Rattle.nb_host.specs.World.{World}
-use Rattle.nb_host.specs.Crash.{Leaves, LeavesAll, Untouched}
-use Rattle.nb_host.specs.Calls.{IsStill}
-use Rattle.nb_host.specs.Moments.{IsNow, IsTimely, Passes, AtEachMoment}
-use Rattle.nb_change.specs.Changes.{Names, Other, Only, NoNames, Changes, Moved, Remade}
+use Rattle.nb_change.proofs.Common.{File, Files, with_file, World, Leaves, LeavesAll, Untouched, IsStill, IsNow, IsTimely, Passes, AtEachMoment, Names, Other, Only, NoNames, Changes, Moved, Remade}
 use Rattle.nb_change.proofs.MomentLaws.{started, goes_on, joined, weaker, left_before, untouched_joined, untouched_fewer, untouched_begun}
 use Rattle.nb_change.proofs.NameLaws.{decide, with_file-same, with_file-other}
 

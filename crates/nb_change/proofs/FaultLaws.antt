@@ -1,6 +1,6 @@
 -- An error of what can't be refused, where `?` makes a fault of it.
-use Rattle.std.proofs.Common.{◌≡◌, ◌≢◌, ℕ, refl, sym, ◌∙◌, subst}
-use Rattle.std.specs.Prelude.{Result, Err, IsErr, IsErrAnd, IfErr}
+use Rattle.std.proofs.Common.{◌≡◌, ◌≢◌, ℕ, refl, sym, ◌∙◌, subst, Result, Err, IsErr, IsErrAnd, IfErr}
+use Rattle.nb_change.proofs.Common.{device_memory}
 use Rattle.nb_host.specs.Causes.{CountsDevice, CountsRun}
 use Rattle.nb_host.specs.Faults.{as_fault}
 use Rattle.nb_host.specs.declared.faults.Fault.{Fault}
@@ -8,10 +8,6 @@ use Rattle.nb_host.specs.declared.faults.Fault.TheVariants.{Device, Memory}
 use Rattle.nb_host.specs.declared.faults.RunError.{RunError}
 use Rattle.nb_host.specs.declared.faults.RunError.TheVariants.{Device as DeviceError, Memory as MemoryError}
 use Rattle.nb_change.proofs.ResultLaws.{passed_on}
-
--- the device isn't memory
-device_not : Device ≡ Memory → ⊥
-device_not e = cc
 
 module _ {T : Type 0} (result : Result T Fault) (error : RunError) (passed : IsErr result × IsErrAnd result (λ f. f ≡ as_fault error)) where
   -- what is said of the error is said of the fault
@@ -30,7 +26,7 @@ module _ {T : Type 0} (result : Result T Fault) (error : RunError) (passed : IsE
   none_wanted other = is_passed (λ (r : Result T Fault). IfErr r (λ f. f ≢ Memory)) (by error other)
     where
       by : (e : RunError) → e ≢ MemoryError → as_fault e ≢ Memory
-      by DeviceError other = device_not
+      by DeviceError other = device_memory
       by MemoryError other = absurd (other refl)
 
   -- where it tells that memory was wanted, it was

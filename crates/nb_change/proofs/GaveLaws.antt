@@ -1,8 +1,7 @@
 -- What the outside gave, from one call to the next.
 use Rattle.std.proofs.Common.{ℕ, List, [], ◌++◌, refl, sym, ◌∙◌, ap, append_assoc}
+use Rattle.nb_change.proofs.Common.{World, IsSilent}
 use Rattle.std.proofs.lemmas.List.{append-nil}
-use Rattle.nb_host.specs.World.{World}
-use Rattle.nb_host.specs.Calls.{IsSilent}
 use Rattle.nb_change.specs.Gave.{Gave, GaveNothing}
 
 -- before the first call

@@ -8,3 +8,4 @@ pub mod MovedLaws
 pub mod SettledLaws
 pub mod ReachedLaws
 pub mod GaveLaws
+mod Common

@@ -1,9 +1,6 @@
 -- How what holds at each moment goes on.
 use Rattle.std.proofs.Common.{refl, ◌∙◌, inl, inr, ⊎_elim, ℕ, ◌≤◌, List, arith}
-use Rattle.nb_host.specs.Files.{File, Files}
-use Rattle.nb_host.specs.World.{World}
-use Rattle.nb_host.specs.Crash.{Leaves, Untouched}
-use Rattle.nb_host.specs.Moments.{IsNow, IsTimely, Elapses, AtEachMoment}
+use Rattle.nb_change.proofs.Common.{File, Files, World, Leaves, Untouched, IsNow, IsTimely, Elapses, AtEachMoment}
 
 -- before the first call
 pub started : (old : World) (P : Files → List ℕ → Type 0) → IsTimely old → ((files : Files) (said : List ℕ) → IsNow old files said → P files said) → AtEachMoment old old P

@@ -1,11 +1,6 @@
 -- How runs of calls on one file go on, where each moves it by a step.
 use Rattle.std.proofs.Common.{◌≡◌, ◌⊎◌, inl, inr, ⊎_elim, ℕ, List, refl, subst}
-use Rattle.nb_host.specs.Files.{File, Files}
-use Rattle.nb_host.specs.World.{World}
-use Rattle.nb_host.specs.Crash.{Leaves, IsDurable}
-use Rattle.nb_host.specs.Calls.{IsStill}
-use Rattle.nb_host.specs.Moments.{IsTimely, Passes}
-use Rattle.nb_change.specs.Changes.{Names, Only, Changes, Moved, Remade}
+use Rattle.nb_change.proofs.Common.{File, Files, World, Leaves, IsDurable, IsStill, IsTimely, Passes, Names, Only, Changes, Moved, Remade}
 use Rattle.nb_change.proofs.ChangesLaws.{begun, weaker_has, moved_on}
 use Rattle.nb_change.proofs.CallLaws.{still_alone}
 use Rattle.nb_change.proofs.SettledLaws.{durable_is}

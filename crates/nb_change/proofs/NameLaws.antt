@@ -1,8 +1,6 @@
 -- Files under equal names, and under others.
-use Rattle.std.proofs.Common.{◌≡◌, ◌≢◌, inl, inr, ℕ, List, ◌∙◌, ap}
-use Rattle.std.specs.Prelude.{Result, Ok, Err}
-use Rattle.nb_host.specs.Files.{File, Files, with_file}
-use Rattle.nb_host.specs.Calls.{WholeOrNot}
+use Rattle.std.proofs.Common.{◌≡◌, ◌≢◌, inl, inr, ℕ, List, ◌∙◌, ap, Result, Ok, Err}
+use Rattle.nb_change.proofs.Common.{File, Files, with_file, WholeOrNot}
 pub use Rattle.nb_host.proofs.NameLaws.{decide, with_file-same, with_file-other}
 
 -- of a file that was changed, whole or not, the others are as they were

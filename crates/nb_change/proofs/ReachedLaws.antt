@@ -1,8 +1,6 @@
 -- Fronts of strokes, and what stands after them.
 use Rattle.std.proofs.Common.{◌≡◌, ◌⊎◌, inl, inr, ⊎_elim, ℕ, suc, ◌≤◌, List, [], ◌∷◌, ◌++◌, length, take, refl, arith}
-use Rattle.nb_host.specs.Files.{Files}
-use Rattle.nb_host.specs.World.{World}
-use Rattle.nb_change.specs.Changes.{Names, Changes, after_all, Reached}
+use Rattle.nb_change.proofs.Common.{Files, World, Names, Changes, after_all, Reached}
 use Rattle.nb_change.proofs.ChangesLaws.{composed}
 
 -- strokes after strokes

@@ -1,16 +1,11 @@
 -- What holds under Ok, and what an error that is passed on is.
-use Rattle.std.proofs.Common.{◌≡◌, ap}
-use Rattle.std.specs.Prelude.{Result, Ok, Err, IsErr, IsErrAnd, OnOk}
-use Rattle.nb_host.specs.Calls.{WholeOrNot}
+use Rattle.std.proofs.Common.{◌≡◌, ap, Result, Ok, Err, IsErr, IsErrAnd, OnOk}
+use Rattle.nb_change.proofs.Common.{WholeOrNot}
 
 -- at Ok it was done whole
 pub whole_on_ok : {T E X : Type 0} (result : Result T E) (before done after : X) → WholeOrNot result before done after → OnOk result (after ≡ done)
 whole_on_ok (Ok x) before done after is = is
 whole_on_ok (Err e) before done after is = tt
-
-pub on_ok : {T E P : Type 0} (result : Result T E) → P → OnOk result P
-on_ok (Ok x) p = p
-on_ok (Err e) p = tt
 
 pub on_ok_then : {T E P Q : Type 0} (result : Result T E) → (P → Q) → OnOk result P → OnOk result Q
 on_ok_then (Ok x) f p = f p

@@ -1,11 +1,6 @@
 -- What stands now: what a crash leaves after a sync, and what reads.
-use Rattle.std.proofs.Common.{◌≡◌, ⊎_elim, ℕ, Bool, List, sym, subst}
-use Rattle.std.specs.Prelude.{Result, OnOk, IsTrue}
-use Rattle.nb_host.specs.Files.{File, Files}
-use Rattle.nb_host.specs.World.{World}
-use Rattle.nb_host.specs.Crash.{Leaves, IsDurable}
-use Rattle.nb_host.specs.Calls.{IsStill, Syncs}
-use Rattle.nb_change.specs.Changes.{Names, Changes}
+use Rattle.std.proofs.Common.{◌≡◌, ⊎_elim, ℕ, Bool, List, sym, subst, Result, OnOk, IsTrue}
+use Rattle.nb_change.proofs.Common.{File, Files, World, Leaves, IsDurable, IsStill, Syncs, Names, Changes}
 use Rattle.nb_change.proofs.ResultLaws.{on_ok_then}
 
 -- a crash leaves of a durable file that file alone

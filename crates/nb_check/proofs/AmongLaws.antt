@@ -1,11 +1,6 @@
 -- Which numbers are among those of a range that pass a test.
-use Rattle.std.proofs.Common.{◌≡◌, inl, inr, ℕ, zero, suc, ◌+◌, ◌<◌, ◌≤◌, List, ◌∷◌, refl, sym, ap, ◌∙◌, arith}
-use Rattle.std.specs.Prelude.{Bool, true, false, cond, ◌||◌, nat_eq, length}
-use Rattle.std.specs.List.{filter, range_with_len, list_any}
-use Rattle.std.proofs.lemmas.Bool.{cases_lt}
-use Rattle.nb_model.proofs.ReadLaws.{eq_no, eq_yes}
-use Rattle.nb_model.specs.Image.{Image}
-use Rattle.nb_model.specs.Leaks.{is_among, is_leaked, leaked}
+use Rattle.std.proofs.Common.{◌≡◌, inl, inr, ℕ, zero, suc, ◌+◌, ◌<◌, ◌≤◌, List, ◌∷◌, refl, sym, ap, ◌∙◌, arith, Bool, true, false, cond, ◌||◌, nat_eq, length}
+use Rattle.nb_check.proofs.Common.{filter, range_with_len, list_any, cases_lt, eq_no, eq_yes, Image, is_among, is_leaked, leaked}
 
 module _ (test : ℕ → Bool) (p : ℕ) where
   abbrev among : List ℕ → Bool

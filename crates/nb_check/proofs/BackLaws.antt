@@ -1,39 +1,16 @@
 -- Leaked pages are given back one after the other: what each front of the strokes leaves.
-use Rattle.std.proofs.Common.{◌≡◌, ◌≢◌, inl, inr, ℕ, zero, suc, ◌+◌, ◌<◌, ◌≤◌, List, [], ◌∷◌, ◌++◌, length, take, drop, refl, sym, ap, subst, append_assoc, ◌∙◌, arith}
-use Rattle.std.specs.Prelude.{Bool, true, false, cond, ◌&&◌, ◌||◌, ◌==◌, not, nat_eq, None}
-use Rattle.std.specs.List.{filter, range_with_len}
-use Rattle.std.proofs.lemmas.Bool.{cases_Bool, true≢false, and_left, or_cases}
-use Rattle.std.proofs.lemmas.Bool.Decides.{eqb_tells}
-use Rattle.std.proofs.lemmas.List.{append-nil}
-use Rattle.std.proofs.lemmas.List.Folds.{list_any-append}
-use Rattle.nb_fields.specs.Page.{kind_of}
-use Rattle.nb_fields.specs.Places.{is_system_place}
-use Rattle.nb_fields.specs.Kinds.{data_kind}
-use Rattle.nb_model.specs.Account.{Base}
-use Rattle.nb_model.specs.Chains.{History}
-use Rattle.nb_model.specs.Forms.{Draft, drafted, give_page, is_free_page}
-use Rattle.nb_model.specs.Image.{Page, Image, page_at, image_size}
-use Rattle.nb_model.specs.Sound.{HasHeader, IsSoundImage}
-use Rattle.nb_model.specs.Strokes.{Stroke, base_after}
-use Rattle.nb_model.specs.Tables.{all_given}
-use Rattle.nb_model.proofs.Along.{Along, along_append, along_front}
-use Rattle.nb_model.proofs.DraftLaws.{IsOf, drafted_is, drafts_are, set_bit_keeps}
-use Rattle.nb_model.proofs.FitLaws.{IsWhole}
-use Rattle.nb_model.proofs.LeakTurns.{leaked_two, given_first}
-use Rattle.nb_model.proofs.PutSound.{header_whole}
-use Rattle.nb_model.proofs.ReadLaws.{eq_no, eq_yes}
+use Rattle.std.proofs.Common.{◌≡◌, ◌≢◌, inl, inr, ℕ, zero, suc, ◌+◌, ◌<◌, ◌≤◌, List, [], ◌∷◌, ◌++◌, length, take, drop, refl, sym, ap, subst, append_assoc, ◌∙◌, arith, Bool, true, false, cond, ◌&&◌, ◌||◌, ◌==◌, not, nat_eq, None}
+use Rattle.nb_check.proofs.Common.{filter, range_with_len, cases_Bool, and_left, or_cases, eqb_tells, append-nil, list_any-append, kind_of, is_system_place, data_kind, Base, History, Draft, drafted, give_page, is_free_page, Page, Image, page_at, image_size, HasHeader, IsSoundImage, Stroke, base_after, all_given, Along, along_append, along_front, drafted_is, drafts_are, set_bit_keeps, IsWhole, leaked_two, given_first, header_whole, eq_no, eq_yes, is_among, is_leaked, leaked, reached, unsound_by, check_cause, reclaimed, given_none, head_same, tail_same, nil_cons, or_parts, or_false, or_true, or_assoc}
+use Rattle.nb_model.proofs.DraftLaws.{IsOf}
 use Rattle.nb_model.proofs.StrokeLaws.{base_after-append}
 use Rattle.nb_check.specs.Laws.{KeepsPages, Reclaims}
-use Rattle.nb_model.specs.Leaks.{is_among, is_leaked, leaked, reached}
-use Rattle.nb_model.specs.Checks.{unsound_by, check_cause, reclaimed}
 use Rattle.nb_check.proofs.GiveLaws.{given, between, given_size, given_length, given_plain, given_fits, free_then, other_then, between_whole, between_size, between_length, between_plain, between_bit, give_along}
-use Rattle.nb_check.proofs.LeakLaws.{given_none}
 use Rattle.nb_check.proofs.SameLaws.{AreAlike, reached_same, chains_cause_same, rows_same, spots_same}
 use Rattle.nb_check.proofs.CauseLaws.{check_free}
 use Rattle.nb_check.proofs.SoundLaws.{facts_sound, check_parts}
 
 -- A list that a test leaves of a range, without a front of it.
-filter_same : (f g : ℕ → Bool) (n a : ℕ) → ((q : ℕ) → a ≤ q → q < a + n → f q ≡ g q) → filter f (range_with_len a n) ≡ filter g (range_with_len a n)
+pub filter_same : (f g : ℕ → Bool) (n a : ℕ) → ((q : ℕ) → a ≤ q → q < a + n → f q ≡ g q) → filter f (range_with_len a n) ≡ filter g (range_with_len a n)
 filter_same f g zero a same = refl
 filter_same f g (suc n) a same =
     ap (λ (t : Bool). cond t (a ∷ filter f (range_with_len (a + 1) n)) (filter f (range_with_len (a + 1) n))) (same a (omega arith) (omega arith))
@@ -53,15 +30,6 @@ and_none : (t : Bool) → (t && not true) ≡ false
 and_none true = refl
 and_none false = refl
 
-head_same : (a p : ℕ) (xs ys : List ℕ) → a ∷ xs ≡ p ∷ ys → a ≡ p
-head_same a p xs ys e = cc
-
-tail_same : (a p : ℕ) (xs ys : List ℕ) → a ∷ xs ≡ p ∷ ys → xs ≡ ys
-tail_same a p xs ys e = cc
-
-none_more : (p : ℕ) (ps : List ℕ) → [] ≡ p ∷ ps → ⊥
-none_more p ps e = cc
-
 abbrev without : (ℕ → Bool) → List ℕ → ℕ → Bool
 without test ps q = test q && not (is_among q ps)
 
@@ -72,7 +40,7 @@ first_by test n a t = cond t (a ∷ filter test (range_with_len (a + 1) n)) (fil
 -- what is left after a front
 filter_rest : (test : ℕ → Bool) (n a : ℕ) (ps qs : List ℕ) → filter test (range_with_len a n) ≡ ps ++ qs → filter (without test ps) (range_with_len a n) ≡ qs
 filter_rest test n a [] qs e = filter_same (without test []) test n a (λ q low high. and_true (test q)) ∙ e
-filter_rest test zero a (p ∷ ps) qs e = absurd (none_more p (ps ++ qs) e)
+filter_rest test zero a (p ∷ ps) qs e = absurd (nil_cons p (ps ++ qs) e)
 filter_rest test (suc n) a (p ∷ ps) qs e = by (test a) refl (filter_rest test n (a + 1) ps qs) (filter_rest test n (a + 1) (p ∷ ps) qs)
   where
     is : (f : ℕ → Bool) (t : Bool) → f a ≡ t → filter f (range_with_len a (suc n)) ≡ first_by f n a t
@@ -96,12 +64,8 @@ pub record IsBack (x : Image) (ps : List ℕ) (y : Image) : Type 0 where
   pub whole : IsWhole y
   pub bits : (q : ℕ) → q < length x → is_free_page y q ≡ (is_free_page x q || is_among q ps)
 
-or_false : (t : Bool) → t ≡ (t || false)
-or_false true = refl
-or_false false = refl
-
 pub back_first : (x : Image) → IsWhole x → IsBack x [] x
-back_first x h = record { alike = record { size = refl; same = refl; pages = λ p plain. refl }; whole = h; bits = λ q low. or_false (is_free_page x q) }
+back_first x h = record { alike = record { size = refl; same = refl; pages = λ p plain. refl }; whole = h; bits = λ q low. sym (or_false (is_free_page x q)) }
 
 module _ (x : Image) (sound : IsSoundImage x) (ps : List ℕ) (y : Image) (back : IsBack x ps y) where
   -- a page of a system place is none of data
@@ -150,12 +114,8 @@ module _ (x : Image) (sound : IsSoundImage x) (ps : List ℕ) (y : Image) (back 
     pages = λ p low plain. back.alike.pages p plain;
     rows = λ table. rows_same x y back.alike sound.sound back.whole.sound.sound table;
     history = spots_same x y back.alike sound.sound back.whole.sound.sound History;
-    bits = λ p low off. back.bits p low ∙ ap (λ (t : Bool). is_free_page x p || t) (front_off (is_among p ps) (is_among p qs) (sym (list_any-append (nat_eq p) ps qs) ∙ ap (is_among p) (sym e) ∙ off)) ∙ sym (or_false (is_free_page x p));
+    bits = λ p low off. back.bits p low ∙ ap (λ (t : Bool). is_free_page x p || t) (or_parts (is_among p ps) (is_among p qs) (sym (list_any-append (nat_eq p) ps qs) ∙ ap (is_among p) (sym e) ∙ off)).0 ∙ or_false (is_free_page x p);
   }
-    where
-      front_off : (a b : Bool) → (a || b) ≡ false → a ≡ false
-      front_off false b fails = refl
-      front_off true b fails = absurd (true≢false fails)
 
 -- One page more is given back.
 module _ (x : Image) (header : HasHeader x) (sound : IsSoundImage x) (ps : List ℕ) (p : ℕ) (y : Image) (back : IsBack x ps y) (low : p < length x) (holds : is_leaked x p ≡ true) where
@@ -167,14 +127,6 @@ module _ (x : Image) (header : HasHeader x) (sound : IsSoundImage x) (ps : List 
 
   among_more : (q : ℕ) → is_among q (ps ++ p ∷ []) ≡ (is_among q ps || is_among q (p ∷ []))
   among_more q = list_any-append (nat_eq q) ps (p ∷ [])
-
-  or_assoc : (a b c : Bool) → ((a || b) || c) ≡ (a || (b || c))
-  or_assoc true b c = refl
-  or_assoc false b c = refl
-
-  or_all : (t : Bool) → true ≡ (t || true)
-  or_all true = refl
-  or_all false = refl
 
   plain_y : (q : ℕ) → is_system_place (image_size x) q ≡ false → is_system_place (image_size y) q ≡ false
   plain_y q plain = ap (λ (s : ℕ). is_system_place s q) back.alike.size ∙ plain
@@ -207,13 +159,13 @@ module _ (x : Image) (header : HasHeader x) (sound : IsSoundImage x) (ps : List 
       bits : (q : ℕ) → q < length x → is_free_page (given y back.whole p two low_y) q ≡ (is_free_page x q || is_among q (ps ++ p ∷ []))
       bits q below = elim (eqb_tells q p) [
         | inl w ↦
-            ap (is_free_page (given y back.whole p two low_y)) w.1 ∙ free_then y back.whole p two low_y ∙ or_all (is_free_page x q || is_among q ps)
+            ap (is_free_page (given y back.whole p two low_y)) w.1 ∙ free_then y back.whole p two low_y ∙ sym (or_true (is_free_page x q || is_among q ps))
             ∙ ap (λ (t : Bool). (is_free_page x q || is_among q ps) || t) (sym (ap (λ (m : ℕ). is_among q (m ∷ [])) (sym w.1) ∙ among_first q []))
-            ∙ or_assoc (is_free_page x q) (is_among q ps) (is_among q (p ∷ [])) ∙ ap (λ (t : Bool). is_free_page x q || t) (sym (among_more q))
+            ∙ sym (or_assoc (is_free_page x q) (is_among q ps) (is_among q (p ∷ []))) ∙ ap (λ (t : Bool). is_free_page x q || t) (sym (among_more q))
         | inr w ↦
-            other_then y back.whole p two low_y q w.1 ∙ back.bits q below ∙ or_false (is_free_page x q || is_among q ps)
+            other_then y back.whole p two low_y q w.1 ∙ back.bits q below ∙ sym (or_false (is_free_page x q || is_among q ps))
             ∙ ap (λ (t : Bool). (is_free_page x q || is_among q ps) || t) (sym (one_only q w.1))
-            ∙ or_assoc (is_free_page x q) (is_among q ps) (is_among q (p ∷ [])) ∙ ap (λ (t : Bool). is_free_page x q || t) (sym (among_more q))
+            ∙ sym (or_assoc (is_free_page x q) (is_among q ps) (is_among q (p ∷ []))) ∙ ap (λ (t : Bool). is_free_page x q || t) (sym (among_more q))
       ]
 
 -- The leaked pages are some that were given back and the others.
@@ -229,8 +181,8 @@ module _ (test : ℕ → Bool) (p : ℕ) (qs : List ℕ) where
   IsLeft a n = (p < a + n) × (test p ≡ true)
 
   left_passes : (n a : ℕ) (fs : List ℕ) → filter test (range_with_len a n) ≡ fs ++ (p ∷ qs) → IsLeft a n
-  left_passes zero a [] is = absurd (none_more p qs is)
-  left_passes zero a (f ∷ fs) is = absurd (none_more f (fs ++ (p ∷ qs)) is)
+  left_passes zero a [] is = absurd (nil_cons p qs is)
+  left_passes zero a (f ∷ fs) is = absurd (nil_cons f (fs ++ (p ∷ qs)) is)
   left_passes (suc n) a fs is = by (test a) refl fs is (λ gs same. let rest = left_passes n (a + 1) gs same in (omega (arith, rest.0), rest.1))
     where
       by : (t : Bool) → test a ≡ t → (gs : List ℕ) → filter test (range_with_len a (suc n)) ≡ gs ++ (p ∷ qs) → ((hs : List ℕ) → filter test (range_with_len (a + 1) n) ≡ hs ++ (p ∷ qs) → IsLeft a (suc n)) → IsLeft a (suc n)

@@ -1,19 +1,7 @@
 -- Which facts an image breaks, and the first of them.
-use Rattle.std.proofs.Common.{◌≡◌, inl, inr, ℕ, zero, suc, ◌+◌, ◌-◌, ◌*◌, ◌/◌, ◌<◌, ◌≤◌, List, [], ◌∷◌, length, refl, sym, ap, ◌∙◌, arith}
-use Rattle.std.specs.Prelude.{IsTrue, true, false, Option, Some, None, ◌&&◌, ◌||◌, not, nat_lt, nat_le}
-use Rattle.std.specs.List.{AllByRecursion}
-use Rattle.std.proofs.Math.Nat.{lt-div-mul-add}
-use Rattle.std.proofs.lemmas.Bool.{and_parts, or_cases, ltb-true, eqb-true}
-use Rattle.nb_fields.specs.Places.{is_page_size, bits_in, entries_in, inventory_place, scn_place}
-use Rattle.nb_fields.proofs.PlaceLaws.{entries-least, bits-least}
-use Rattle.nb_model.specs.Image.{Image, image_size}
-use Rattle.nb_model.specs.Forms.{inventory_of, has_entry, is_free_page}
-use Rattle.nb_model.specs.declared.fact.Fact.{Fact}
-use Rattle.nb_model.specs.declared.fact.Fact.TheVariants.{BlankPage, SystemPlace, TakenPast, LateStamp, WrongEntry, HeaderStamp}
-use Rattle.nb_check.specs.declared.facts.Broken.{Broken}
-use Rattle.nb_model.specs.Facts.{breaks, number_of, facts, first_from, first_broken, covered, unsound, is_entry_low, is_entry_late}
-use Rattle.nb_check.specs.Passes.{IsFirstBelow}
-use Rattle.nb_check.proofs.FirstLaws.{first_none, first_all, first_found, some_none}
+use Rattle.std.proofs.Common.{◌≡◌, inl, inr, ℕ, zero, suc, ◌+◌, ◌-◌, ◌*◌, ◌/◌, ◌<◌, ◌≤◌, List, [], ◌∷◌, length, refl, sym, ap, ◌∙◌, arith, IsTrue, true, false, Option, Some, None, ◌&&◌, ◌||◌, not, nat_lt, nat_le}
+use Rattle.nb_check.proofs.Common.{AllByRecursion, lt-div-mul-add, and_parts, or_cases, ltb-true, eqb-true, is_page_size, bits_in, entries_in, inventory_place, scn_place, entries-least, bits-least, Image, image_size, inventory_of, has_entry, is_free_page, Fact, BlankPage, SystemPlace, TakenPast, LateStamp, WrongEntry, HeaderStamp, Broken, breaks, number_of, facts, first_from, first_broken, covered, unsound, is_entry_low, is_entry_late, IsFirstBelow, some_none}
+use Rattle.nb_check.proofs.FirstLaws.{first_none, first_all, first_found}
 
 abbrev lowest : Image → Fact → Option ℕ
 lowest image f = first_from (covered image) 0 (breaks image f)

@@ -1,31 +1,15 @@
 -- What a check and a reclaim do of their turns, by their causes.
-use Rattle.std.proofs.Common.{◌≡◌, [], ◌∷◌, length, ap, ◌∙◌}
-use Rattle.std.specs.Prelude.{Some, None}
-use Rattle.nb_host.specs.declared.refusals.Refusal.{Refusal}
-use Rattle.nb_model.specs.declared.reply.Reply.TheVariants.{Leaked, Freed, Refused}
-use Rattle.nb_model.specs.Causes.{Cause, first_cause, read_only}
-use Rattle.nb_model.specs.Image.{Image}
-use Rattle.nb_model.specs.Outcomes.{Seen, Outcome, says, unless}
-use Rattle.nb_model.specs.Rows.{chains}
-use Rattle.nb_model.specs.Facts.{unsound}
-use Rattle.nb_model.specs.Leaks.{leaked}
-use Rattle.nb_model.specs.Checks.{unsound_by, chains_cause, check_cause, reclaim_cause, reclaimed, check_turn, reclaim_turn}
-
--- of two causes the first
-two_first : (c d : Cause) (r : Refusal) → c ≡ Some r → first_cause (c ∷ d ∷ []) ≡ Some r
-unfolding first_cause
-two_first c d r e = ap (λ (x : Cause). first_cause (x ∷ d ∷ [])) e
+use Rattle.std.proofs.Common.{◌≡◌, [], ◌∷◌, length, ap, ◌∙◌, Some, None}
+use Rattle.nb_check.proofs.Common.{Refusal, Leaked, Freed, Refused, Cause, first_cause, read_only, Image, Seen, Outcome, says, unless, chains, unsound, leaked, unsound_by, chains_cause, check_cause, reclaim_cause, reclaimed, check_turn, reclaim_turn}
+use Rattle.nb_model.proofs.WholeLaws.{two_none}
+use Rattle.nb_state.proofs.TestLaws.{first_applies}
 
 two_second : (c d : Cause) → c ≡ None → (r : Refusal) → d ≡ Some r → first_cause (c ∷ d ∷ []) ≡ Some r
 unfolding first_cause
 two_second c d none r e = ap (λ (x : Cause). first_cause (x ∷ d ∷ [])) none ∙ ap (λ (x : Cause). first_cause (x ∷ [])) e
 
-two_none : (c d : Cause) → c ≡ None → d ≡ None → first_cause (c ∷ d ∷ []) ≡ None
-unfolding first_cause
-two_none c d first second = ap (λ (x : Cause). first_cause (x ∷ d ∷ [])) first ∙ ap (λ (x : Cause). first_cause (x ∷ [])) second
-
 pub unsound_fails : (image : Image) (r : Refusal) → unsound_by (unsound image) ≡ Some r → check_cause image ≡ Some r
-unsound_fails image r e = two_first (unsound_by (unsound image)) (chains_cause image (chains image)) r e
+unsound_fails image r e = first_applies (unsound_by (unsound image)) (chains_cause image (chains image)) r e
 
 pub chain_fails : (image : Image) → unsound_by (unsound image) ≡ None → (r : Refusal) → chains_cause image (chains image) ≡ Some r → check_cause image ≡ Some r
 chain_fails image none r e = two_second (unsound_by (unsound image)) (chains_cause image (chains image)) none r e
@@ -34,7 +18,7 @@ pub check_free : (image : Image) → unsound_by (unsound image) ≡ None → cha
 check_free image none formed = two_none (unsound_by (unsound image)) (chains_cause image (chains image)) none formed
 
 pub closed_fails : (image : Image) (r : Refusal) → read_only image ≡ Some r → reclaim_cause image ≡ Some r
-closed_fails image r e = two_first (read_only image) (check_cause image) r e
+closed_fails image r e = first_applies (read_only image) (check_cause image) r e
 
 pub check_fails : (image : Image) → read_only image ≡ None → (r : Refusal) → check_cause image ≡ Some r → reclaim_cause image ≡ Some r
 check_fails image none r e = two_second (read_only image) (check_cause image) none r e

@@ -1,20 +1,6 @@
 -- No page far after the end breaks a fact: its bit and its entry stand after the end too.
-use Rattle.std.proofs.Common.{◌≡◌, inl, inr, ℕ, zero, suc, ◌+◌, ◌-◌, ◌*◌, ◌/◌, ◌%◌, ◌<◌, ◌≤◌, length, refl, sym, ap, subst, ◌∙◌, arith, add-mul, mul-le-mul_right, suc-mul}
-use Rattle.std.specs.Prelude.{IsTrue, Bool, true, false, Option, Some, None, ◌&&◌, nat_le}
-use Rattle.std.proofs.Math.Nat.{mod-lt, mul_assoc}
-use Rattle.std.proofs.lemmas.Nat.{div-add-mod', div-mul-add}
-use Rattle.std.proofs.lemmas.Bool.{and_left, cases_lt}
-use Rattle.nb_fields.specs.Places.{is_page_size, bits_in, entries_in, inventory_place, scn_place}
-use Rattle.nb_fields.proofs.PlaceLaws.{entries-least, bits-least}
-use Rattle.nb_model.specs.Image.{Page, Image, page_at, image_size}
-use Rattle.nb_model.specs.Forms.{inventory_of, scn_page_of}
-use Rattle.nb_model.proofs.ReadLaws.{lt_no}
-use Rattle.nb_model.specs.declared.fact.Fact.{Fact}
-use Rattle.nb_model.specs.declared.fact.Fact.TheVariants.{BlankPage, SystemPlace, TakenPast, LateStamp, WrongEntry, HeaderStamp}
-use Rattle.nb_check.specs.declared.facts.Broken.{Broken}
-use Rattle.nb_check.specs.declared.facts.Extent.{Extent}
-use Rattle.nb_model.specs.Facts.{breaks, covered}
-use Rattle.nb_check.specs.Passes.{IsFirstBelow, IsOf, IsMapOf}
+use Rattle.std.proofs.Common.{◌≡◌, inl, inr, ℕ, zero, suc, ◌+◌, ◌-◌, ◌*◌, ◌/◌, ◌%◌, ◌<◌, ◌≤◌, length, sym, ap, subst, ◌∙◌, arith, add-mul, mul-le-mul_right, suc-mul, IsTrue, false, Option, Some, None, nat_le}
+use Rattle.nb_check.proofs.Common.{mod-lt, mul_assoc, div-add-mod', div-mul-add, and_left, cases_lt, is_page_size, bits_in, entries_in, inventory_place, scn_place, entries-least, bits-least, Page, Image, page_at, image_size, inventory_of, scn_page_of, lt_no, Fact, BlankPage, SystemPlace, TakenPast, LateStamp, WrongEntry, HeaderStamp, Broken, Extent, breaks, covered, IsFirstBelow, IsOf, IsMapOf, and_right}
 use Rattle.nb_check.proofs.EntryLaws.{same_below, place_few, wrong_far}
 use Rattle.nb_check.proofs.FactLaws.{blank_past, place_past, late_past, header_past}
 
@@ -126,11 +112,7 @@ module _ (image : Image) (valid : IsTrue (is_page_size (image_size image))) wher
 
   taken_none : (p : ℕ) → n ≤ inventory_of image p → breaks image TakenPast p ≡ false
   unfolding breaks
-  taken_none p far = none (nat_le (length image) p) (and_left _ _ (lt_no (inventory_of image p) (length image) far))
-    where
-      none : (t : Bool) {u : Bool} → u ≡ false → (t && u) ≡ false
-      none true e = e
-      none false e = refl
+  taken_none p far = and_right (nat_le (length image) p) _ (and_left _ _ (lt_no (inventory_of image p) (length image) far))
 
   -- a page after the group breaks nothing
   pub none_far : 0 < n → (f : Fact) (p : ℕ) → group_end ≤ p → breaks image f p ≡ false

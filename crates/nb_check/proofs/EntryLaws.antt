@@ -1,27 +1,7 @@
 -- The SCN entry of a page: on which page it stands, and when it is wrong.
-use Rattle.std.proofs.Common.{◌≡◌, inl, inr, ℕ, zero, suc, ◌+◌, ◌-◌, ◌*◌, ◌/◌, ◌%◌, ◌<◌, ◌≤◌, length, get_or, refl, sym, ap, subst, ◌∙◌, arith}
-use Rattle.std.specs.Prelude.{IsTrue, Bool, true, false, ◌&&◌, ◌||◌, ◌==◌, nat_lt, nat_le}
-use Rattle.std.proofs.Math.Nat.{mod-lt}
-use Rattle.std.proofs.lemmas.Nat.{div-mul-add, div-add-mod'}
-use Rattle.std.proofs.lemmas.Bool.{and_left, and_parts, or_cases, cases_Bool, cases_lt, eqb-true, leb-false}
-use Rattle.nb_fields.specs.Page.{stamp_of}
-use Rattle.nb_fields.specs.Payloads.{entry_of}
-use Rattle.nb_fields.specs.Places.{is_page_size, entries_in, scn_place, is_scn_place}
-use Rattle.nb_fields.proofs.PlaceLaws.{entries-least}
-use Rattle.nb_scn.specs.Entries.{entries}
+use Rattle.std.proofs.Common.{◌≡◌, inl, inr, ℕ, zero, suc, ◌+◌, ◌-◌, ◌*◌, ◌/◌, ◌%◌, ◌<◌, ◌≤◌, length, get_or, sym, ap, subst, ◌∙◌, arith, IsTrue, Bool, true, false, ◌&&◌, ◌||◌, ◌==◌, nat_lt, nat_le, refl}
+use Rattle.nb_check.proofs.Common.{mod-lt, div-mul-add, div-add-mod', and_left, and_parts, or_cases, cases_Bool, cases_lt, eqb-true, stamp_of, entry_of, is_page_size, entries_in, scn_place, is_scn_place, entries-least, entries, Page, Image, page_at, image_size, image_scn, scn_page_of, entry_number, scn_entry, has_entry, eq_no, eq_yes, lt_yes, lt_no, le_no, WrongEntry, breaks, le_yes, or_true, and_right}
 use Rattle.nb_scn.proofs.EntryLaws.{get_or-entries}
-use Rattle.nb_model.specs.Image.{Page, Image, page_at, image_size, image_scn}
-use Rattle.nb_model.specs.Forms.{scn_page_of, entry_number, scn_entry, has_entry}
-use Rattle.nb_model.proofs.ReadLaws.{eq_no, eq_yes, lt_yes, lt_no, le_no}
-use Rattle.nb_model.specs.declared.fact.Fact.TheVariants.{WrongEntry}
-use Rattle.nb_model.specs.Facts.{breaks}
-
-pub le_yes : (a b : ℕ) → a ≤ b → nat_le a b ≡ true
-le_yes a b low = elim (cases_lt b a) [ inl less ↦ absurd (omega (arith, less, low)) | inr other ↦ by (nat_le a b) refl ]
-  where
-    by : (t : Bool) → nat_le a b ≡ t → nat_le a b ≡ true
-    by true e = e
-    by false e = (let high = leb-false a b e in absurd (omega (arith, high, low)))
 
 -- Where the entries stand.
 module _ (size : ℕ) (valid : IsTrue (is_page_size size)) where
@@ -96,13 +76,9 @@ module _ (image : Image) (p : ℕ) where
   unfolding has_entry
   no_entry_first e = ap (λ (t : Bool). elim (t || is_scn_place (image_size image) p) as (λ z. Bool) [ true ↦ false | false ↦ true ]) (eq_yes p 0 e)
 
-  either : (t : Bool) → (t || true) ≡ true
-  either true = refl
-  either false = refl
-
   pub no_entry_place : is_scn_place (image_size image) p ≡ true → has_entry image p ≡ false
   unfolding has_entry
-  no_entry_place place = ap (λ (t : Bool). elim (p == 0 || t) as (λ z. Bool) [ true ↦ false | false ↦ true ]) place ∙ ap (λ (t : Bool). elim t as (λ z. Bool) [ true ↦ false | false ↦ true ]) (either (p == 0))
+  no_entry_place place = ap (λ (t : Bool). elim (p == 0 || t) as (λ z. Bool) [ true ↦ false | false ↦ true ]) place ∙ ap (λ (t : Bool). elim t as (λ z. Bool) [ true ↦ false | false ↦ true ]) (or_true (p == 0))
 
   pub entry_there : (p ≡ 0 → ⊥) → is_scn_place (image_size image) p ≡ false → has_entry image p ≡ true
   unfolding has_entry
@@ -143,15 +119,11 @@ module _ (image : Image) (p : ℕ) where
       ∙ ap (λ (t : Bool). low_by t (nat_le (length image) (scn_page_of image p)) (nat_lt (scn_entry image p) (stamp_of (page_at image p))) || (nat_lt (scn_page_of image p) (length image) && nat_lt (image_scn image) (scn_entry image p))) (lt_no p (length image) past)
       ∙ ap (λ (t : Bool). t && nat_lt (image_scn image) (scn_entry image p)) (lt_yes (scn_page_of image p) (length image) there)
 
-  none_of : (t : Bool) → (t && false) ≡ false
-  none_of true = refl
-  none_of false = refl
-
   pub wrong_far : length image ≤ p → length image ≤ scn_page_of image p → breaks image WrongEntry p ≡ false
   unfolding breaks
   wrong_far past far =
       ap (λ (t : Bool). has_entry image p && (low_by t (nat_le (length image) (scn_page_of image p)) (nat_lt (scn_entry image p) (stamp_of (page_at image p))) || (nat_lt (scn_page_of image p) (length image) && nat_lt (image_scn image) (scn_entry image p)))) (lt_no p (length image) past)
-      ∙ ap (λ (t : Bool). has_entry image p && (t && nat_lt (image_scn image) (scn_entry image p))) (lt_no (scn_page_of image p) (length image) far) ∙ none_of (has_entry image p)
+      ∙ ap (λ (t : Bool). has_entry image p && (t && nat_lt (image_scn image) (scn_entry image p))) (lt_no (scn_page_of image p) (length image) far) ∙ and_right (has_entry image p) false refl
 
 -- The entry is read from its SCN page.
 pub entry_read : (image : Image) (p size : ℕ) (scn_page : Page) → IsTrue (is_page_size size) → size ≡ image_size image → length scn_page ≡ size → scn_page ≡ page_at image (scn_page_of image p) → get_or (entries scn_page) (p % entries_in size) 0 ≡ scn_entry image p

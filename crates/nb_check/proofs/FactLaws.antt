@@ -1,25 +1,7 @@
 -- Which is the lowest fact that one page breaks.
-use Rattle.std.proofs.Common.{◌≡◌, ◌↔◌, ℕ, ◌%◌, ◌<◌, ◌≤◌, length, get_or, refl, sym, ap, subst, ◌∙◌, arith}
-use Rattle.std.specs.Prelude.{IsTrue, Bool, true, false, Some, None, ◌&&◌, ◌||◌, ◌==◌, not, nat_lt}
-use Rattle.std.proofs.lemmas.Bool.{and_left}
-use Rattle.std.proofs.lemmas.Nat.Bits.{bit_at-lt}
-use Rattle.nb_fields.specs.Bytes.{is_zeros}
-use Rattle.nb_fields.specs.Page.{kind_of, stamp_of}
-use Rattle.nb_fields.specs.Places.{bits_in, is_inventory_place, is_scn_place}
-use Rattle.nb_fields.specs.Payloads.{bit_of}
-use Rattle.nb_fields.specs.Kinds.{inventory_kind, scn_kind}
+use Rattle.std.proofs.Common.{◌≡◌, ◌↔◌, ℕ, ◌%◌, ◌<◌, ◌≤◌, length, get_or, refl, sym, ap, subst, ◌∙◌, arith, IsTrue, Bool, true, false, Some, None, ◌&&◌, ◌||◌, ◌==◌, not, nat_lt}
+use Rattle.nb_check.proofs.Common.{and_left, bit_at-lt, is_zeros, kind_of, stamp_of, bits_in, is_inventory_place, is_scn_place, bit_of, inventory_kind, scn_kind, get_or-bits, Page, Image, page_at, first_page, image_size, image_scn, inventory_of, bit_number, is_free_page, head_in, eq_no, eq_yes, lt_yes, lt_no, le_no, Fact, BlankPage, SystemPlace, TakenPast, LateStamp, WrongEntry, HeaderStamp, breaks, number_of, IsLowestAt, IsOf, Extent, le_yes, never}
 use Rattle.nb_pip.specs.Bits.{bits}
-use Rattle.nb_pip.proofs.BitLaws.{get_or-bits}
-use Rattle.nb_model.specs.Image.{Page, Image, page_at, first_page, image_size, image_scn}
-use Rattle.nb_model.specs.Forms.{inventory_of, bit_number, is_free_page}
-use Rattle.nb_page.specs.Head.{head_in}
-use Rattle.nb_model.proofs.ReadLaws.{eq_no, eq_yes, lt_yes, lt_no, le_no}
-use Rattle.nb_model.specs.declared.fact.Fact.{Fact}
-use Rattle.nb_model.specs.declared.fact.Fact.TheVariants.{BlankPage, SystemPlace, TakenPast, LateStamp, WrongEntry, HeaderStamp}
-use Rattle.nb_model.specs.Facts.{breaks, number_of}
-use Rattle.nb_check.specs.Passes.{IsLowestAt, IsOf}
-use Rattle.nb_check.proofs.EntryLaws.{le_yes}
-use Rattle.nb_check.specs.declared.facts.Extent.{Extent}
 
 -- the extent is that of the image, whichever page of its size says so
 pub of_entries : (image : Image) (size other : ℕ) (extent : Extent) → other ≡ size → IsOf image size extent → IsOf image other extent
@@ -162,14 +144,6 @@ pub kind_in : (page : Page) → (head_in page).kind ≡ kind_of page
 unfolding head_in
 kind_in page = refl
 
-pub stamp_in : (page : Page) → (head_in page).scn ≡ stamp_of page
-unfolding head_in
-stamp_in page = refl
-
--- whether page p is used, by its bit
-not_false : IsTrue false → ⊥
-not_false e = cc
-
 pub used_is : (image : Image) (size p : ℕ) (map : Page) → size ≡ image_size image → map ≡ page_at image (inventory_of image p) → length map ≡ size → p % bits_in size < bits_in size
     → (used : Bool) → (IsTrue used ↔ (get_or (bits map) (p % bits_in size) 0 ≡ 0)) → used ≡ not (is_free_page image p)
 unfolding is_free_page
@@ -189,5 +163,5 @@ used_is image size p map same page long inside used is = by used is
     by true w = sym (ap not (free_is ∙ eq_no _ 1 (λ e. absurd (omega (arith, e, w.0 refl)))))
     by false w =
         let small : bit_of map (p % bits_in size) < 2 = bit_at-lt _ _ in
-        let other : get_or (bits map) (p % bits_in size) 0 ≡ 0 → ⊥ = λ e. not_false (w.1 e) in
+        let other : get_or (bits map) (p % bits_in size) 0 ≡ 0 → ⊥ = λ e. never (w.1 e) in
         sym (ap not (free_is ∙ eq_yes _ 1 (omega (arith, small, read_is, other))))

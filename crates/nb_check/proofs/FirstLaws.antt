@@ -1,8 +1,6 @@
 -- The lowest page that passes a test.
-use Rattle.std.proofs.Common.{◌≡◌, inl, inr, ℕ, zero, suc, ◌+◌, ◌<◌, ◌≤◌, refl, sym, ap, subst, ◌∙◌, arith}
-use Rattle.std.specs.Prelude.{Bool, true, false, Option, Some, None}
-use Rattle.std.proofs.lemmas.Bool.{cases_lt}
-use Rattle.nb_model.specs.Facts.{first_from}
+use Rattle.std.proofs.Common.{◌≡◌, inl, inr, ℕ, zero, suc, ◌+◌, ◌<◌, ◌≤◌, refl, sym, ap, subst, ◌∙◌, arith, Bool, true, false, Option, Some, None}
+use Rattle.nb_check.proofs.Common.{cases_lt, first_from, some_none}
 
 -- by the test of the first page
 abbrev by_first : (left p : ℕ) (test : ℕ → Bool) → Bool → Option ℕ
@@ -11,9 +9,6 @@ by_first left p test t = elim t as (λ z. Option ℕ) [ true ↦ Some p | false 
 first_is : (left p : ℕ) (test : ℕ → Bool) (t : Bool) → test p ≡ t → first_from (suc left) p test ≡ by_first left p test t
 unfolding first_from
 first_is left p test t e = ap (by_first left p test) e
-
-pub some_none : {X : Type 0} (x : X) → Some x ≡ None → ⊥
-some_none x e = cc
 
 -- none passes
 pub first_none : (left p : ℕ) (test : ℕ → Bool) → first_from left p test ≡ None → (q : ℕ) → p ≤ q → q < p + left → test q ≡ false

@@ -1,26 +1,9 @@
 -- A page of a sound image is given back: its bit says free then, and every other bit is as it was, before and after the entry of its inventory page.
-use Rattle.std.proofs.Common.{◌≡◌, ◌≢◌, inl, inr, ℕ, ◌+◌, ◌/◌, ◌%◌, ◌<◌, ◌≤◌, length, drop, sym, ap, subst, ◌∙◌, arith}
-use Rattle.std.specs.Prelude.{true, false, ◌==◌}
-use Rattle.std.proofs.lemmas.Bool.Decides.{eqb_tells}
-use Rattle.nb_fields.specs.Payloads.{bit_of}
-use Rattle.nb_fields.specs.Places.{bits_in, entries_in, inventory_place, is_scn_place, is_system_place}
-use Rattle.nb_fields.proofs.PlaceLaws.{bits-least}
-use Rattle.nb_fields.proofs.SizeLaws.{SizeFacts, size_facts}
-use Rattle.nb_fields.specs.Kinds.{inventory_kind}
-use Rattle.nb_model.specs.Account.{Base, base_of}
-use Rattle.nb_model.specs.Forms.{Draft, drafted, old_page, put, raised, give_page, is_free_page, inventory_of, bit_number, with_bit}
-use Rattle.nb_model.specs.Image.{Page, Image, page_at, image_size, image_scn}
-use Rattle.nb_model.proofs.Along.{Along, put_along}
+use Rattle.std.proofs.Common.{◌≡◌, ◌≢◌, inl, inr, ℕ, ◌+◌, ◌/◌, ◌%◌, ◌<◌, ◌≤◌, length, drop, sym, ap, subst, ◌∙◌, arith, true, false, ◌==◌}
+use Rattle.nb_check.proofs.Common.{eqb_tells, bit_of, bits_in, entries_in, inventory_place, is_scn_place, is_system_place, bits-least, SizeFacts, size_facts, inventory_kind, Base, base_of, Draft, drafted, old_page, put, raised, give_page, is_free_page, inventory_of, bit_number, with_bit, Page, Image, page_at, image_size, image_scn, Along, put_along, bit_put, IsWhole, Fits, fits_first, IsPlace, Raises, is_raised, old_there, AnyPage, no_place, bit_by, kind_found, raises, put_here, put_long, put_inventory, all_at, inventory_there, inventory_place_some, scn_page_there, bit_inventory, bit_size, bit_plain}
 use Rattle.nb_model.proofs.BitLaws.{bit_here, bit_else, bit_behind, one_bit, with_bit_length}
-use Rattle.nb_model.proofs.BitSound.{bit_put}
-use Rattle.nb_model.proofs.FitLaws.{IsWhole, Fits, fits_first}
 use Rattle.nb_model.proofs.HeldLaws.{set_bit_is}
 use Rattle.nb_model.proofs.NewSound.{places_apart}
-use Rattle.nb_model.proofs.PutSound.{IsPlace, Raises, is_raised}
-use Rattle.nb_model.proofs.RoomLaws.{old_there}
-use Rattle.nb_model.proofs.RoundLaws.{AnyPage, no_place, bit_by, kind_found, raises, put_here, put_long, put_inventory}
-use Rattle.nb_model.proofs.SoundLaws.{all_at, inventory_there, inventory_place_some, scn_page_there}
-use Rattle.nb_model.proofs.TableDrafts.{bit_inventory, bit_size, bit_plain}
 
 module _ (x : Image) (h : IsWhole x) (p : ℕ) (two : 2 ≤ p) (low : p < length x) where
   abbrev i : ℕ

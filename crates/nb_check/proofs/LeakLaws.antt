@@ -1,37 +1,10 @@
 -- Leaked pages are given back one after the other, in rising order.
-use Rattle.std.proofs.Common.{◌≡◌, ℕ, zero, suc, ◌+◌, ◌-◌, ◌*◌, ◌<◌, ◌≤◌, List, [], ◌∷◌, ◌++◌, length, refl, sym, ap, subst, append_assoc, ◌∙◌, arith}
-use Rattle.std.specs.Prelude.{Bool, true, false, cond, None, Result, Ok, Err, IfErr}
-use Rattle.std.specs.List.{filter, range_with_len}
-use Rattle.std.proofs.lemmas.List.{append-nil}
-use Rattle.nb_fields.specs.Places.{is_system_place}
-use Rattle.nb_host.specs.World.{World}
-use Rattle.nb_host.specs.declared.faults.Fault.{Fault}
-use Rattle.nb_page.specs.Quiet.{Quiet}
+use Rattle.std.proofs.Common.{◌≡◌, ℕ, zero, suc, ◌+◌, ◌-◌, ◌*◌, ◌<◌, ◌≤◌, List, [], ◌∷◌, ◌++◌, length, refl, sym, ap, subst, append_assoc, ◌∙◌, arith, Bool, true, false, cond, None, Result, Ok, Err, IfErr}
+use Rattle.nb_check.proofs.Common.{filter, range_with_len, append-nil, is_system_place, World, Fault, Quiet, base_of, Draft, drafted, give_page, Image, image_size, HasHeader, IsSoundImage, Stroke, all_given, Trail, after_stroke, drafted_is, drafts_are, set_bit_keeps, IsWhole, fits_first, leaked_plain, leaked_two, given_first, bit_put, header_whole, AnyPage, bit_inventory, bit_longer, bit_size, after_strokes, IsNoRefusal, Held, IsOpen, Makes, Tested, makes_none, makes_then, makes_front, mark_cause, Tries, sure_of, tries_made, is_leaked, leaked, given_none}
 use Rattle.nb_change.proofs.ReachedLaws.{after_all-joined}
-use Rattle.nb_model.specs.Account.{base_of}
-use Rattle.nb_model.specs.Forms.{Draft, drafted, give_page}
-use Rattle.nb_model.specs.Image.{Image, image_size}
-use Rattle.nb_model.specs.Sound.{HasHeader, IsSoundImage}
-use Rattle.nb_model.specs.Strokes.{Stroke}
-use Rattle.nb_model.specs.Tables.{all_given}
-use Rattle.nb_model.specs.Trail.{Trail, after_stroke}
-use Rattle.nb_model.proofs.DraftLaws.{IsOf, drafted_is, drafts_are, set_bit_keeps}
-use Rattle.nb_model.proofs.FitLaws.{IsWhole, fits_first}
-use Rattle.nb_model.proofs.LeakTurns.{leaked_plain, leaked_two, given_first}
-use Rattle.nb_model.proofs.BitSound.{bit_put}
-use Rattle.nb_model.proofs.PutSound.{header_whole}
-use Rattle.nb_model.proofs.RoundLaws.{AnyPage}
-use Rattle.nb_model.proofs.TableDrafts.{bit_inventory, bit_longer, bit_size}
-use Rattle.nb_base.specs.Takes.{after_strokes, IsNoRefusal}
-use Rattle.nb_state.specs.Open.{Held, IsOpen}
-use Rattle.nb_state.specs.Does.{Makes, Tested}
-use Rattle.nb_state.proofs.MakesLaws.{makes_none, makes_then, makes_front}
-use Rattle.nb_engine.specs.Mark.{mark_cause}
-use Rattle.nb_engine.specs.Tries.{Tries}
-use Rattle.nb_alloc.proofs.DoesLaws.{sure_of, tries_made}
+use Rattle.nb_model.proofs.DraftLaws.{IsOf}
 use Rattle.nb_alloc.proofs.MakeLaws.{mark_none}
 use Rattle.nb_alloc.proofs.NewLaws.{image_is}
-use Rattle.nb_model.specs.Leaks.{is_leaked, leaked}
 
 -- the leaked pages from page n on
 abbrev pub leaked_from : Image → (n : ℕ) → List ℕ
@@ -66,10 +39,6 @@ passed_reads image n now all low fails so_far =
     let same : leaked_from image n ≡ leaked_from image (n + 1) = leaked_step image n low ∙ ap (λ (t : Bool). cond t (n ∷ leaked_from image (n + 1)) (leaked_from image (n + 1))) fails in
     let many : length (leaked_from image n) ≡ length (leaked_from image (n + 1)) = ap length same in
     omega (arith, so_far, many)
-
-pub given_none : (z : Image) → (all_given [] (drafted z)).strokes ≡ []
-unfolding all_given
-given_none z = refl
 
 -- The leaked pages below a number were given back, those from it on are still to come.
 pub record IsGiving (old now : World) (a b : Held) (t : Trail) (number : ℕ) : Type 0 where

@@ -18,3 +18,4 @@ mod CoverLaws
 mod CauseLaws
 mod TriesLaws
 pub mod TakenLaws
+mod Common

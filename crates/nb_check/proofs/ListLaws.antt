@@ -1,19 +1,8 @@
 -- The chains of the tables that the catalogue names, slot by slot and page by page.
-use Rattle.std.proofs.Common.{◌≡◌, ℕ, ◌+◌, ◌-◌, ◌*◌, ◌/◌, ◌<◌, ◌≤◌, List, [], ◌∷◌, ◌++◌, length, refl, sym, ap, subst, ◌∙◌, arith, append_assoc, length-append}
-use Rattle.std.specs.Prelude.{Bool, true, false, Some, None}
-use Rattle.std.proofs.lemmas.List.{append-nil}
-use Rattle.nb_fields.specs.Bytes.{part}
-use Rattle.nb_host.specs.declared.refusals.Refusal.{Refusal}
-use Rattle.nb_model.specs.Image.{Page, Image, page_at}
-use Rattle.nb_model.specs.Causes.{Cause, first_cause, broken_at}
-use Rattle.nb_model.specs.Chains.{Chain, Catalogue, History, RowsFrom, Slot, Spot, is_used, first_in, slots_from, slots_in, spots_on, spots_of, spots, pages_of, found_pages}
-use Rattle.nb_model.specs.Rows.{used, table_chains, chains, pages_of_all}
-use Rattle.nb_model.specs.Leaks.{reached}
-use Rattle.nb_walk.proofs.SlotLaws.{slots_step, spots_both}
-use Rattle.nb_check.specs.Sets.{IsWithout}
-use Rattle.nb_model.specs.Checks.{chains_cause}
-use Rattle.nb_check.specs.Walks.{chains_on}
+use Rattle.std.proofs.Common.{◌≡◌, ℕ, ◌+◌, ◌-◌, ◌*◌, ◌/◌, ◌<◌, ◌≤◌, List, [], ◌∷◌, ◌++◌, length, refl, sym, ap, subst, ◌∙◌, arith, append_assoc, length-append, Bool, true, false, Some, None}
+use Rattle.nb_check.proofs.Common.{append-nil, part, Refusal, Page, Image, page_at, Cause, first_cause, broken_at, Chain, Catalogue, History, RowsFrom, Slot, Spot, is_used, first_in, slots_from, slots_in, spots_on, spots_of, spots, pages_of, found_pages, used, table_chains, chains, pages_of_all, reached, slots_step, IsWithout, chains_cause, chains_on, none_some, some_none}
 use Rattle.nb_check.proofs.SetLaws.{without_none, without_both}
+use Rattle.nb_model.proofs.GrowthTurns.{spots_both}
 
 -- the chains in slots
 pub chains_in : List Slot → List Chain
@@ -89,9 +78,6 @@ pub cause_behind : (image : Image) (cs ds : List Chain) → chains_cause image c
 cause_behind image [] ds none = refl
 cause_behind image (c ∷ cs) ds none = by (broken_at (pages_of c image)) refl (cause_behind image cs ds)
   where
-    some_none : (r : Refusal) → ◌≡◌ {A = Cause} (Some r) None → ⊥
-    some_none r e = cc
-
     by : (o : Cause) → broken_at (pages_of c image) ≡ o → (chains_cause image cs ≡ None → chains_cause image (cs ++ ds) ≡ chains_cause image ds) → chains_cause image ((c ∷ cs) ++ ds) ≡ chains_cause image ds
     by (Some r) e rest = absurd (some_none r (sym (cause_first image c cs ∙ ap (λ (o : Cause). or_else o (chains_cause image cs)) e) ∙ none))
     by None e rest =
@@ -103,9 +89,6 @@ cause_here image c cs r e = cause_first image c cs ∙ ap (λ (o : Cause). or_el
 
 pub cause_later : (image : Image) (c : Chain) (cs : List Chain) → broken_at (pages_of c image) ≡ None → chains_cause image (c ∷ cs) ≡ chains_cause image cs
 cause_later image c cs e = cause_first image c cs ∙ ap (λ (o : Cause). or_else o (chains_cause image cs)) e
-
-pub none_some : (r : Refusal) → None ≡ Some r → ⊥
-none_some r e = cc
 
 -- or the first that isn't is among them
 cause_front : (image : Image) (cs ds : List Chain) (r : Refusal) → chains_cause image cs ≡ Some r → chains_cause image (cs ++ ds) ≡ Some r

@@ -1,22 +1,8 @@
 -- A neat image from which leaked pages were given back is neat, with the rows of every table.
-use Rattle.std.proofs.Common.{◌≡◌, inl, inr, ℕ, ◌<◌, List, [], ◌∷◌, ◌++◌, take, refl, sym, ap, subst, append_assoc, ◌∙◌}
-use Rattle.std.specs.Prelude.{Bool, true, false, ◌||◌, not, nat_eq, Ok, length}
-use Rattle.std.specs.List.{AllByRecursion}
-use Rattle.std.proofs.lemmas.Bool.{true≢false, cases_Bool, and_parts}
-use Rattle.std.proofs.lemmas.List.Folds.{list_any-append}
-use Rattle.nb_model.specs.Account.{Base}
-use Rattle.nb_model.specs.Chains.{Chain, Catalogue, Spot, spots, pages_of, found_pages}
-use Rattle.nb_model.specs.Forms.{is_free_page}
-use Rattle.nb_model.specs.Image.{Image}
+use Rattle.std.proofs.Common.{◌≡◌, inl, inr, ℕ, ◌<◌, List, [], ◌∷◌, ◌++◌, take, refl, sym, ap, subst, append_assoc, ◌∙◌, Bool, true, false, ◌||◌, not, nat_eq, Ok, length}
+use Rattle.nb_check.proofs.Common.{AllByRecursion, true≢false, cases_Bool, and_parts, list_any-append, Base, Chain, Catalogue, Spot, spots, pages_of, found_pages, is_free_page, Image, used, table_chains, chains, names_of, keys_of, AreDistinct, IsNeat, HasHeader, IsSoundImage, base_after, eq_yes, is_among, leaked, reached, reclaimed, all_go, all_both, or_right, or_parts}
 use Rattle.nb_model.specs.RowChanges.{KeepsRows}
-use Rattle.nb_model.specs.Rows.{used, table_chains, chains, names_of, keys_of, AreDistinct, IsNeat}
-use Rattle.nb_model.specs.Sound.{HasHeader, IsSoundImage}
-use Rattle.nb_model.specs.Strokes.{base_after}
 use Rattle.nb_model.proofs.HeldChains.{IsHeldIn, chains_held, chain_each}
-use Rattle.nb_model.proofs.NeatLaws.{all_go, all_both}
-use Rattle.nb_model.proofs.ReadLaws.{eq_yes}
-use Rattle.nb_model.specs.Leaks.{is_among, leaked, reached}
-use Rattle.nb_model.specs.Checks.{reclaimed}
 use Rattle.nb_check.proofs.AmongLaws.{leaked_each}
 use Rattle.nb_check.proofs.BackLaws.{IsBack, on_way}
 use Rattle.nb_check.proofs.SameLaws.{pages_same, spots_same, chains_same, reached_same, rows_same}
@@ -24,11 +10,7 @@ use Rattle.nb_check.proofs.SameLaws.{pages_same, spots_same, chains_same, reache
 -- each of a list is among them
 among_behind : (q : ℕ) (xs ys : List ℕ) → is_among q ys ≡ true → is_among q (xs ++ ys) ≡ true
 among_behind q [] ys holds = holds
-among_behind q (x ∷ xs) ys holds = or_true (nat_eq q x) (among_behind q xs ys holds)
-  where
-    or_true : (t : Bool) → is_among q (xs ++ ys) ≡ true → (t || is_among q (xs ++ ys)) ≡ true
-    or_true true rest = refl
-    or_true false rest = rest
+among_behind q (x ∷ xs) ys holds = or_right (nat_eq q x) (is_among q (xs ++ ys)) (among_behind q xs ys holds)
 
 all_among : (xs ys : List ℕ) → AllByRecursion (λ (q : ℕ). is_among q (xs ++ ys) ≡ true) ys
 all_among xs [] = tt
@@ -61,11 +43,7 @@ module _ (x : Image) (header : HasHeader x) (sound : IsSoundImage x) (neat : IsN
   -- a page that is reached is taken still
   still_taken : (p : ℕ) → p < length x → is_free_page x p ≡ false → is_among p (reached x) ≡ true → is_free_page y p ≡ false
   still_taken p low taken at =
-      back.bits p low ∙ ap (λ (t : Bool). t || is_among p ps) taken ∙ front_off (is_among p ps) (is_among p qs) (sym (list_any-append (nat_eq p) ps qs) ∙ ap (is_among p) (sym are) ∙ reached_off x p low at)
-    where
-      front_off : (a b : Bool) → (a || b) ≡ false → a ≡ false
-      front_off false b fails = refl
-      front_off true b fails = absurd (true≢false fails)
+      back.bits p low ∙ ap (λ (t : Bool). t || is_among p ps) taken ∙ (or_parts (is_among p ps) (is_among p qs) (sym (list_any-append (nat_eq p) ps qs) ∙ ap (is_among p) (sym are) ∙ reached_off x p low at)).0
 
   abbrev Stays : ℕ → Type 0
   Stays p = (p < length x) × (is_free_page x p ≡ false)

@@ -1,18 +1,6 @@
 -- A pass goes on by one page.
-use Rattle.std.proofs.Common.{◌≡◌, inl, inr, ℕ, zero, suc, ◌+◌, ◌-◌, ◌*◌, ◌/◌, ◌%◌, ◌<◌, ◌≤◌, [], ◌∷◌, length, refl, sym, ap, subst, ◌∙◌, arith}
-use Rattle.std.specs.Prelude.{IsTrue, Bool, true, false, Option, Some, None, ◌⊎◌, ◌==◌, min}
-use Rattle.std.proofs.Math.Nat.{mod-lt}
-use Rattle.std.proofs.lemmas.Nat.{div-mul-add, mod-mul-add, div-add-mod'}
-use Rattle.std.proofs.lemmas.Bool.{and_parts, or_cases, or_parts, or_right, and_from, true≢false, cases_lt, ltb-true, eqb-true}
-use Rattle.nb_fields.specs.Places.{is_page_size, bits_in, entries_in, inventory_place, scn_place, is_inventory_place, is_scn_place}
-use Rattle.nb_fields.proofs.PlaceLaws.{entries-least, bits-least}
-use Rattle.nb_fields.specs.Header.{is_header}
-use Rattle.nb_model.specs.Image.{Page, Image, page_at, first_page, image_size}
-use Rattle.nb_model.proofs.ReadLaws.{eq_yes, lt_yes}
-use Rattle.nb_model.specs.declared.fact.Fact.{Fact}
-use Rattle.nb_check.specs.declared.facts.Broken.{Broken}
-use Rattle.nb_model.specs.Facts.{breaks, number_of}
-use Rattle.nb_check.specs.Passes.{IsLowestAt, IsFirstBelow, IsMapOf, HasEntryOf}
+use Rattle.std.proofs.Common.{◌≡◌, inl, inr, ℕ, zero, suc, ◌+◌, ◌-◌, ◌*◌, ◌/◌, ◌%◌, ◌<◌, ◌≤◌, refl, sym, ap, subst, ◌∙◌, arith, IsTrue, Bool, true, false, Option, Some, None, ◌⊎◌, ◌==◌}
+use Rattle.nb_check.proofs.Common.{mod-lt, div-mul-add, mod-mul-add, div-add-mod', and_parts, or_cases, or_parts, or_right, and_from, true≢false, cases_lt, ltb-true, eqb-true, is_page_size, bits_in, entries_in, inventory_place, scn_place, is_inventory_place, is_scn_place, entries-least, bits-least, Page, Image, page_at, image_size, eq_yes, lt_yes, Fact, Broken, breaks, number_of, IsLowestAt, IsFirstBelow, IsMapOf, HasEntryOf}
 
 pub below_more : (p n : ℕ) → p < n + 1 → (p < n) ⊎ (p ≡ n)
 below_more p n low = elim (cases_lt p n) [ inl less ↦ inl less | inr other ↦ inr (omega (arith, low, other)) ]
@@ -216,14 +204,3 @@ first_map_is size valid = ap (inventory_place size) (zero_group (bits_in size) (
 
 pub first_entries_are : (size : ℕ) → IsTrue (is_page_size size) → scn_place size (0 / entries_in size) ≡ 2
 first_entries_are size valid = ap (scn_place size) (zero_group (entries_in size) (let least = entries-least size valid in omega (arith, least)))
-
--- an image with a header has pages
-pub some_pages : (image : Image) → is_header (first_page image) ≡ true → 0 < length image
-unfolding is_header
-some_pages [] e = absurd (true≢false (sym e))
-some_pages (page ∷ pages) e = omega arith
-
--- Each page took one read at most, page 0 two.
-pub page_read : (old loop new number : ℕ) → (0 < number → new ≤ loop + 1) → new ≤ loop + 2 → loop ≤ old + number + min number 1 → new ≤ old + (number + 1) + min (number + 1) 1
-page_read old loop new zero once twice so_far = omega (arith, twice, so_far)
-page_read old loop new (suc n) once twice so_far = (let one : new ≤ loop + 1 = once (omega arith) in omega (arith, one, so_far))

@@ -1,17 +1,10 @@
 -- The pages of a set, in rising order.
-use Rattle.std.proofs.Common.{◌≡◌, ℕ, zero, suc, ◌+◌, ◌-◌, ◌<◌, ◌≤◌, List, [], ◌∷◌, ◌++◌, length, get_or, refl, sym, ap, length-append, ◌∙◌, arith}
-use Rattle.std.specs.Prelude.{Bool, true, false, cond, ◌&&◌, not, nat_lt}
-use Rattle.std.specs.List.{filter, range_with_len}
-use Rattle.std.proofs.lemmas.Bool.{ltb-true, ltb-false}
-use Rattle.std.proofs.lemmas.List.{append-nil}
+use Rattle.std.proofs.Common.{◌≡◌, ℕ, zero, suc, ◌+◌, ◌-◌, ◌<◌, ◌≤◌, List, [], ◌∷◌, ◌++◌, length, get_or, refl, sym, ap, length-append, ◌∙◌, arith, Bool, true, false, cond, ◌&&◌, not, nat_lt}
+use Rattle.nb_check.proofs.Common.{filter, range_with_len, ltb-true, ltb-false, append-nil, Image, lt_yes, lt_no, is_among, is_taken_data, is_leaked, leaked, reached, HoldsTaken, has, room_of, pages_in, IsWithout}
 use Rattle.std.proofs.lemmas.List.Elements.{filter-append}
-use Rattle.nb_model.specs.Image.{Image}
-use Rattle.nb_model.proofs.ReadLaws.{lt_yes, lt_no}
-use Rattle.nb_model.specs.Leaks.{is_among, is_taken_data, is_leaked, leaked, reached}
-use Rattle.nb_check.specs.Passes.{HoldsTaken}
-use Rattle.nb_check.specs.Sets.{has, room_of, pages_in, IsWithout}
 use Rattle.nb_check.proofs.AmongLaws.{among_range, among_behind}
 use Rattle.nb_check.proofs.SetBits.{past}
+use Rattle.nb_check.proofs.BackLaws.{filter_same}
 
 -- a range in two parts
 range_split : (n m a : ℕ) → range_with_len a (n + m) ≡ range_with_len a n ++ range_with_len (a + n) m
@@ -88,12 +81,6 @@ none_left test zero a none = refl
 none_left test (suc n) a none =
     ap (λ (t : Bool). cond t (a ∷ filter test (range_with_len (a + 1) n)) (filter test (range_with_len (a + 1) n))) (none a (omega arith) (omega arith)) ∙ none_left test n (a + 1) (λ q low high. none q (omega (arith, low)) (omega (arith, high)))
 
-same_left : (f g : ℕ → Bool) (n a : ℕ) → ((q : ℕ) → a ≤ q → q < a + n → f q ≡ g q) → filter f (range_with_len a n) ≡ filter g (range_with_len a n)
-same_left f g zero a same = refl
-same_left f g (suc n) a same =
-    ap (λ (t : Bool). cond t (a ∷ filter f (range_with_len (a + 1) n)) (filter f (range_with_len (a + 1) n))) (same a (omega arith) (omega arith))
-    ∙ ap (λ (xs : List ℕ). cond (g a) (a ∷ xs) xs) (same_left f g n (a + 1) (λ q low high. same q (omega (arith, low)) (omega (arith, high))))
-
 -- The data pages that are taken, without those that are reached, are the leaked ones.
 module _ (image : Image) (taken_data rest : List ℕ) (taken : HoldsTaken image (length image) taken_data) (out : IsWithout taken_data (reached image) rest) where
   abbrev n : ℕ
@@ -111,4 +98,4 @@ module _ (image : Image) (taken_data rest : List ℕ) (taken : HoldsTaken image 
       let parts : room_of rest ≡ n + (room_of rest - n) = omega (arith, room) in
       ap (λ (m : ℕ). filter (has rest) (range_with_len 0 m)) parts ∙ ap (filter (has rest)) (range_split n (room_of rest - n) 0) ∙ filter-append (has rest) (range_with_len 0 n) (range_with_len (0 + n) (room_of rest - n))
       ∙ ap (λ (xs : List ℕ). filter (has rest) (range_with_len 0 n) ++ xs) (none_left (has rest) (room_of rest - n) (0 + n) (λ q low high. far q (omega (arith, low)))) ∙ append-nil (filter (has rest) (range_with_len 0 n))
-      ∙ same_left (has rest) (is_leaked image) n 0 (λ q low high. below q (omega (arith, high)))
+      ∙ filter_same (has rest) (is_leaked image) n 0 (λ q low high. below q (omega (arith, high)))

@@ -1,21 +1,7 @@
 -- Two sound images that differ in system pages alone have the same chains, and the same rows.
-use Rattle.std.proofs.Common.{◌≡◌, inl, inr, ℕ, zero, suc, ◌<◌, List, [], ◌∷◌, ◌++◌, length, refl, sym, ap, ◌∙◌, arith}
-use Rattle.std.specs.Prelude.{Bool, true, false, ◌&&◌, ◌==◌, nat_lt, map, Option, Some, None, Result, Ok, Err}
-use Rattle.std.specs.List.{AllByRecursion, list_all}
-use Rattle.std.proofs.lemmas.Bool.{and_left, or_cases, cases_Bool, cases_lt}
-use Rattle.nb_fields.specs.Page.{kind_of}
-use Rattle.nb_fields.specs.Places.{is_system_place}
-use Rattle.nb_fields.specs.Kinds.{data_kind}
+use Rattle.std.proofs.Common.{◌≡◌, inl, inr, ℕ, zero, suc, ◌<◌, List, [], ◌∷◌, ◌++◌, length, refl, sym, ap, ◌∙◌, arith, Bool, true, false, ◌&&◌, ◌==◌, nat_lt, map, Option, Some, None, Result, Ok, Err}
+use Rattle.nb_check.proofs.Common.{AllByRecursion, list_all, and_left, or_cases, cases_Bool, cases_lt, kind_of, is_system_place, data_kind, Page, Image, page_at, image_size, SoundInventory, Cause, first_cause, broken_at, Chain, Catalogue, History, RowsFrom, Spot, owner_of, owner_in, first_of, first_in, is_slot, is_used, table_of, slots_in, is_in_chain, next_in, linked, walk, pages_of, found_pages, spots_on, spots_of, spots, table_spot, first_such, RowMap, rows, rows_in, used, table_chains, chains, pages_of_all, eq_no, lt_no, pages_found, reached, chains_cause, not_both, and_right}
 use Rattle.nb_host.specs.Names.{same_name}
-use Rattle.nb_model.specs.Image.{Page, Image, page_at, image_size}
-use Rattle.nb_model.specs.Sound.{SoundInventory}
-use Rattle.nb_model.specs.Causes.{Cause, first_cause, broken_at}
-use Rattle.nb_model.specs.Chains.{Chain, Catalogue, History, RowsFrom, Spot, owner_of, owner_in, first_of, first_in, is_slot, is_used, table_of, slots_in, is_in_chain, next_in, linked, walk, pages_of, found_pages, spots_on, spots_of, spots, table_spot, first_such}
-use Rattle.nb_model.specs.Rows.{RowMap, rows, rows_in, used, table_chains, chains, pages_of_all}
-use Rattle.nb_model.proofs.ReadLaws.{eq_no, lt_no}
-use Rattle.nb_model.proofs.RoomLaws.{pages_found}
-use Rattle.nb_model.specs.Leaks.{reached}
-use Rattle.nb_model.specs.Checks.{chains_cause}
 
 -- every page but the system pages is the same
 pub record AreAlike (x y : Image) : Type 0 where
@@ -43,13 +29,9 @@ module _ (x y : Image) (alike : AreAlike x y) (sx : SoundInventory x) (sy : Soun
   system_out chain z s p place = in_is chain z p ∙ elim (cases_lt p (length z)) [
     | inl low ↦
         (let kind = system_kind z s p low place in
-        ap (λ (t : Bool). nat_lt p (length z) && (t && (owner_in (page_at z p) == owner_of chain && list_all (is_slot chain) (slots_in (page_at z p))))) kind ∙ and_no (nat_lt p (length z)))
+        ap (λ (t : Bool). nat_lt p (length z) && (t && (owner_in (page_at z p) == owner_of chain && list_all (is_slot chain) (slots_in (page_at z p))))) kind ∙ and_right (nat_lt p (length z)) false refl)
     | inr past ↦ and_left _ _ (lt_no p (length z) (omega (arith, past)))
   ]
-    where
-      and_no : (t : Bool) → (t && false) ≡ false
-      and_no true = refl
-      and_no false = refl
 
   pub in_same : (chain : Chain) (p : ℕ) → is_in_chain chain y p ≡ is_in_chain chain x p
   in_same chain p = elim (cases_Bool (is_system_place (image_size x) p)) [
@@ -61,12 +43,9 @@ module _ (x y : Image) (alike : AreAlike x y) (sx : SoundInventory x) (sy : Soun
   -- a page of a chain is the same
   pub page_same : (chain : Chain) (p : ℕ) → is_in_chain chain x p ≡ true → page_at y p ≡ page_at x p
   page_same chain p is = elim (cases_Bool (is_system_place (image_size x) p)) [
-    | inl place ↦ (let fails = system_out chain x sx p place in absurd (no_both (is_in_chain chain x p) is fails))
+    | inl place ↦ (let fails = system_out chain x sx p place in absurd (not_both (is_in_chain chain x p) is fails))
     | inr plain ↦ alike.pages p plain
   ]
-    where
-      no_both : (t : Bool) → t ≡ true → t ≡ false → ⊥
-      no_both t holds fails = cc
 
   -- what a walk does at a page
   abbrev go_by : (p next : ℕ) → Result (List ℕ) ℕ → Bool → Result (List ℕ) ℕ

@@ -1,9 +1,6 @@
 -- Sets of pages, of which some are taken out.
-use Rattle.std.proofs.Common.{◌≡◌, ℕ, List, [], ◌++◌, refl, sym, ap, ◌∙◌}
-use Rattle.std.specs.Prelude.{Bool, true, false, ◌&&◌, ◌||◌, not, nat_eq}
-use Rattle.std.proofs.lemmas.List.Folds.{list_any-append}
-use Rattle.nb_check.specs.Sets.{has, IsWithout}
-use Rattle.nb_model.specs.Leaks.{is_among}
+use Rattle.std.proofs.Common.{◌≡◌, ℕ, List, [], ◌++◌, refl, sym, ap, ◌∙◌, Bool, true, false, ◌&&◌, ◌||◌, not, nat_eq}
+use Rattle.nb_check.proofs.Common.{list_any-append, has, IsWithout, is_among}
 
 and_all : (a : Bool) → a ≡ (a && true)
 and_all true = refl

@@ -1,38 +1,12 @@
 -- Inventories are sound exactly where no fact is broken.
-use Rattle.std.proofs.Common.{◌≡◌, inl, inr, ℕ, ◌<◌, ◌≤◌, length, refl, sym, ap, ◌∙◌, arith}
-use Rattle.std.specs.Prelude.{IsTrue, IsSome, Bool, true, false, Option, Some, None, ◌&&◌, ◌||◌, ◌==◌, not, nat_lt, nat_le}
-use Rattle.std.proofs.lemmas.Bool.{and_parts, and_from, or_parts, or_cases, cases_Bool, cases_lt, false_from_ne_true, true≢false, ltb-true, ltb-false, leb-true, leb-false, eqb-true, not_from_false}
-use Rattle.nb_fields.specs.Bytes.{is_zeros}
-use Rattle.nb_fields.specs.Page.{kind_of, stamp_of}
-use Rattle.nb_fields.specs.Places.{is_page_size, is_inventory_place, is_scn_place, most_pages}
-use Rattle.nb_fields.specs.Kinds.{inventory_kind, scn_kind}
-use Rattle.nb_model.specs.Image.{Image, page_at, first_page, image_size, image_scn}
-use Rattle.nb_model.specs.Forms.{inventory_of, scn_page_of, scn_entry, has_entry, is_free_page}
-use Rattle.nb_model.specs.Sound.{SoundInventory, IsSoundImage, IsOfSize}
-use Rattle.nb_model.proofs.ReadLaws.{eq_yes, lt_yes}
-use Rattle.nb_model.proofs.SoundLaws.{all_from, all_at}
-use Rattle.nb_host.specs.declared.refusals.Refusal.TheVariants.{Unsound}
-use Rattle.nb_model.specs.Causes.{broken_at}
-use Rattle.nb_model.specs.Chains.{History, pages_of}
-use Rattle.nb_model.specs.Rows.{chains}
-use Rattle.nb_model.proofs.PutSound.{no_first}
-use Rattle.nb_model.proofs.RoomLaws.{in_chain, first_found}
-use Rattle.nb_model.specs.Checks.{unsound_by, chains_cause, check_cause}
-use Rattle.nb_check.proofs.EntryLaws.{le_yes}
-use Rattle.nb_check.proofs.FirstLaws.{some_none}
-use Rattle.nb_model.specs.declared.fact.Fact.{Fact}
-use Rattle.nb_model.specs.declared.fact.Fact.TheVariants.{BlankPage, SystemPlace, TakenPast, LateStamp, WrongEntry, HeaderStamp}
-use Rattle.nb_model.specs.Facts.{breaks, unsound, is_entry_low, is_entry_late}
+use Rattle.std.proofs.Common.{◌≡◌, inl, inr, ℕ, ◌<◌, ◌≤◌, length, refl, sym, ap, ◌∙◌, arith, IsTrue, IsSome, Bool, true, false, Option, Some, None, ◌&&◌, ◌||◌, ◌==◌, not, nat_lt, nat_le}
+use Rattle.nb_check.proofs.Common.{and_parts, and_from, or_parts, or_cases, cases_Bool, cases_lt, false_from_ne_true, true≢false, ltb-true, ltb-false, leb-true, leb-false, eqb-true, not_from_false, is_zeros, kind_of, stamp_of, is_page_size, is_inventory_place, is_scn_place, most_pages, inventory_kind, scn_kind, Image, page_at, first_page, image_size, image_scn, inventory_of, scn_page_of, scn_entry, has_entry, is_free_page, SoundInventory, IsSoundImage, IsOfSize, eq_yes, lt_yes, all_from, all_at, Unsound, broken_at, History, pages_of, chains, no_first, in_chain, first_found, unsound_by, chains_cause, check_cause, Fact, BlankPage, SystemPlace, TakenPast, LateStamp, WrongEntry, HeaderStamp, breaks, unsound, is_entry_low, is_entry_late, le_yes, not_false, some_none}
 use Rattle.nb_check.proofs.BreakLaws.{breaks_below, none_unsound, unsound_none}
 
 -- one half of a test
 other_half : (a b : Bool) → (a && b) ≡ false → a ≡ true → b ≡ false
 other_half true b fails holds = fails
 other_half false b fails holds = absurd (true≢false (sym holds))
-
-not_no : (a : Bool) → not a ≡ false → a ≡ true
-not_no true e = refl
-not_no false e = absurd (true≢false e)
 
 -- where no fact is broken
 module _ (image : Image) (valid : IsTrue (is_page_size (image_size image))) (none : unsound image ≡ None) where
@@ -74,14 +48,14 @@ module _ (image : Image) (valid : IsTrue (is_page_size (image_size image))) (non
 
   head : stamp_of (first_page image) ≡ image_scn image
   unfolding breaks
-  head = eqb-true _ _ (not_no _ (other_half _ _ (none_at HeaderStamp 0) refl))
+  head = eqb-true _ _ (not_false _ (other_half _ _ (none_at HeaderStamp 0) refl))
 
   pub sound_facts : SoundInventory image
   sound_facts = record {
     no_zeros = all_from (λ page. is_zeros page ≡ false) image blank;
     system = record {
-      inventories = λ p low is. eqb-true _ _ (not_no _ (other_half _ _ (or_parts _ _ (place p low)).0 is));
-      scn_pages = λ p low is. eqb-true _ _ (not_no _ (other_half _ _ (or_parts _ _ (place p low)).1 is));
+      inventories = λ p low is. eqb-true _ _ (not_false _ (other_half _ _ (or_parts _ _ (place p low)).0 is));
+      scn_pages = λ p low is. eqb-true _ _ (not_false _ (other_half _ _ (or_parts _ _ (place p low)).1 is));
     };
     bits = bit;
     entries = record {

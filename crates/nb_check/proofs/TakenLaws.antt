@@ -1,16 +1,6 @@
 -- The data pages that are taken, below one page more.
-use Rattle.std.proofs.Common.{◌≡◌, ◌≢◌, inl, inr, ℕ, ◌+◌, List, sym, ap, ◌∙◌, arith}
-use Rattle.std.specs.Prelude.{Bool, true, false, ◌&&◌, ◌||◌, ◌==◌, not, nat_lt, nat_eq}
-use Rattle.std.proofs.lemmas.Bool.{and_left, and_from, cases_lt}
-use Rattle.std.proofs.lemmas.Bool.Decides.{eqb_tells}
-use Rattle.nb_fields.specs.Page.{kind_of}
-use Rattle.nb_fields.specs.Kinds.{data_kind}
-use Rattle.nb_model.specs.Image.{Image, page_at}
-use Rattle.nb_model.specs.Forms.{is_free_page}
-use Rattle.nb_model.specs.Leaks.{is_taken_data}
-use Rattle.nb_model.proofs.ReadLaws.{eq_no, eq_yes, lt_yes, lt_no, and_no_right}
-use Rattle.nb_check.specs.Passes.{HoldsTaken}
-use Rattle.nb_check.specs.Sets.{has}
+use Rattle.std.proofs.Common.{◌≡◌, ◌≢◌, inl, inr, ℕ, ◌+◌, List, sym, ap, ◌∙◌, arith, Bool, true, false, ◌&&◌, ◌||◌, ◌==◌, not, nat_lt, nat_eq}
+use Rattle.nb_check.proofs.Common.{and_left, and_from, cases_lt, eqb_tells, kind_of, data_kind, Image, page_at, is_free_page, is_taken_data, eq_no, eq_yes, lt_yes, lt_no, HoldsTaken, has, and_right}
 
 lt_next : (p n : ℕ) → p ≢ n → nat_lt p n ≡ nat_lt p (n + 1)
 lt_next p n other = elim (cases_lt p n) [
@@ -27,7 +17,7 @@ module _ (image : Image) (n : ℕ) (set : List ℕ) (held : HoldsTaken image n s
   taken_passed none p = held p ∙ elim (eqb_tells p n) [
     | inl w ↦
         ap (λ (t : Bool). t && is_taken_data image p) (lt_no p n (omega (arith, w.1)))
-        ∙ sym (and_no_right (nat_lt p (n + 1)) (is_taken_data image p) (ap (is_taken_data image) w.1 ∙ none))
+        ∙ sym (and_right (nat_lt p (n + 1)) (is_taken_data image p) (ap (is_taken_data image) w.1 ∙ none))
     | inr w ↦ ap (λ (t : Bool). t && is_taken_data image p) (lt_next p n w.1)
   ]
 
@@ -43,7 +33,7 @@ module _ (image : Image) (n : ℕ) (set : List ℕ) (held : HoldsTaken image n s
 -- which pages are taken data pages
 module _ (image : Image) (n : ℕ) where
   pub other_kind : kind_of (page_at image n) ≢ data_kind → is_taken_data image n ≡ false
-  other_kind other = and_no_right (not (is_free_page image n)) (kind_of (page_at image n) == data_kind) (eq_no (kind_of (page_at image n)) 5 other)
+  other_kind other = and_right (not (is_free_page image n)) (kind_of (page_at image n) == data_kind) (eq_no (kind_of (page_at image n)) 5 other)
 
   pub not_taken : not (is_free_page image n) ≡ false → is_taken_data image n ≡ false
   not_taken free = and_left (not (is_free_page image n)) (kind_of (page_at image n) == data_kind) free

@@ -1,5 +1,5 @@
 // Laws on the facts of inventories and on leaked pages. Each is a function that does nothing: its contract is the law.
-ghost use Rattle.std.specs.Prelude.{◌≡◌, ◌<◌, ◌≤◌, ◌&&◌, ℕ, IsTrue, None, Some, length, false, true};
+ghost use Rattle.std.specs.Prelude.{◌≡◌, ◌<◌, ◌≤◌, ℕ, IsTrue, None, length};
 ghost use Rattle.nb_fields.specs.Places.{is_page_size, most_pages};
 ghost use Rattle.nb_model.specs.Account.{Base};
 ghost use Rattle.nb_model.specs.Image.{Image, image_size};
@@ -9,7 +9,6 @@ ghost use Rattle.nb_model.specs.Sound.{HasHeader, IsOfSize, IsSoundImage, SoundI
 ghost use Rattle.nb_model.specs.Facts.{unsound};
 ghost use Rattle.nb_check.specs.Laws.{Reclaims};
 ghost use Rattle.nb_model.specs.Leaks.{is_among, leaked, is_leaked};
-ghost use Rattle.nb_check.specs.Passes.{IsFirstBelow};
 ghost use Rattle.nb_model.specs.Checks.{check_cause, reclaimed};
 
 /// The inventories are sound exactly where no fact is broken, in any image of pages of one of the six sizes, however short. A database

@@ -1,11 +1,11 @@
 // A pass over all pages, in rising order. Nothing changes.
-ghost use Rattle.std.specs.Prelude.{◌≡◌, ◌+◌, ◌-◌, ◌*◌, ◌/◌, ◌<◌, ◌≤◌, ℕ, true, false, IsTrue, OnOk, length};
+ghost use Rattle.std.specs.Prelude.{◌≡◌, ◌+◌, ◌-◌, ◌*◌, ◌/◌, ◌<◌, ◌≤◌, true, false, IsTrue, OnOk, length};
 ghost use Rattle.nb_fields.specs.Places.{is_page_size, bits_in, most_pages};
 ghost use Rattle.nb_host.specs.Causes.{CountsFault};
-ghost use Rattle.nb_page.specs.Quiet.{Quiet};
 ghost use Rattle.nb_model.specs.Image.{Image, page_at};
 ghost use Rattle.nb_model.specs.Trail.{Trail};
-ghost use Rattle.nb_state.specs.Open.{IsOpen, but_pages};
+ghost use Rattle.nb_state.specs.Open.{IsOpen};
+ghost use Rattle.nb_state.specs.Looks.{Looks};
 ghost use Rattle.nb_model.specs.Facts.{covered};
 ghost use Rattle.nb_check.specs.Passes.{IsOf, IsFirstBelow, HoldsTaken, AreSized, IsMapOf, HasEntryOf};
 ghost use Rattle.nb_check.specs.Sets.{room_of};
@@ -63,9 +63,7 @@ fn read_there<H: Host>(
     requires room { length into.old ≡ engine.old.files.page_size }
     requires low { 0 < number }
     ensures page { (t : Trail) → IsTrue H.tells → IsOpen (H.world host.old) engine.old t → number < length t.base.image → OnOk result (into.new ≡ page_at t.base.image number) }
-    ensures open { (t : Trail) → IsTrue H.tells → IsOpen (H.world host.old) engine.old t → IsOpen (H.world host.new) engine.new t }
-    ensures same { but_pages engine.new ≡ but_pages engine.old }
-    ensures quiet { Quiet (H.world host.old) (H.world host.new) }
+    ensures looks { Looks H.tells (H.world host.old) (H.world host.new) engine.old engine.new }
     ensures once { IsTrue H.tells → (H.world host.new).reads ≤ (H.world host.old).reads + 1 }
     ensures cause { CountsFault result (H.faults host.old) (H.faults host.new) }
 {
@@ -86,9 +84,7 @@ fn read_first<H: Host>(
     requires entries { length entries.old ≡ engine.old.files.page_size }
     ensures map { (t : Trail) → IsTrue H.tells → IsOpen (H.world host.old) engine.old t → OnOk result (IsMapOf t.base.image 0 map.new) }
     ensures entries { (t : Trail) → IsTrue H.tells → IsOpen (H.world host.old) engine.old t → OnOk result (HasEntryOf t.base.image 0 entries.new) }
-    ensures open { (t : Trail) → IsTrue H.tells → IsOpen (H.world host.old) engine.old t → IsOpen (H.world host.new) engine.new t }
-    ensures same { but_pages engine.new ≡ but_pages engine.old }
-    ensures quiet { Quiet (H.world host.old) (H.world host.new) }
+    ensures looks { Looks H.tells (H.world host.old) (H.world host.new) engine.old engine.new }
     ensures once { IsTrue H.tells → (H.world host.new).reads ≤ (H.world host.old).reads + 2 }
     ensures cause { CountsFault result (H.faults host.old) (H.faults host.new) }
 {
@@ -137,9 +133,7 @@ fn pass_page<H: Host>(
     ensures entries { (t : Trail) → IsTrue H.tells → IsOpen (H.world host.old) engine.old t → HasEntryOf t.base.image (number - 1) entries.old → OnOk result (HasEntryOf t.base.image number entries.new) }
     ensures sized { (t : Trail) → IsTrue H.tells → IsOpen (H.world host.old) engine.old t → OnOk result (length (page_at t.base.image number) ≡ length page.old) }
     ensures taken_room { length found.new.taken ≡ length found.old.taken }
-    ensures open { (t : Trail) → IsTrue H.tells → IsOpen (H.world host.old) engine.old t → IsOpen (H.world host.new) engine.new t }
-    ensures same { but_pages engine.new ≡ but_pages engine.old }
-    ensures quiet { Quiet (H.world host.old) (H.world host.new) }
+    ensures looks { Looks H.tells (H.world host.old) (H.world host.new) engine.old engine.new }
     ensures once { IsTrue H.tells → 0 < number → (H.world host.new).reads ≤ (H.world host.old).reads + 1 }
     ensures twice { IsTrue H.tells → (H.world host.new).reads ≤ (H.world host.old).reads + 2 }
     ensures cause { CountsFault result (H.faults host.old) (H.faults host.new) }
@@ -196,9 +190,7 @@ fn pass_pages<H: Host>(
     ensures entries { (t : Trail) → IsTrue H.tells → IsOpen (H.world host.old) engine.old t → HasEntryOf t.base.image 0 entries.old → OnOk result (HasEntryOf t.base.image (engine.old.files.count - 1) entries.new) }
     ensures sizes { (t : Trail) → IsTrue H.tells → IsOpen (H.world host.old) engine.old t → OnOk result (AreSized t.base.image engine.old.files.count (length page.old)) }
     ensures taken_room { length found.new.taken ≡ length found.old.taken }
-    ensures open { (t : Trail) → IsTrue H.tells → IsOpen (H.world host.old) engine.old t → IsOpen (H.world host.new) engine.new t }
-    ensures same { but_pages engine.new ≡ but_pages engine.old }
-    ensures quiet { Quiet (H.world host.old) (H.world host.new) }
+    ensures looks { Looks H.tells (H.world host.old) (H.world host.new) engine.old engine.new }
     ensures once { IsTrue H.tells → (H.world host.new).reads ≤ (H.world host.old).reads + engine.old.files.count + 1 }
     ensures cause { CountsFault result (H.faults host.old) (H.faults host.new) }
 {
@@ -230,9 +222,7 @@ pub(crate) fn pass<H: Host>(
         → OnOk result (HoldsTaken t.base.image (length t.base.image) found.new.taken) }
     ensures sizes { (t : Trail) → IsTrue H.tells → IsOpen (H.world host.old) engine.old t → OnOk result (AreSized t.base.image engine.old.files.count (length page.old)) }
     ensures taken_room { length found.new.taken ≡ length found.old.taken }
-    ensures open { (t : Trail) → IsTrue H.tells → IsOpen (H.world host.old) engine.old t → IsOpen (H.world host.new) engine.new t }
-    ensures same { but_pages engine.new ≡ but_pages engine.old }
-    ensures quiet { Quiet (H.world host.old) (H.world host.new) }
+    ensures looks { Looks H.tells (H.world host.old) (H.world host.new) engine.old engine.new }
     ensures once { IsTrue H.tells → (H.world host.new).reads ≤ (H.world host.old).reads + engine.old.files.count + 3 }
     ensures cause { CountsFault result (H.faults host.old) (H.faults host.new) }
 {

@@ -2,12 +2,12 @@
 ghost use Rattle.std.specs.Prelude.{◌≡◌, ◌≢◌, ◌+◌, ◌≤◌, IsTrue, IfErr, None, OnOk, length};
 ghost use Rattle.nb_host.specs.declared.faults.Fault.TheVariants.{Memory};
 ghost use Rattle.nb_host.specs.Causes.{CountsDevice};
-ghost use Rattle.nb_page.specs.Quiet.{Quiet};
 ghost use Rattle.nb_model.specs.Causes.{broken_at};
 ghost use Rattle.nb_model.specs.Chains.{Catalogue, spots, pages_of, found_pages};
 ghost use Rattle.nb_model.specs.Rows.{chains, pages_of_all, table_chains, used};
 ghost use Rattle.nb_model.specs.Trail.{Trail};
-ghost use Rattle.nb_state.specs.Open.{IsOpen, but_pages};
+ghost use Rattle.nb_state.specs.Open.{IsOpen};
+ghost use Rattle.nb_state.specs.Looks.{Looks};
 ghost use Rattle.nb_state.specs.Does.{Tested};
 ghost use Rattle.nb_model.specs.Leaks.{reached};
 ghost use Rattle.nb_check.specs.Sets.{IsWithout};
@@ -35,9 +35,7 @@ fn leave_out<H: Host>(
     ensures rest { (t : Trail) → IsTrue H.tells → IsOpen (H.world host.old) engine.old t → OnOk result (IsWithout rest.old (found_pages (chain_by chain) t.base.image) rest.new) }
     ensures room { length rest.new ≡ length rest.old }
     ensures sized { length page.new ≡ length page.old }
-    ensures open { (t : Trail) → IsTrue H.tells → IsOpen (H.world host.old) engine.old t → IsOpen (H.world host.new) engine.new t }
-    ensures same { but_pages engine.new ≡ but_pages engine.old }
-    ensures quiet { Quiet (H.world host.old) (H.world host.new) }
+    ensures looks { Looks H.tells (H.world host.old) (H.world host.new) engine.old engine.new }
     ensures once { (t : Trail) → IsTrue H.tells → IsOpen (H.world host.old) engine.old t → OnOk result ((H.world host.new).reads ≤ (H.world host.old).reads + length (found_pages (chain_by chain) t.base.image)) }
     ensures cause { CountsDevice result (H.faults host.old) (H.faults host.new) }
     ensures takes_none { IfErr result (λ fault. fault ≢ Memory) }
@@ -71,9 +69,7 @@ fn leave_out_listed<H: Host>(
     ensures rest { (t : Trail) → IsTrue H.tells → IsOpen (H.world host.old) engine.old t → OnOk result (IsWithout rest.old (pages_of_all t.base.image (chains_on listed.now)) rest.new) }
     ensures room { length rest.new ≡ length rest.old }
     ensures sized { length page.new ≡ length page.old }
-    ensures open { (t : Trail) → IsTrue H.tells → IsOpen (H.world host.old) engine.old t → IsOpen (H.world host.new) engine.new t }
-    ensures same { but_pages engine.new ≡ but_pages engine.old }
-    ensures quiet { Quiet (H.world host.old) (H.world host.new) }
+    ensures looks { Looks H.tells (H.world host.old) (H.world host.new) engine.old engine.new }
     ensures once { (t : Trail) → IsTrue H.tells → IsOpen (H.world host.old) engine.old t → OnOk result ((H.world host.new).reads ≤ (H.world host.old).reads + length (pages_of_all t.base.image (chains_on listed.now))) }
     ensures cause { CountsDevice result (H.faults host.old) (H.faults host.new) }
     ensures takes_none { IfErr result (λ fault. fault ≢ Memory) }
@@ -109,9 +105,7 @@ fn leave_out_tables<H: Host>(
     ensures rest { (t : Trail) → IsTrue H.tells → IsOpen (H.world host.old) engine.old t → broken_at (pages_of Catalogue t.base.image) ≡ None
         → OnOk result (IsWithout rest.old (pages_of_all t.base.image (table_chains (used (spots Catalogue t.base.image)))) rest.new) }
     ensures room { length rest.new ≡ length rest.old }
-    ensures open { (t : Trail) → IsTrue H.tells → IsOpen (H.world host.old) engine.old t → IsOpen (H.world host.new) engine.new t }
-    ensures same { but_pages engine.new ≡ but_pages engine.old }
-    ensures quiet { Quiet (H.world host.old) (H.world host.new) }
+    ensures looks { Looks H.tells (H.world host.old) (H.world host.new) engine.old engine.new }
     ensures once { (t : Trail) → IsTrue H.tells → IsOpen (H.world host.old) engine.old t → broken_at (pages_of Catalogue t.base.image) ≡ None
         → OnOk result ((H.world host.new).reads ≤ (H.world host.old).reads + length (found_pages Catalogue t.base.image) + length (pages_of_all t.base.image (table_chains (used (spots Catalogue t.base.image))))) }
     ensures cause { CountsDevice result (H.faults host.old) (H.faults host.new) }
@@ -146,9 +140,7 @@ pub(crate) fn leave_out_reached<H: Host>(
     ensures test { (t : Trail) → IsTrue H.tells → IsOpen (H.world host.old) engine.old t → Tested result (chains_cause t.base.image (chains t.base.image)) }
     ensures rest { (t : Trail) → IsTrue H.tells → IsOpen (H.world host.old) engine.old t → OnOk result (IsWithout rest.old (reached t.base.image) rest.new) }
     ensures room { length rest.new ≡ length rest.old }
-    ensures open { (t : Trail) → IsTrue H.tells → IsOpen (H.world host.old) engine.old t → IsOpen (H.world host.new) engine.new t }
-    ensures same { but_pages engine.new ≡ but_pages engine.old }
-    ensures quiet { Quiet (H.world host.old) (H.world host.new) }
+    ensures looks { Looks H.tells (H.world host.old) (H.world host.new) engine.old engine.new }
     ensures once { (t : Trail) → IsTrue H.tells → IsOpen (H.world host.old) engine.old t → OnOk result ((H.world host.new).reads ≤ (H.world host.old).reads + length (found_pages Catalogue t.base.image) + length (reached t.base.image)) }
     ensures cause { CountsDevice result (H.faults host.old) (H.faults host.new) }
     ensures takes_none { IfErr result (λ fault. fault ≢ Memory) }

@@ -1,11 +1,9 @@
 -- How the program ends.
-use Rattle.std.proofs.Common.{inl, refl, arith}
-use Rattle.std.specs.Prelude.{Bool}
+use Rattle.std.proofs.Common.{inl, refl, arith, Bool}
+use Rattle.nb_cli.proofs.Common.{Asked, EndsRun}
 use Rattle.nb_host.specs.World.{World}
 use Rattle.nb_top.specs.declared.status.Status.{Status}
 use Rattle.nb_top.specs.Goes.{IsRun}
-use Rattle.nb_top.specs.Requests.{Asked}
-use Rattle.nb_cli.specs.Ended.{EndsRun}
 
 -- nothing is written after the run
 pub ends_at_once : {H : Type 0} (tells : Bool) (world : H → World) (status : Status) (old new : H) (asked : Asked) → IsRun world tells status old new asked → EndsRun tells world status old new asked

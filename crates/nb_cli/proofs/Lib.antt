@@ -1,2 +1,3 @@
 pub mod ReadWords
 pub mod EndLaws
+mod Common

@@ -1,6 +1,6 @@
 -- What was read of the words, and what they ask for.
-use Rattle.std.proofs.Common.{◌≡◌, ⊎_elim, ℕ, List, sym, subst, ◌∙◌}
-use Rattle.std.specs.Prelude.{String, Result, Ok, Err, map, string_bytes}
+use Rattle.std.proofs.Common.{◌≡◌, ⊎_elim, ℕ, List, sym, subst, ◌∙◌, String, Result, Ok, Err, map, string_bytes}
+use Rattle.nb_cli.proofs.Common.{Asked, IsAskedBy, IsReadJob, IsAskedOf, IsReadOf, device_memory}
 use Rattle.std.specs.Global.{Global, Vec}
 use Rattle.std.specs.declared.io.Error.{Error}
 use Rattle.nb_host.specs.Files.{Files}
@@ -8,17 +8,12 @@ use Rattle.nb_host.specs.declared.faults.Fault.{Fault}
 use Rattle.nb_host.specs.declared.faults.Fault.TheVariants.{Refused, Device, Memory}
 use Rattle.nb_host.specs.declared.refusals.Refusal.TheVariants.{Usage}
 use Rattle.nb_model.specs.declared.job.Job.{Job}
-use Rattle.nb_top.specs.Requests.{Asked, IsAskedBy, IsReadJob}
 use Rattle.nb_top.proofs.RequestLaws.{asked_job, asked_usage}
 use Rattle.nb_top.proofs.WordsFit.{fits_words}
-use Rattle.nb_cli.specs.Ended.{IsAskedOf, IsReadOf}
 
 -- the bytes of the words
 abbrev texts : Vec (String Global) → List (List ℕ)
 texts words = map string_bytes words.items
-
-device_memory : Device ≡ Memory → ⊥
-device_memory h = cc
 
 device_refused : Device ≡ Refused Usage → ⊥
 device_refused h = cc

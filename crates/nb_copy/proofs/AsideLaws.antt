@@ -1,18 +1,7 @@
 -- A file that isn't one of an open database's two is touched alone.
 use Rattle.std.proofs.Common.{inl, inr, ℕ, List, refl, subst, ◌∙◌}
-use Rattle.nb_host.specs.Files.{File, Files, with_file}
-use Rattle.nb_host.specs.World.{World}
-use Rattle.nb_host.specs.Crash.{Leaves, LeavesAll}
-use Rattle.nb_change.specs.Changes.{Names, Other, Changes}
-use Rattle.nb_change.proofs.ChangesLaws.{left_with}
-use Rattle.nb_change.proofs.MomentLaws.{left_before}
-use Rattle.nb_change.proofs.NameLaws.{with_file-same, with_file-other}
-use Rattle.nb_model.specs.Owner.{delta_name}
-use Rattle.nb_model.specs.Trail.{Trail}
-use Rattle.nb_base.specs.Open.{OfFiles}
+use Rattle.nb_copy.proofs.Common.{File, Files, with_file, World, Leaves, LeavesAll, Names, Other, Changes, left_with, left_before, with_file-same, with_file-other, delta_name, Trail, OfFiles, Held, IsOpen, name_of, open_beside}
 use Rattle.nb_base.proofs.WriteLaws.{main_apart}
-use Rattle.nb_state.specs.Open.{Held, IsOpen, name_of}
-use Rattle.nb_state.proofs.ShownLaws.{open_beside}
 
 module _ (old new : World) (a : Held) (t : Trail) (is : IsOpen old a t) (reads : (m : List ℕ) → Leaves old m (old.files m)) (others : Names) (apart : (m : List ℕ) → others m → OfFiles (name_of a) m → ⊥)
     (P : Files → Type 0) (changes : Changes old new others P) where

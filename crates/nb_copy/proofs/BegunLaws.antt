@@ -1,34 +1,15 @@
 -- A database after the begin of a backup.
-use Rattle.std.proofs.Common.{◌≡◌, ℕ, ◌+◌, List, [], ◌∷◌, length, refl, sym, ap, ◌∙◌, arith}
-use Rattle.std.specs.Prelude.{true, Option, Err}
-use Rattle.nb_fields.specs.Header.{is_header, guid_of, state_of, size_of}
-use Rattle.nb_fields.specs.States.{stalled_state}
-use Rattle.nb_host.specs.World.{World}
-use Rattle.nb_host.specs.declared.faults.Fault.{Fault}
-use Rattle.nb_host.specs.declared.faults.Fault.TheVariants.{Refused, Device, Memory}
-use Rattle.nb_level.specs.declared.head.LevelHead.{LevelHead}
-use Rattle.nb_model.specs.Account.{Ask, Base}
-use Rattle.nb_model.specs.Image.{Image, first_page, image_size, image_state, image_scn, image_guid}
-use Rattle.nb_model.specs.Strokes.{begin, on_base, with_control}
-use Rattle.nb_model.specs.Trail.{Trail}
+use Rattle.std.proofs.Common.{◌≡◌, ℕ, ◌+◌, List, [], ◌∷◌, length, refl, sym, ap, ◌∙◌, arith, true, Option, Err}
+use Rattle.nb_copy.proofs.Common.{is_header, guid_of, state_of, size_of, stalled_state, World, Fault, Device, Memory, LevelHead, Ask, Base, first_page, image_size, image_state, image_scn, image_guid, begin, on_base, with_control, Trail, header-long, some_page, after_strokes, Held, Starts, BeginsFor}
+use Rattle.nb_host.specs.declared.faults.Fault.TheVariants.{Refused}
 use Rattle.nb_model.proofs.ControlLaws.{control_guid, control_size, control_state}
-use Rattle.nb_model.proofs.HeaderLaws.{header-long}
-use Rattle.nb_model.proofs.MainLaws.{some_page}
 use Rattle.nb_model.proofs.TrailLaws.{trail_base}
-use Rattle.nb_base.specs.Takes.{after_strokes}
 use Rattle.nb_base.proofs.ControlLaws.{with_control-first}
-use Rattle.nb_state.specs.Open.{Held}
-use Rattle.nb_engine.specs.Turns.{Starts}
-use Rattle.nb_copy.specs.Starting.{BeginsFor}
+use Rattle.nb_model.proofs.ControlSound.{control_long}
 
 begun_base : (b : Base) (guid : List ℕ) (ask : Option Ask) → ◌≡◌ {A = Base} (on_base (begin guid ask) b) (record { image = with_control stalled_state (image_scn b.image + 1) guid b.image; frozen = with_control stalled_state (image_scn b.image + 1) guid b.image; diverted = [] })
 unfolding on_base
 begun_base b guid ask = refl
-
-same_long : (state scn : ℕ) (guid : List ℕ) (image : Image) → length (with_control state scn guid image) ≡ length image
-unfolding with_control
-same_long state scn guid [] = refl
-same_long state scn guid (p ∷ ps) = refl
 
 module _ (t : Trail) (guid : List ℕ) (ask : Option Ask) where
   abbrev begun : Base
@@ -45,7 +26,7 @@ module _ (t : Trail) (guid : List ℕ) (ask : Option Ask) where
   begun_frozen = ap (λ (b : Base). b.frozen) begun_is ∙ sym begun_image
 
   pub begun_long : length begun.image ≡ length t.base.image
-  begun_long = ap length begun_image ∙ same_long 1 (image_scn t.base.image + 1) guid t.base.image
+  begun_long = ap length begun_image ∙ control_long 1 (image_scn t.base.image + 1) guid t.base.image
 
   module _ (header : is_header (first_page t.base.image) ≡ true) (sixteen : length guid ≡ 16) where
     first : first_page begun.image ≡ first_page (with_control stalled_state (image_scn t.base.image + 1) guid t.base.image)

@@ -1,23 +1,6 @@
 -- The start of a backup makes strokes, and beside them its file.
-use Rattle.std.proofs.Common.{◌≡◌, ◌⊎◌, inl, inr, ⊎_elim, ℕ, List, [], ◌∷◌, ◌++◌, refl, sym, subst, ◌∙◌}
-use Rattle.std.specs.Prelude.{None}
-use Rattle.nb_host.specs.Files.{File, Files, with_file}
-use Rattle.nb_host.specs.World.{World}
-use Rattle.nb_host.specs.Crash.{Leaves}
-use Rattle.nb_change.specs.Changes.{Names, Other, Changes, Only, Reached, Remade}
-use Rattle.nb_change.proofs.ChangesLaws.{rested, weakened, weaker_has, composed_within, remade_on, left_with}
-use Rattle.nb_change.proofs.NameLaws.{with_file-same}
-use Rattle.nb_change.proofs.ReachedLaws.{reached_first, reached_front, reached_back}
-use Rattle.nb_page.specs.Quiet.{Quiet}
-use Rattle.nb_model.specs.Outcomes.{Outcome}
-use Rattle.nb_model.specs.Owner.{delta_name}
-use Rattle.nb_model.specs.Strokes.{Stroke}
-use Rattle.nb_model.specs.Trail.{Trail, StandsIn, StandsOn, after_stroke}
-use Rattle.nb_base.specs.Open.{OfFiles}
-use Rattle.nb_base.specs.Takes.{Strikes, after_strokes}
-use Rattle.nb_state.specs.Open.{Held, IsOpen, name_of}
-use Rattle.nb_gather.specs.Making.{IsEmpty, IsMade}
-use Rattle.nb_copy.specs.Starting.{OfStart, StartLeft, StartMakes}
+use Rattle.std.proofs.Common.{◌≡◌, ◌⊎◌, inl, inr, ⊎_elim, ℕ, List, [], ◌∷◌, ◌++◌, refl, sym, subst, ◌∙◌, None}
+use Rattle.nb_copy.proofs.Common.{File, Files, with_file, World, Leaves, Names, Other, Changes, Only, Reached, Remade, rested, weakened, weaker_has, composed_within, remade_on, left_with, with_file-same, reached_first, reached_front, reached_back, Quiet, Outcome, delta_name, Stroke, Trail, StandsIn, StandsOn, after_stroke, OfFiles, Strikes, after_strokes, Held, IsOpen, name_of, IsEmpty, IsMade, OfStart, StartLeft, StartMakes}
 
 -- what stands is a matter of the two files
 reached_same : (db : List ℕ) (t : Trail) (xs : List Stroke) (one two : Files) → one db ≡ two db → one (delta_name db) ≡ two (delta_name db) → Reached after_stroke (StandsIn db) t xs one → Reached after_stroke (StandsIn db) t xs two

@@ -1,57 +1,13 @@
 -- The turns of a backup: the file alone is touched, and then the two files of the database.
-use Rattle.std.proofs.Common.{◌≡◌, ◌≢◌, ◌<◌, ◌⊎◌, inl, inr, ⊎_elim, ℕ, List, [], ◌∷◌, ◌++◌, length, drop, refl, sym, ap, subst, ◌∙◌, arith, length-append, drop_at}
-use Rattle.std.specs.Prelude.{Bool, true, false, not, None, Some, Result, Ok, Err, OnOk, Option}
-use Rattle.nb_fields.specs.States.{stalled_state}
-use Rattle.nb_host.specs.Files.{File, Files, with_file}
-use Rattle.nb_host.specs.World.{World}
-use Rattle.nb_host.specs.Crash.{Leaves, LeavesAll}
-use Rattle.nb_host.specs.Calls.{IsStill}
-use Rattle.nb_host.specs.Moments.{IsTimely, Passes}
-use Rattle.nb_host.specs.declared.faults.Fault.{Fault}
-use Rattle.nb_host.specs.declared.faults.Fault.TheVariants.{Device}
-use Rattle.nb_host.specs.declared.refusals.Refusal.TheVariants.{NotDatabase}
-use Rattle.nb_change.specs.Changes.{Changes, Only, Reached, Remade}
-use Rattle.nb_change.specs.Gave.{GaveNothing}
-use Rattle.nb_change.proofs.MomentLaws.{left_before}
-use Rattle.nb_change.proofs.CallLaws.{still_alone}
-use Rattle.nb_change.proofs.NameLaws.{with_file-other}
-use Rattle.nb_change.proofs.ChangesLaws.{left_with, weakened, composed_within}
-use Rattle.nb_change.proofs.ResultLaws.{on_ok}
+use Rattle.std.proofs.Common.{◌≡◌, ◌≢◌, ◌<◌, ◌⊎◌, inl, inr, ⊎_elim, ℕ, List, [], ◌∷◌, ◌++◌, length, drop, refl, sym, ap, subst, ◌∙◌, arith, length-append, drop_at, None, Some, Result, Ok, Err, OnOk, Option}
+use Rattle.nb_copy.proofs.Common.{stalled_state, File, Files, with_file, World, Leaves, LeavesAll, IsStill, IsTimely, Passes, Fault, Device, Changes, Only, Reached, Remade, GaveNothing, left_before, still_alone, with_file-other, left_with, weakened, composed_within, Base, close_backup, backup_slot, put_slot, drafted, HasItsEntry, Image, file_of, count_in, Backing, Seen, next_time, delta_name, Stroke, Trail, StandsIn, StandsOn, after_stroke, OfFiles, Strikes, after_strokes, Held, IsOpen, name_of, open_beside, WhereEnded, unless_by, still_struck, struck_front, unless_none, write_cause, Tries, sure_of, IsKept, IsUnfinishedOr, FileCopy, Pages, file_name, file_count, file_next, file_written, whole_file, whole_count, IsFileCopying, IsSameFile, Backed, IsBackingUp, OfBackup, GaveTimeAtMost, CloseLeft, Closes, BackupTurn, asked_scn, earlier_scn, page_reads, on_ok}
 use Rattle.nb_change.proofs.SettledLaws.{durable_is, durable_other}
-use Rattle.nb_model.specs.Account.{Base}
-use Rattle.nb_model.specs.Backups.{close_backup}
-use Rattle.nb_model.specs.Chains.{backup_slot, put_slot}
-use Rattle.nb_model.specs.Causes.{when}
-use Rattle.nb_model.specs.Forms.{drafted, has_entry, scn_page_of}
-use Rattle.nb_model.specs.Forms.{HasItsEntry}
-use Rattle.nb_model.specs.Image.{Image}
-use Rattle.nb_model.specs.Levels.{file_of, count_in}
-use Rattle.nb_model.specs.Outcomes.{Backing, Seen, next_time}
-use Rattle.nb_model.specs.Owner.{delta_name}
-use Rattle.nb_model.specs.Strokes.{Stroke}
-use Rattle.nb_model.specs.Trail.{Trail, StandsIn, StandsOn, after_stroke}
-use Rattle.nb_base.specs.Open.{OfFiles}
-use Rattle.nb_base.specs.Takes.{Strikes, after_strokes}
-use Rattle.nb_state.specs.Open.{Held, IsOpen, name_of}
-use Rattle.nb_state.proofs.ShownLaws.{open_beside}
 use Rattle.nb_state.specs.declared.turns.Progress.TheVariants.{More, Finished}
-use Rattle.nb_state.specs.Does.{WhereEnded, unless_by}
-use Rattle.nb_state.proofs.TurnLaws.{still_struck, struck_front}
-use Rattle.nb_engine.specs.Put.{entry_cause}
-use Rattle.nb_engine.specs.Room.{write_cause}
-use Rattle.nb_engine.specs.Tries.{Tries}
 use Rattle.nb_engine.proofs.LinkLaws.{write_low}
-use Rattle.nb_alloc.proofs.DoesLaws.{unless_none, sure_of}
-use Rattle.nb_alloc.proofs.PutLaws.{no_entry_cause, entry_cause-is}
 use Rattle.nb_model.specs.Making.{kept_of}
-use Rattle.nb_gather.specs.Making.{IsKept, IsUnfinishedOr}
 use Rattle.nb_copy.proofs.LevelLaws.{below_all}
-use Rattle.nb_copy.specs.declared.file_copy.FileCopy.{FileCopy}
-use Rattle.nb_copy.specs.declared.file_copy.FileCopy.TheVariants.{Pages, Level}
-use Rattle.nb_copy.specs.FileCopying.{file_name, file_count, file_next, file_written, whole_file, whole_count, IsFileCopying, IsSameFile}
-use Rattle.nb_copy.specs.Starting.{Backed, IsBackingUp}
-use Rattle.nb_copy.specs.Closing.{OfBackup, GaveTimeAtMost, CloseLeft, Closes, BackupTurn}
-use Rattle.nb_copy.specs.Reading.{asked_scn, earlier_scn, page_reads}
+use Rattle.nb_copy.specs.declared.file_copy.FileCopy.TheVariants.{Level}
+use Rattle.nb_alloc.proofs.ReadyLaws.{entry_ready}
 
 -- the time that was given is the one that may have been given
 first_time : List ℕ → ℕ
@@ -75,14 +31,6 @@ close_strokes s b base time same at = ap (λ (x : Base). row_strokes b time x.im
 ended_ok : {T : Type 0} (result : Result T Fault) (P : Type 0) → WhereEnded result P → OnOk result P
 ended_ok (Ok value) P is = is
 ended_ok (Err fault) P is = tt
-
--- the SCN page that the row needs is there
-entry_there : (image : Image) (p : ℕ) → HasItsEntry image p → entry_cause image p ≡ None
-entry_there image p there = by (has_entry image p) refl
-  where
-    by : (t : Bool) → has_entry image p ≡ t → entry_cause image p ≡ None
-    by false e = no_entry_cause image p e
-    by true e = entry_cause-is image p e ∙ ap (λ (b : Bool). when (not b) (NotDatabase (scn_page_of image p))) (there e)
 
 -- The close: the clock, and then the row.
 module _ (old mid : World) (a : Held) (t : Trail) (is : IsOpen old a t) (timely : IsTimely old) (still : IsStill old mid) (silent : mid.said ≡ old.said) (passes : Passes old mid) (guids : mid.guids ≡ old.guids) where
@@ -108,7 +56,7 @@ module _ (old mid : World) (a : Held) (t : Trail) (is : IsOpen old a t) (timely 
   }
     where
       none : write_cause t.base.image p ≡ None
-      none = sym (write_low t.base.image p low) ∙ entry_there t.base.image p entry
+      none = sym (write_low t.base.image p low) ∙ entry_ready t.base.image p entry
 
       made : unless_by (write_cause t.base.image p) xs ≡ xs
       made = unless_none (write_cause t.base.image p) xs none

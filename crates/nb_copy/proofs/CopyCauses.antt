@@ -1,14 +1,6 @@
 -- Why no copy of the frozen file may begin, test by test.
-use Rattle.std.proofs.Common.{◌≡◌, ℕ, List, [], ◌∷◌, ap, ◌∙◌}
-use Rattle.std.specs.Prelude.{Bool, true, false, Some, None, not}
-use Rattle.nb_fields.specs.States.{stalled_state}
-use Rattle.nb_host.specs.declared.refusals.Refusal.{Refusal}
-use Rattle.nb_host.specs.declared.refusals.Refusal.TheVariants.{BackupRunning, FileExists}
-use Rattle.nb_model.specs.Image.{Image}
-use Rattle.nb_model.specs.Causes.{first_cause, when, not_state, not_free, is_free_entry, runs_any}
-use Rattle.nb_model.specs.Outcomes.{Seen}
-use Rattle.nb_alloc.proofs.CauseLaws.{first_none, first_next, first_here}
-use Rattle.nb_copy.specs.FileCopies.{copy_cause}
+use Rattle.std.proofs.Common.{◌≡◌, ℕ, List, [], ◌∷◌, ap, ◌∙◌, Bool, true, false, Some, None, not}
+use Rattle.nb_copy.proofs.Common.{stalled_state, Refusal, BackupRunning, FileExists, Image, first_cause, when, not_state, not_free, is_free_entry, runs_any, Seen, copy_cause, first_here, first_next, no_cause}
 
 module _ (s : Seen) (name : List ℕ) where
   abbrev image : Image
@@ -32,4 +24,4 @@ module _ (s : Seen) (name : List ℕ) where
       name_taken e = left ∙ first_here (not_free name (s.entry name)) [] (FileExists name) (ap (λ (b : Bool). when (not b) (FileExists name)) e)
 
       pub copy_allowed : is_free_entry (s.entry name) ≡ true → copy_cause s name ≡ None
-      copy_allowed e = left ∙ first_next (not_free name (s.entry name)) [] (ap (λ (b : Bool). when (not b) (FileExists name)) e) ∙ first_none
+      copy_allowed e = left ∙ first_next (not_free name (s.entry name)) [] (ap (λ (b : Bool). when (not b) (FileExists name)) e) ∙ no_cause

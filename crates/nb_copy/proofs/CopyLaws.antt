@@ -1,21 +1,7 @@
 -- The file of a copy: made, with a page more, and made whole by page 0.
-use Rattle.std.proofs.Common.{◌≡◌, inl, inr, ℕ, ◌+◌, ◌*◌, ◌<◌, ◌≤◌, List, [], length, sym, ap, subst, ◌∙◌, arith, mul-le-mul_right}
-use Rattle.std.specs.Prelude.{Bool, IsTrue, Some, Result, Ok, OnOk}
-use Rattle.nb_host.specs.Files.{File, Files, with_page}
-use Rattle.nb_host.specs.World.{World}
-use Rattle.nb_host.specs.Crash.{PageLeft, IsDurable}
-use Rattle.nb_host.specs.Calls.{Remakes, WritesPage, Syncs}
-use Rattle.nb_host.specs.Moments.{IsTimely, Passes}
-use Rattle.nb_change.specs.Changes.{Changes, Only, Remade}
-use Rattle.nb_change.proofs.CallLaws.{page_others, remade_alone, remade_step}
-use Rattle.nb_change.proofs.MovedLaws.{remade_begun}
-use Rattle.nb_page.specs.Quiet.{Quiet}
-use Rattle.nb_model.specs.Image.{Page, Image, page_at, first_page}
-use Rattle.nb_model.specs.Levels.{joined}
-use Rattle.nb_gather.specs.Making.{IsBlank, IsFreeOr, IsKept, IsMade}
-use Rattle.nb_copy.specs.Copying.{Copying, front_pages, IsOf, IsBegun}
-use Rattle.nb_gather.proofs.QuietLaws.{quiet_then, sync_then, sync_kept, named}
-use Rattle.nb_gather.proofs.BlankLaws.{zeros-grown, blank_empty, blank_free, blank_left}
+use Rattle.std.proofs.Common.{◌≡◌, inl, inr, ℕ, ◌+◌, ◌*◌, ◌<◌, ◌≤◌, List, [], length, sym, ap, subst, ◌∙◌, arith, Bool, IsTrue, Some, Result, Ok, OnOk}
+use Rattle.nb_copy.proofs.Common.{File, Files, World, PageLeft, IsDurable, Remakes, WritesPage, Syncs, IsTimely, Passes, Changes, Only, Remade, page_others, remade_alone, remade_step, remade_begun, Quiet, Page, Image, page_at, first_page, joined, IsBlank, IsFreeOr, IsKept, IsMade, Copying, front_pages, IsOf, IsBegun, quiet_then, sync_then, sync_kept, zeros-behind, with_file-named, far_behind, blank_free, blank_left, blank_empty, is_page_size, size_facts}
+use Rattle.nb_host.specs.Files.{with_page}
 use Rattle.nb_copy.proofs.FrontLaws.{front_next, front_whole, front_blank}
 
 -- and calls that change nothing
@@ -25,10 +11,6 @@ quiet_keeps old new copy frozen quiet begun = record {
   reads = ap (λ (f : Files). f copy.name) quiet.still.files ∙ begun.reads;
   blank = λ c now. begun.blank c (quiet.still.left.now copy.name c tt now);
 }
-
--- a page after page 0 lies after the first 64 bytes
-far_behind : (n size : ℕ) → 1 ≤ n → 1024 ≤ size → 64 ≤ n * size
-far_behind n size some wide = let low : 1 * size ≤ n * size = mul-le-mul_right size some in omega (arith, low, wide)
 
 module _ (name : List ℕ) where
   -- the file is made, also where that fails
@@ -102,32 +84,44 @@ module _ (w : World) (copy : Copying) (frozen : Image) (of : IsOf copy frozen) (
     pub whole_left : (c : File) → PageLeft (0 * length copy.first) copy.first (Some before_whole) c → IsFreeOr (joined frozen) c
     whole_left c (inl same) = inl (blank_free c (subst IsBlank (sym same) before_blank))
     whole_left c (inr (inl put)) = inr (put ∙ whole_put)
-    whole_left c (inr (inr (k, fits, grown))) = inl (blank_free c (subst IsBlank (sym grown) (zeros-grown 64 (k * length copy.first) before_whole before_blank)))
+    whole_left c (inr (inr (k, fits, grown))) = inl (blank_free c (subst IsBlank (sym grown) (zeros-behind 64 (k * length copy.first) before_whole before_blank)))
 
 -- the same page
 pub page_is : {T E : Type 0} (tells : Bool) (result : Result T E) (old new : World) (name p q : List ℕ) → p ≡ q → WritesPage tells result old new name (0 * length p) p → WritesPage tells result old new name (0 * length q) q
 page_is tells result old new name p q same writes = subst (λ (x : List ℕ). WritesPage tells result old new name (0 * length x) x) same writes
 
 -- The last turn: a sync, page 0, and a sync.
-module _ (old : World) (copy : Copying) (frozen : Image) (of : IsOf copy frozen) (begun : IsBegun old copy frozen) (all : copy.next ≡ copy.count) (wide : 64 ≤ copy.size) where
+module _ (old : World) (outer copy : Copying) (view : copy ≡ outer) (frozen : Image) (of_outer : IsOf outer frozen) (begun_outer : IsBegun old outer frozen) (all_outer : outer.next ≡ outer.count) (sized : IsTrue (is_page_size copy.size)) where
+  of : IsOf copy frozen
+  of = subst (λ (v : Copying). IsOf v frozen) (sym view) of_outer
+
+  begun : IsBegun old copy frozen
+  begun = subst (λ (v : Copying). IsBegun old v frozen) (sym view) begun_outer
+
+  all : copy.next ≡ copy.count
+  all = subst (λ (v : Copying). v.next ≡ v.count) (sym view) all_outer
+
+  wide : 64 ≤ copy.size
+  wide = let least = (size_facts copy.size sized).at_least in omega (arith, least)
+
   abbrev Left : (new : World) → Type 0
   Left new = Changes old new (Only copy.name) (Remade old copy.name (IsFreeOr (joined frozen)))
 
-  pub close_synced : {T E : Type 0} (tells : Bool) (result : Result T E) (new : World) → IsTimely old → Syncs tells result old new copy.name → new.said ≡ old.said → Passes old new → Left new
+  close_synced : {T E : Type 0} (tells : Bool) (result : Result T E) (new : World) → IsTimely old → Syncs tells result old new copy.name → new.said ≡ old.said → Passes old new → Left new
   close_synced tells result new timely syncs silent time =
       sync_then copy.name (IsFreeOr (joined frozen)) tells result old old new (remade_begun old (Only copy.name) copy.name (IsFreeOr (joined frozen)) timely) syncs silent time
 
-  pub close_written : {T E U F : Type 0} (tells : Bool) (value : U) (result : Result T E) (mid new : World) → IsTrue tells → Left mid → Syncs {E = F} tells (Ok value) old mid copy.name → WritesPage tells result mid new copy.name (0 * length copy.first) copy.first
-      → new.said ≡ mid.said → Passes mid new → Left new
-  close_written tells value result mid new told so_far syncs writes silent time =
-      first_written copy.name tells result old mid new (before_whole old copy frozen of begun all) (joined frozen) copy.first told so_far (subst (λ (f : File). IsDurable mid copy.name f) begun.reads (syncs.durable told))
-      (before_blank old copy frozen of begun all wide) (whole_put old copy frozen of begun all) (whole_left old copy frozen of begun all wide) writes silent time
+  pub close_written : {T E U F : Type 0} (tells : Bool) (value : U) (result : Result T E) (mid new : World) → IsTrue tells → IsTimely old → Syncs {E = F} tells (Ok value) old mid copy.name → mid.said ≡ old.said → Passes old mid
+      → WritesPage tells result mid new copy.name (0 * length copy.first) copy.first → new.said ≡ mid.said → Passes mid new → Left new
+  close_written {T} {E} {U} {F} tells value result mid new told timely syncs silent time writes then_silent then_time =
+      first_written copy.name tells result old mid new (before_whole old copy frozen of begun all) (joined frozen) copy.first told (close_synced {T = U} {E = F} tells (Ok value) mid timely syncs silent time) (subst (λ (f : File). IsDurable mid copy.name f) begun.reads (syncs.durable told))
+      (before_blank old copy frozen of begun all wide) (whole_put old copy frozen of begun all) (whole_left old copy frozen of begun all wide) writes then_silent then_time
 
   pub close_kept : {T E U F V G : Type 0} (tells : Bool) (value : U) (written : V) (result : Result T E) (mid there new : World) → IsTrue tells → Syncs {E = F} tells (Ok value) old mid copy.name
       → WritesPage {E = G} tells (Ok written) mid there copy.name (0 * length copy.first) copy.first → Syncs tells result there new copy.name → OnOk result (IsKept new copy.name (joined frozen))
   close_kept tells value written result mid there new told first writes last =
       let before : mid.files copy.name ≡ Some (before_whole old copy frozen of begun all) = ap (λ (f : Files). f copy.name) first.still.files ∙ begun.reads in
       let reads : there.files copy.name ≡ Some (joined frozen) =
-      named mid.files there.files copy.name (with_page (mid.files copy.name) (0 * length copy.first) copy.first) (writes.files told)
+      with_file-named mid.files there.files copy.name (with_page (mid.files copy.name) (0 * length copy.first) copy.first) (writes.files told)
       ∙ ap (λ (f : File). with_page f (0 * length copy.first) copy.first) before ∙ whole_put old copy frozen of begun all in
       sync_kept tells result there new copy.name (joined frozen) told reads last

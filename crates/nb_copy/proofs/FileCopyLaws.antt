@@ -1,47 +1,10 @@
 -- A copy of the frozen file begins, and its turns.
-use Rattle.std.proofs.Common.{◌≡◌, ⊎_elim, inl, inr, ℕ, ◌≤◌, List, [], ◌∷◌, ◌++◌, length, replicate, refl, sym, ap, subst, ◌∙◌, arith, length-append}
-use Rattle.std.specs.Prelude.{Result, Ok, Err, Some, None}
-use Rattle.nb_fields.specs.Header.{size_of, state_of}
-use Rattle.nb_fields.specs.Places.{most_pages}
-use Rattle.nb_fields.specs.States.{stalled_state}
-use Rattle.nb_host.specs.Files.{File}
-use Rattle.nb_host.specs.World.{World}
-use Rattle.nb_host.specs.Crash.{Leaves}
-use Rattle.nb_host.specs.declared.faults.Fault.{Fault}
-use Rattle.nb_host.specs.declared.faults.Fault.TheVariants.{Refused, Device, Memory}
-use Rattle.nb_host.specs.declared.faults.HostFault.{HostFault}
-use Rattle.nb_host.specs.declared.refusals.Refusal.{Refusal}
-use Rattle.nb_change.specs.Changes.{Changes, Only, Remade}
-use Rattle.nb_change.specs.Gave.{GaveNothing}
-use Rattle.nb_change.proofs.MovedLaws.{remade_weaker}
-use Rattle.nb_page.specs.Quiet.{Quiet}
+use Rattle.std.proofs.Common.{◌≡◌, ⊎_elim, inl, inr, ℕ, ◌≤◌, List, [], ◌∷◌, ◌++◌, length, replicate, refl, sym, ap, subst, ◌∙◌, arith, length-append, Result, Ok, Err, Some, None}
+use Rattle.nb_copy.proofs.Common.{size_of, state_of, most_pages, stalled_state, File, World, Leaves, Fault, Device, Memory, HostFault, Refusal, Changes, Only, Remade, GaveNothing, remade_weaker, Quiet, Base, copy_turn, Cause, Page, Image, image_size, image_state, joined, Copies, ClosesCopy, Outcome, Seen, unless, delta_name, IsOfSize, Trail, IsLaid, some_page, OfFiles, Tested, Held, IsOpen, name_of, Progress, Copying, CopiesFile, StartsCopy, copy_cause, IsBlank, IsFreeOr, IsUnfinishedOr, CopyTurn, remade_twice, blank_free, all_front}
+use Rattle.nb_host.specs.declared.faults.Fault.TheVariants.{Refused}
 use Rattle.nb_model.specs.declared.reply.Reply.TheVariants.{Refused as RefusedBy}
-use Rattle.nb_model.specs.Account.{Base}
-use Rattle.nb_model.specs.Backups.{copy_turn}
-use Rattle.nb_model.specs.Causes.{Cause}
-use Rattle.nb_model.specs.Image.{Page, Image, image_size, image_state}
-use Rattle.nb_model.specs.Levels.{joined}
-use Rattle.nb_model.specs.Outcomes.{Copies, ClosesCopy, Outcome, Seen, unless}
-use Rattle.nb_model.specs.Owner.{delta_name}
-use Rattle.nb_model.specs.Sound.{IsOfSize}
-use Rattle.nb_model.specs.Trail.{Trail}
-use Rattle.nb_model.proofs.MainLaws.{IsLaid, some_page}
-use Rattle.nb_base.specs.Open.{OfFiles}
 use Rattle.nb_base.proofs.OwnedLaws.{Holds, holds, base-state, base-size}
-use Rattle.nb_state.specs.Does.{Tested}
-use Rattle.nb_state.specs.Open.{Held, IsOpen, name_of}
-use Rattle.nb_state.specs.declared.turns.Progress.{Progress}
-use Rattle.nb_copy.specs.Copying.{Copying}
-use Rattle.nb_copy.specs.FileCopies.{CopiesFile, StartsCopy, copy_cause}
-use Rattle.nb_gather.specs.Making.{IsBlank, IsFreeOr, IsUnfinishedOr}
-use Rattle.nb_copy.specs.Turns.{CopyTurn}
-use Rattle.nb_gather.proofs.BlankLaws.{blank_free}
 use Rattle.nb_copy.proofs.ClosingLaws.{open_other}
-use Rattle.nb_gather.proofs.QuietLaws.{remade_twice}
-
-all_front : {A : Type 0} (P : A → Type 0) (xs ys : List A) → Rattle.std.specs.List.AllByRecursion P (xs ++ ys) → Rattle.std.specs.List.AllByRecursion P xs
-all_front P [] ys all = tt
-all_front P (x ∷ xs) ys all = (all.0, all_front P xs ys all.1)
 
 -- what is frozen of a database that is open has a page at least, and no more than a database, each of the size of a page
 pub record IsFrozenOf (size : ℕ) (frozen : Image) : Type 0 where

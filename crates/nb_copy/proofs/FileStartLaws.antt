@@ -1,24 +1,7 @@
 -- The file of a backup that has begun: whole it will be that of what the begin has kept.
-use Rattle.std.proofs.Common.{◌≡◌, ◌≢◌, ℕ, zero, suc, ◌<◌, ◌≤◌, List, length, refl, sym, ap, subst, ◌∙◌, arith}
-use Rattle.std.proofs.lemmas.Bool.{ne_eqb}
-use Rattle.std.specs.Prelude.{Bool, true, false, IsTrue, Some}
-use Rattle.nb_fields.specs.Places.{is_page_size}
-use Rattle.nb_host.specs.World.{World}
-use Rattle.nb_level.specs.declared.head.LevelHead.{LevelHead}
-use Rattle.nb_level.specs.Heads.{head_of}
-use Rattle.nb_model.specs.Image.{Image, image_size}
-use Rattle.nb_model.specs.Levels.{joined, level_bytes, changed, file_for, file_of, count_in}
-use Rattle.nb_model.specs.Outcomes.{Backing}
-use Rattle.nb_model.specs.Sound.{IsOfSize}
-use Rattle.nb_copy.specs.declared.file_copy.FileCopy.{FileCopy}
-use Rattle.nb_copy.specs.declared.file_copy.FileCopy.TheVariants.{Pages, Level}
-use Rattle.nb_copy.specs.Copying.{Copying}
-use Rattle.nb_copy.specs.LevelCopying.{LevelCopying}
-use Rattle.nb_gather.specs.Gathering.{IsHeaded}
-use Rattle.nb_gather.specs.Making.{IsMade}
-use Rattle.nb_copy.specs.FileStarting.{IsNewFile, IsStartedFile}
-use Rattle.nb_copy.specs.FileCopying.{file_count, file_next}
-use Rattle.nb_copy.specs.Starting.{Backed, IsBackingUp, ask_by}
+use Rattle.std.proofs.Common.{◌≡◌, ◌≢◌, ℕ, zero, suc, ◌<◌, ◌≤◌, List, length, refl, sym, ap, subst, ◌∙◌, arith, Bool, true, false, IsTrue, Some}
+use Rattle.nb_copy.proofs.Common.{ne_eqb, is_page_size, World, LevelHead, head_of, Image, image_size, joined, level_bytes, changed, file_for, file_of, count_in, Backing, IsOfSize, FileCopy, Pages, Copying, LevelCopying, IsHeaded, IsMade, IsNewFile, IsStartedFile, file_count, file_next, Backed, IsBackingUp, ask_by}
+use Rattle.nb_copy.specs.declared.file_copy.FileCopy.TheVariants.{Level}
 use Rattle.nb_copy.proofs.CopyLaws.{begun_made}
 use Rattle.nb_copy.proofs.FileCopyLaws.{IsFrozenOf}
 

@@ -1,13 +1,7 @@
 -- Page 0 stays where room is made in the history.
-use Rattle.std.proofs.Common.{◌≡◌, ℕ, zero, suc, ◌+◌, ◌/◌, ◌≤◌, List, [], ◌∷◌, ◌++◌, length, refl, sym, ap, subst, arith}
-use Rattle.std.specs.Prelude.{Bool, true, false, ◌==◌, ◌-◌, nat_lt, slice_set, IsTrue, Option, Some, None}
-use Rattle.nb_fields.specs.Header.{size_of}
-use Rattle.nb_fields.specs.Places.{is_page_size, entries_in, bits_in, is_system_place, most_pages}
-use Rattle.nb_model.specs.Image.{Page, Image, first_page, image_size, image_scn, with_page}
-use Rattle.nb_model.specs.Forms.{Draft, wrote, written, needs, is_kind, has_entry, scn_page_of, scn_entry, entry_written, entry_raised, raised, put, set_bit, is_free_page, free_from, lowest_free, first_not, needed_at, system_kind, system_page, new_within}
-use Rattle.nb_model.proofs.DraftLaws.{either}
-use Rattle.nb_model.proofs.PutSound.{needs_image}
-use Rattle.nb_model.proofs.SoundLaws.{scn_place_some, inventory_place_some}
+use Rattle.std.proofs.Common.{◌≡◌, ℕ, zero, suc, ◌+◌, ◌/◌, ◌≤◌, List, [], ◌∷◌, ◌++◌, length, refl, sym, ap, subst, arith, Bool, true, false, ◌==◌, ◌-◌, nat_lt, slice_set, IsTrue}
+use Rattle.nb_copy.proofs.Common.{size_of, is_page_size, entries_in, bits_in, is_system_place, most_pages, Page, Image, first_page, image_size, image_scn, with_page, Draft, wrote, written, needs, is_kind, has_entry, scn_page_of, scn_entry, entry_written, entry_raised, raised, put, set_bit, is_free_page, free_from, lowest_free, first_not, needed_at, system_kind, system_page, new_within, either, needs_image, inventory_place_some, either_page, either_need}
+use Rattle.nb_fields.proofs.PlaceLaws.{scn_place-some}
 
 -- the search begins after page 0
 free_least : (left p : ℕ) (image : Image) → p ≤ free_from left p image
@@ -22,14 +16,6 @@ free_least (suc left) p image = by (is_free_page image p) (free_least left (p + 
 lowest_least : (image : Image) → 5 ≤ lowest_free image
 unfolding lowest_free
 lowest_least image = free_least (length image - 5) 5 image
-
-either_page : (P : Draft → Type 0) (t : Bool) (x y : Draft × ℕ) → P x.0 → P y.0 → P (elim t as (λ z. Draft × ℕ) [ true ↦ x | false ↦ y ]).0
-either_page P true x y px py = px
-either_page P false x y px py = py
-
-either_need : (P : Draft → Type 0) (o : Option ℕ) (stop : ℕ → Draft × ℕ) (go : Draft × ℕ) → ((q : ℕ) → P (stop q).0) → P go.0 → P (elim o as (λ z. Draft × ℕ) [ Some q ↦ stop q | None ↦ go ]).0
-either_need P None stop go ps pg = pg
-either_need P (Some q) stop go ps pg = ps q
 
 -- an image begins with itself
 pub record Starts (f : Page) (image : Image) : Type 0 where
@@ -71,7 +57,7 @@ module _ (f : Page) (size : IsTrue (is_page_size (size_of f))) where
   needs_begins kind p d h = subst (Starts f) (sym (needs_image kind p d)) h
 
   scn_behind : (p : ℕ) (d : Draft) → Begins d → 1 ≤ scn_page_of d.image p
-  scn_behind p d h = let two = scn_place_some (image_size d.image) (p / entries_in (image_size d.image)) (sized d h) in omega (arith, two)
+  scn_behind p d h = let two = scn_place-some (image_size d.image) (p / entries_in (image_size d.image)) (sized d h) in omega (arith, two)
 
   entry_begins : (p : ℕ) (d : Draft) → Begins d → Begins (entry_raised p d)
   unfolding entry_raised entry_written

@@ -1,17 +1,7 @@
 -- The front of a copy grows page by page, and with page 0 it is the whole.
-use Rattle.std.proofs.Common.{◌≡◌, ℕ, zero, suc, ◌+◌, ◌*◌, ◌<◌, ◌≤◌, List, [], ◌∷◌, ◌++◌, length, take, drop, replicate, refl, sym, ap, ◌∙◌, arith}
-use Rattle.std.specs.Prelude.{Some}
-use Rattle.std.proofs.lemmas.List.{take_all, drop_all, take-append-le, length-take-le, length-replicate}
-use Rattle.nb_fields.specs.Bytes.{is_zeros}
-use Rattle.nb_host.specs.Files.{padded, put_at}
-use Rattle.nb_model.specs.Image.{Page, Image, page_at, first_page}
-use Rattle.nb_model.specs.Levels.{joined}
-use Rattle.nb_model.specs.Sound.{IsOfSize}
-use Rattle.nb_model.proofs.ImageLaws.{all-take}
+use Rattle.std.proofs.Common.{◌≡◌, ℕ, zero, suc, ◌+◌, ◌*◌, ◌<◌, ◌≤◌, List, [], ◌∷◌, ◌++◌, length, take, drop, replicate, refl, sym, ap, ◌∙◌, arith, Some}
+use Rattle.nb_copy.proofs.Common.{take_all, drop_all, take-append-le, length-take-le, length-replicate, is_zeros, padded, put_at, Page, Image, page_at, first_page, joined, IsOfSize, all-take, IsBlank, front_pages, zeros-take}
 use Rattle.nb_model.proofs.PutLaws.{put-second, put-next, put-first}
-use Rattle.nb_gather.specs.Making.{IsBlank}
-use Rattle.nb_copy.specs.Copying.{front_pages}
-use Rattle.nb_gather.proofs.BlankLaws.{zeros-take}
 
 -- one page more of a list
 take-more : (k : ℕ) (ps : List Page) → k < length ps → take (suc k) ps ≡ take k ps ++ page_at ps k ∷ []

@@ -1,19 +1,10 @@
 -- The name of a database that is open isn't free.
-use Rattle.std.proofs.Common.{◌≡◌, inl, inr, List, ℕ, sym, ap, ◌∙◌}
-use Rattle.std.specs.Prelude.{true, false}
-use Rattle.std.proofs.lemmas.Bool.{true≢false}
+use Rattle.std.proofs.Common.{◌≡◌, inl, inr, List, ℕ, sym, ap, ◌∙◌, true, false}
+use Rattle.nb_copy.proofs.Common.{true≢false, is_free_name, File, Files, World, Base, delta_name, owner, Trail, ShowsIn, OfFiles, Held, IsOpen, name_of}
 use Rattle.nb_fields.specs.Free.{is_free_file}
-use Rattle.nb_host.specs.Files.{File, Files}
-use Rattle.nb_host.specs.World.{World}
-use Rattle.nb_page.specs.Free.{is_free_name}
 use Rattle.nb_page.proofs.FreeLaws.{is_free_name-false}
-use Rattle.nb_model.specs.Account.{Base}
-use Rattle.nb_model.specs.Owner.{delta_name, owner}
-use Rattle.nb_model.specs.Trail.{Trail, ShowsIn}
 use Rattle.nb_model.proofs.OpenedLaws.{HasMain, has_main}
 use Rattle.nb_model.proofs.OpeningLaws.{opened_in_use}
-use Rattle.nb_base.specs.Open.{OfFiles}
-use Rattle.nb_state.specs.Open.{Held, IsOpen, name_of}
 
 -- nor is that of one that is shown
 pub in_use : (files : Files) (name : List ℕ) (b : Base) → ShowsIn name b files → is_free_name files name ≡ false

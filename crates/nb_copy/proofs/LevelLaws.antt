@@ -1,33 +1,12 @@
 -- What a level takes of a frozen image, one page after another.
-use Rattle.std.proofs.Common.{◌≡◌, inl, inr, ℕ, zero, suc, ◌+◌, ◌-◌, ◌<◌, ◌≤◌, List, [], ◌∷◌, ◌++◌, length, take, refl, sym, ap, subst, ◌∙◌, arith}
-use Rattle.std.specs.Prelude.{Bool, true, false, ◌&&◌, nat_lt}
-use Rattle.std.proofs.lemmas.List.{append-nil, take_all, length-take-le}
-use Rattle.nb_fields.specs.Page.{stamp_of}
-use Rattle.nb_fields.specs.Places.{most_pages}
-use Rattle.nb_model.specs.Image.{Page, Image, Numbered, page_at}
-use Rattle.nb_model.specs.Levels.{AreRising, AreOfSize, taken_from, may_have_changed, changed_from, changed, level_bytes}
-use Rattle.nb_model.specs.Sound.{IsOfSize}
-use Rattle.nb_model.proofs.ImageLaws.{all-take}
-use Rattle.nb_host.specs.Files.{Files}
-use Rattle.nb_host.specs.World.{World}
-use Rattle.nb_page.specs.Quiet.{Quiet}
-use Rattle.nb_gather.specs.Gathering.{LevelWriting, HasTaken, MayHave}
-use Rattle.nb_model.specs.Forms.{scn_page_of}
-use Rattle.nb_copy.specs.LevelCopying.{LevelCopying, IsLevelOf, IsLevelCopying, taken_below, whole_level}
-use Rattle.nb_gather.proofs.RunLaws.{tells}
-use Rattle.nb_change.specs.Changes.{Changes, Only, Remade}
-use Rattle.nb_gather.specs.Making.{IsKept, IsUnfinishedOr}
-use Rattle.nb_level.specs.declared.head.LevelHead.{LevelHead}
-use Rattle.nb_level.specs.Heads.{head_of}
-
-weaker : (n : ℕ) (rs : List Numbered) → AreRising (n + 1) rs → AreRising n rs
-weaker n [] is = tt
-weaker n (r ∷ rs) is = (omega (arith, is.0), is.1, is.2)
+use Rattle.std.proofs.Common.{◌≡◌, inl, inr, ℕ, zero, suc, ◌+◌, ◌-◌, ◌<◌, ◌≤◌, List, [], ◌∷◌, ◌++◌, length, take, refl, sym, ap, subst, ◌∙◌, arith, Bool, true, false, ◌&&◌, nat_lt}
+use Rattle.nb_copy.proofs.Common.{append-nil, take_all, length-take-le, stamp_of, most_pages, Page, Image, Numbered, page_at, AreRising, AreOfSize, taken_from, may_have_changed, changed_from, changed, level_bytes, IsOfSize, all-take, World, LevelWriting, HasTaken, MayHave, scn_page_of, LevelCopying, IsLevelOf, IsLevelCopying, taken_below, whole_level, Changes, Only, Remade, IsKept, IsUnfinishedOr, LevelHead, head_of, true_or_false}
+use Rattle.nb_model.proofs.ChainLaws.{weaker}
 
 changed_rise : (may : ℕ → Bool) (n scn : ℕ) (ps : Image) → n + length ps ≤ most_pages → AreRising n (changed_from may n scn ps)
 unfolding changed_from
 changed_rise may n scn [] low = tt
-changed_rise may n scn (p ∷ ps) low = elim (tells (may n && nat_lt scn (stamp_of p))) [
+changed_rise may n scn (p ∷ ps) low = elim (true_or_false (may n && nat_lt scn (stamp_of p))) [
   | inl is ↦ rw (is, changed_from) (omega arith, omega (arith, low), changed_rise may (n + 1) scn ps (omega (arith, low)))
   | inr is ↦ rw (is, changed_from) (weaker n (changed_from may (n + 1) scn ps) (changed_rise may (n + 1) scn ps (omega (arith, low))))
 ]
@@ -35,7 +14,7 @@ changed_rise may n scn (p ∷ ps) low = elim (tells (may n && nat_lt scn (stamp_
 changed_sizes : (may : ℕ → Bool) (size n scn : ℕ) (ps : Image) → IsOfSize size ps → AreOfSize size (changed_from may n scn ps)
 unfolding changed_from
 changed_sizes may size n scn [] is = tt
-changed_sizes may size n scn (p ∷ ps) is = elim (tells (may n && nat_lt scn (stamp_of p))) [
+changed_sizes may size n scn (p ∷ ps) is = elim (true_or_false (may n && nat_lt scn (stamp_of p))) [
   | inl taken ↦ rw (taken, changed_from) (is.0, changed_sizes may size (n + 1) scn ps is.1)
   | inr not_taken ↦ rw (not_taken, changed_from) (changed_sizes may size (n + 1) scn ps is.1)
 ]
@@ -48,7 +27,7 @@ changed_more may n scn zero (p ∷ ps) low = ap (λ m. changed_from may m scn (p
 changed_more may n scn (suc k) (p ∷ ps) low =
     let rest = changed_more may (n + 1) scn k ps (let l : k < length ps = omega (arith, low) in l)
     ∙ ap (λ m. changed_from may (n + 1) scn (take k ps) ++ changed_from may m scn (page_at ps k ∷ [])) (let e : n + 1 + k ≡ n + suc k = omega arith in e) in
-    elim (tells (may n && nat_lt scn (stamp_of p))) [
+    elim (true_or_false (may n && nat_lt scn (stamp_of p))) [
       | inl is ↦ rw (is, changed_from) (ap (λ (rs : List Numbered). (n, p) ∷ rs) rest)
       | inr is ↦ rw (is, changed_from) rest
     ]
@@ -120,14 +99,6 @@ next_passed copy frozen of k low may =
     sym (append-nil (taken_below k copy frozen))
     ∙ ap (λ (rs : List Numbered). taken_below k copy frozen ++ rs) (sym (changed_none (may_have_changed frozen copy.file.head.previous_scn) k copy.file.head.previous_scn (page_at frozen k) may))
     ∙ sym (below_next copy frozen of k low)
-
--- calls that change nothing keep what was taken
-pub taken_quiet : (old new : World) (file : LevelWriting) (rs : List Numbered) → Quiet old new → HasTaken old file rs → HasTaken new file rs
-taken_quiet old new file rs quiet has = record {
-  stands = record { reads = ap (λ (f : Files). f file.name) quiet.still.files ∙ has.stands.reads; torn = λ c now. has.stands.torn c (quiet.still.left.now file.name c tt now) };
-  waits = has.waits;
-  counted = has.counted;
-}
 
 -- one page more was dealt with
 pub level_next : (w : World) (before after : LevelCopying) (frozen : Image) → IsLevelOf before frozen

@@ -16,3 +16,4 @@ pub mod StartLaws
 pub mod RoomStartLaws
 pub mod FileCopyLaws
 pub mod ReadLaws
+mod Common

@@ -1,18 +1,7 @@
 -- Where the SCN entry of a page stands, and which pages need none.
-use Rattle.std.proofs.Common.{◌≡◌, ◌⊎◌, inl, inr, ℕ, zero, suc, ◌*◌, ◌/◌, ◌%◌, ◌<◌, ◌≤◌, length, refl, sym, ap, ◌∙◌, arith}
-use Rattle.std.specs.Prelude.{Bool, true, false, slice_index, IsTrue, ◌==◌, ◌&&◌, ◌||◌, not, nat_lt}
-use Rattle.std.proofs.Math.Nat.{div-eq_of_lt, mod-eq-sub-div-mul, div-mul-le_self}
-use Rattle.std.proofs.lemmas.Bool.{and_parts, or_cases, or_right, eqb-true}
-use Rattle.nb_fields.specs.Places.{is_page_size, entries_in, scn_place, is_scn_place}
-use Rattle.nb_fields.proofs.SizeLaws.{size_facts}
-use Rattle.nb_model.specs.Image.{Page, Image, image_size, page_at}
-use Rattle.nb_model.specs.Levels.{may_have_changed}
+use Rattle.std.proofs.Common.{◌≡◌, ◌⊎◌, inl, inr, ℕ, zero, suc, ◌*◌, ◌/◌, ◌%◌, ◌<◌, ◌≤◌, length, refl, sym, ap, ◌∙◌, arith, Bool, true, false, slice_index, IsTrue, ◌==◌, ◌||◌, not, nat_lt}
+use Rattle.nb_copy.proofs.Common.{div-eq_of_lt, mod-eq-sub-div-mul, div-mul-le_self, or_right, is_page_size, entries_in, scn_place, is_scn_place, size_facts, Page, Image, image_size, page_at, may_have_changed, entries, other-with, scn_page_of, scn_entry, has_entry, scn_page-is, entry-is, scn_place_of}
 use Rattle.nb_model.proofs.ReadLaws.{lt_no}
-use Rattle.nb_scn.specs.Entries.{entries}
-use Rattle.nb_alloc.proofs.PutLaws.{other-with}
-use Rattle.nb_model.specs.Forms.{scn_page_of, scn_entry, has_entry}
-use Rattle.nb_alloc.proofs.RaiseLaws.{scn_page-is, entry-is}
-use Rattle.nb_gather.proofs.FitLaws.{lt_tells}
 
 -- an SCN page that isn't the first stands at the first page that it has an entry for
 pub own_place : (size p : ℕ) → 1 ≤ p → p % entries_in size ≡ 0 → scn_place size (p / entries_in size) ≡ p
@@ -27,18 +16,6 @@ own_place size p some first =
 pub first_place : (size p : ℕ) → p < entries_in size → scn_place size (p / entries_in size) ≡ 2
 first_place size p low = ap (scn_place size) (div-eq_of_lt low)
 
--- an SCN page has its entry in itself
-pub scn_own : (size p : ℕ) → IsTrue (is_page_size size) → is_scn_place size p ≡ true → scn_place size (p / entries_in size) ≡ p
-unfolding is_scn_place
-scn_own size p is place = by (or_cases _ _ place)
-  where
-    wide : 3 ≤ entries_in size
-    wide = let facts = size_facts size is in omega (arith, facts.at_least)
-
-    by : ((p == 2) ≡ true) ⊎ ((nat_lt 0 p && p % entries_in size == 0) ≡ true) → scn_place size (p / entries_in size) ≡ p
-    by (inl two) = let e = eqb-true p 2 two in first_place size p (omega (arith, e, wide)) ∙ sym e
-    by (inr own) = let both = and_parts (nat_lt 0 p) (p % entries_in size == 0) own in own_place size p (let l = lt_tells 0 p both.0 in l) (eqb-true (p % entries_in size) 0 both.1)
-
 -- where the SCN page is that is read
 pub loaded_place : (image : Image) (size p k index place : ℕ) → size ≡ image_size image → IsTrue (is_page_size size) → 1 ≤ p → k ≡ p / entries_in size → index ≡ p % entries_in size → place ≡ scn_place size k → (p ≡ 1) ⊎ (index ≡ 0)
     → 5 ≤ length image → p < length image → (place ≡ scn_page_of image p) × (place < length image)
@@ -52,7 +29,7 @@ loaded_place image size p k index place same is some cover number at (inr none) 
 
 -- an SCN page's entries are in itself
 pub own_page : (image : Image) (size p : ℕ) → size ≡ image_size image → IsTrue (is_page_size size) → is_scn_place size p ≡ true → scn_page_of image p ≡ p
-own_page image size p same is place = ap (λ n. scn_place n (p / entries_in n)) (sym same) ∙ scn_own size p is place
+own_page image size p same is place = ap (λ n. scn_place n (p / entries_in n)) (sym same) ∙ scn_place_of size p is place
 
 -- page 0 and an SCN page have no entry, and may have changed
 may_none : (image : Image) (scn p : ℕ) → (p == 0 || is_scn_place (image_size image) p) ≡ true → may_have_changed image scn p ≡ true

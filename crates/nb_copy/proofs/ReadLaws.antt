@@ -1,17 +1,6 @@
 -- How many pages the copy of a level reads.
-use Rattle.std.proofs.Common.{◌≡◌, ◌⊎◌, inl, inr, ℕ, zero, suc, ◌+◌, ◌%◌, ◌<◌, ◌≤◌, length, refl, sym, ap, ◌∙◌, arith}
-use Rattle.std.specs.Prelude.{Bool, true, false, IsTrue, ◌==◌, ◌||◌, not, nat_lt, slice_index}
-use Rattle.std.proofs.lemmas.Bool.{and_from, and_left, and_parts, or_left, or_right, ne_eqb, eq-eqb, lt-ltb}
-use Rattle.std.proofs.Math.Nat.{mod-eq_of_lt}
-use Rattle.nb_fields.specs.Places.{is_page_size, entries_in, is_scn_place}
-use Rattle.nb_fields.proofs.SizeLaws.{size_facts}
-use Rattle.nb_model.specs.Image.{Page, Image, image_size, page_at}
-use Rattle.nb_model.specs.Forms.{has_entry, scn_entry, scn_page_of}
-use Rattle.nb_model.specs.Levels.{may_have_changed}
-use Rattle.nb_scn.specs.Entries.{entries}
-use Rattle.nb_alloc.proofs.PutLaws.{other-with}
-use Rattle.nb_alloc.proofs.RaiseLaws.{entry-is}
-use Rattle.nb_copy.specs.Reading.{is_above, loads_entries, one_if, reads_at, sum_below}
+use Rattle.std.proofs.Common.{◌≡◌, ◌⊎◌, inl, inr, ℕ, zero, suc, ◌+◌, ◌%◌, ◌<◌, ◌≤◌, length, refl, sym, ap, ◌∙◌, arith, Bool, true, false, IsTrue, ◌==◌, ◌||◌, not, nat_lt, slice_index}
+use Rattle.nb_copy.proofs.Common.{and_from, and_left, and_parts, or_left, or_right, ne_eqb, eq-eqb, lt-ltb, mod-eq_of_lt, is_page_size, entries_in, is_scn_place, size_facts, Page, Image, image_size, page_at, has_entry, scn_entry, scn_page_of, may_have_changed, entries, other-with, entry-is, is_above, loads_entries, one_if, reads_at, sum_below}
 
 -- the turn of a page that reads an SCN page
 loads_true : (size p index : ℕ) → index ≡ p % entries_in size → (p ≡ 1) ⊎ (index ≡ 0) → one_if (loads_entries size p) ≡ 1

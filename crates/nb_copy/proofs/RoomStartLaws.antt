@@ -1,50 +1,11 @@
 -- The start of a backup after its tests: room in the history, the file, and the begin.
-use Rattle.std.proofs.Common.{◌≡◌, ◌≢◌, inl, inr, ℕ, ◌<◌, ◌≤◌, List, [], ◌∷◌, ◌++◌, length, replicate, refl, sym, ap, subst, ◌∙◌, arith, true≢false}
-use Rattle.std.specs.Prelude.{not, ◌==◌, nat_lt, IsTrue, Some, None, Result, Ok, Err}
-use Rattle.nb_fields.specs.Bytes.{number_in}
-use Rattle.nb_fields.specs.Header.{state_of, scn_of, size_of}
-use Rattle.nb_fields.specs.Places.{is_page_size}
-use Rattle.nb_fields.specs.States.{normal_state, stalled_state}
-use Rattle.nb_host.specs.World.{World}
-use Rattle.nb_host.specs.Crash.{Leaves}
-use Rattle.nb_host.specs.declared.faults.Fault.{Fault}
-use Rattle.nb_host.specs.declared.faults.Fault.TheVariants.{Refused as RefusedFault, Device, Memory}
-use Rattle.nb_host.specs.declared.refusals.Refusal.TheVariants.{Access, WrongState, ScnExhausted}
-use Rattle.nb_change.specs.Changes.{Changes, Only, Remade}
-use Rattle.nb_change.specs.Gave.{GaveNothing}
-use Rattle.nb_change.proofs.ReachedLaws.{after_all-joined}
-use Rattle.nb_base.specs.Open.{OfFiles}
-use Rattle.nb_base.specs.Takes.{Strikes, after_strokes}
-use Rattle.nb_level.specs.declared.head.LevelHead.{LevelHead}
-use Rattle.nb_model.specs.declared.reply.Reply.TheVariants.{Refused}
-use Rattle.nb_model.specs.Account.{Ask, Base}
-use Rattle.nb_model.specs.Backups.{room_in}
-use Rattle.nb_model.specs.Causes.{Cause, first_cause, when, read_only, not_state, not_free, no_scn, no_room, not_of_form, broken_at, short_for}
-use Rattle.nb_model.specs.Chains.{History, pages_of, spots, free_spot}
-use Rattle.nb_model.specs.Image.{Page, Image, first_page, image_scn, image_size}
-use Rattle.nb_model.specs.Outcomes.{Backing, Outcome, Copies, ClosesBackup, Seen, next_guid, says}
-use Rattle.nb_model.specs.Sound.{HasHeader}
-use Rattle.nb_model.specs.Strokes.{Stroke, begin, base_after}
-use Rattle.nb_model.specs.Trail.{Trail, after_stroke}
+use Rattle.std.proofs.Common.{◌≡◌, ◌≢◌, inl, inr, ℕ, ◌<◌, ◌≤◌, List, [], ◌∷◌, ◌++◌, length, replicate, refl, sym, ap, subst, ◌∙◌, arith, true≢false, not, ◌==◌, nat_lt, IsTrue, Some, None, Result, Ok, Err}
+use Rattle.nb_copy.proofs.Common.{number_in, state_of, scn_of, size_of, is_page_size, normal_state, stalled_state, World, Leaves, Fault, Device, Memory, Access, WrongState, ScnExhausted, Changes, Only, Remade, GaveNothing, after_all-joined, OfFiles, Strikes, after_strokes, LevelHead, Refused, Ask, Base, room_in, Cause, first_cause, when, read_only, not_state, not_free, no_scn, no_room, not_of_form, broken_at, short_for, History, pages_of, spots, free_spot, Page, Image, first_page, image_scn, image_size, Backing, Outcome, Copies, ClosesBackup, Seen, next_guid, says, HasHeader, Stroke, begin, base_after, Trail, after_stroke, no_first, Held, IsOpen, name_of, after_base, room_cause, IsRoomIn, Tries, starting_cause, unless_some, tries_opened, history_least, Backed, StartMakes, HasNotBegun, StartsBackup, IsStarted, BeginsFor, earlier_cause, file_cause, ask_in, ask_by, turn_since, Since, FileCopy, IsNewFile, IsStartedFile, file_count, IsEmpty, IsMade, first_next, no_cause, unless_none, none_some}
+use Rattle.nb_host.specs.declared.faults.Fault.TheVariants.{Refused as RefusedFault}
 use Rattle.nb_model.proofs.PagesOnly.{WritesPages, drafts_write_pages, pages_stay}
-use Rattle.nb_model.proofs.PutSound.{no_first}
 use Rattle.nb_model.proofs.RoomThere.{room_keeps}
-use Rattle.nb_state.specs.Open.{Held, IsOpen, name_of}
-use Rattle.nb_state.proofs.MakesLaws.{after_base}
 use Rattle.nb_engine.specs.declared.walk.Room.{Room as Kept}
-use Rattle.nb_engine.specs.Room.{room_cause, IsRoomIn}
-use Rattle.nb_engine.specs.Tries.{Tries}
-use Rattle.nb_engine.specs.Turns.{starting_cause}
-use Rattle.nb_alloc.proofs.CauseLaws.{first_none, first_next}
-use Rattle.nb_alloc.proofs.DoesLaws.{unless_none, unless_some, tries_opened}
 use Rattle.nb_copy.proofs.AsideLaws.{open_aside}
-use Rattle.nb_engine.proofs.WalkLaws.{history_least}
-use Rattle.nb_copy.specs.Starting.{Backed, StartMakes, HasNotBegun, StartsBackup, IsStarted, BeginsFor, earlier_cause, file_cause, ask_in, ask_by, turn_since}
-use Rattle.nb_copy.specs.declared.since.Since.{Since}
-use Rattle.nb_copy.specs.declared.file_copy.FileCopy.{FileCopy}
-use Rattle.nb_copy.specs.FileStarting.{IsNewFile, IsStartedFile}
-use Rattle.nb_copy.specs.FileCopying.{file_count}
-use Rattle.nb_gather.specs.Making.{IsEmpty, IsMade}
 use Rattle.nb_copy.proofs.BegunLaws.{begun_frozen, begun_long, begun_size, begun_state}
 use Rattle.nb_copy.proofs.FileCopyLaws.{IsFrozenOf, frozen_parts}
 use Rattle.nb_copy.proofs.FileStartLaws.{file_first, file_starts}
@@ -172,7 +133,7 @@ module _ (old mid : World) (a b : Held) (t : Trail) (s : Seen) (session : ℕ) (
         let tests = no_first (file_cause s name) (earlier_cause since image ∷ []) none in
         let first = no_first (read_only image) (not_state normal_state image ∷ not_free name (s.entry name) ∷ []) tests.0 in
         let second = no_first (not_state normal_state image) (not_free name (s.entry name) ∷ []) first.1 in
-        first_next (read_only image) (not_state normal_state image ∷ no_scn image ∷ []) first.0 ∙ first_next (not_state normal_state image) (no_scn image ∷ []) second.0 ∙ first_next (no_scn image) [] may_go_on ∙ first_none
+        first_next (read_only image) (not_state normal_state image ∷ no_scn image ∷ []) first.0 ∙ first_next (not_state normal_state image) (no_scn image ∷ []) second.0 ∙ first_next (no_scn image) [] may_go_on ∙ no_cause
 
     pub starts_there : starting_cause u.base.image ≡ None
     starts_there = ap starting_of same_first ∙ starts_here
@@ -224,10 +185,7 @@ module _ (old mid : World) (a b : Held) (t : Trail) (s : Seen) (session : ℕ) (
         still_made result begins = made_kept there new (OfFiles (name_of a)) _ name (begin_struck result begins) apart made
 
         pub start_unbegun : (fault : Fault) → fault ≢ Memory → BeginsFor (Err fault) there new b d u guid (Some ask) session bare → StartsBackup (Err fault) old new a d t name guid outcome
-        start_unbegun (RefusedFault r) sure begins = absurd (none_some (sym starts_there ∙ begins.test))
-          where
-            none_some : None ≡ Some r → ⊥
-            none_some e = cc
+        start_unbegun (RefusedFault r) sure begins = absurd (none_some r (sym starts_there ∙ begins.test))
         start_unbegun Device sure begins =
             subst (λ (x : Outcome). StartsBackup (Err Device) old new a d t name guid x) (sym (turn_started s session since name none tries.test)) (record {
               says = tt;

@@ -1,29 +1,13 @@
 -- A database after the strokes that make room in the history.
-use Rattle.std.proofs.Common.{◌≡◌, ℕ, zero, suc, ◌+◌, ◌≤◌, List, [], length, refl, sym, ap, subst, ◌∙◌, arith}
-use Rattle.std.specs.Prelude.{Option, Some, None}
-use Rattle.nb_fields.specs.Page.{kind_of}
+use Rattle.std.proofs.Common.{◌≡◌, ℕ, zero, suc, ◌+◌, ◌≤◌, List, [], length, refl, sym, ap, subst, ◌∙◌, arith, Option, Some, None}
+use Rattle.nb_copy.proofs.Common.{kind_of, Base, Image, page_at, first_page, Trail, Draft, drafted, needs, put, inventory_of, scn_page_of, broken_at, History, Spot, pages_of, found_pages, spots, free_spot, last_of, grown, Room, room_in, needs_taken, HasHeader, drafts_are, drafted_is, needs_keeps, grown_keeps, header-size, some_page, needs_image, kind_of_header, after_strokes, after_base, no_rows, linked_payload, IsData, last_data, taken_keeps}
 use Rattle.nb_fields.specs.Kinds.{data_kind}
-use Rattle.nb_model.specs.Account.{Base}
-use Rattle.nb_model.specs.Image.{Image, page_at, first_page}
-use Rattle.nb_model.specs.Trail.{Trail}
-use Rattle.nb_model.specs.Forms.{Draft, drafted, needs, put, inventory_of, scn_page_of, is_free_page}
-use Rattle.nb_model.specs.Causes.{broken_at}
-use Rattle.nb_model.specs.Chains.{History, Spot, pages_of, found_pages, spots, free_spot, last_of, grown}
-use Rattle.nb_model.specs.Backups.{Room, room_in, needs_taken}
-use Rattle.nb_model.specs.Sound.{HasHeader}
-use Rattle.nb_model.proofs.DraftLaws.{IsKept, IsOf, either, drafts_are, drafted_is, needs_keeps, grown_keeps}
+use Rattle.nb_model.proofs.DraftLaws.{IsOf}
 use Rattle.nb_model.proofs.DraftJoin.{join_put}
-use Rattle.nb_model.proofs.HeaderLaws.{header-size}
-use Rattle.nb_model.proofs.MainLaws.{some_page}
-use Rattle.nb_model.proofs.PutSound.{needs_image}
-use Rattle.nb_model.proofs.SoundLaws.{kind_of_header}
-use Rattle.nb_base.specs.Takes.{after_strokes}
-use Rattle.nb_state.proofs.MakesLaws.{after_base}
 use Rattle.nb_engine.specs.Make.{new_of}
-use Rattle.nb_engine.specs.Room.{no_rows, linked_payload}
 use Rattle.nb_alloc.proofs.NewLaws.{told}
-use Rattle.nb_engine.proofs.WalkLaws.{IsData, last_data}
 use Rattle.nb_copy.proofs.FirstLaws.{Starts, starts_itself, first_is, put_begins, new_begins}
+use Rattle.nb_model.proofs.HeldRoom.{needs_image_same}
 
 -- the new page of the history, and its number
 abbrev new_link : Image → Draft × ℕ
@@ -47,10 +31,6 @@ unfolding room_in
 room_is image = refl
 
 -- its draft is of the image
-taken_keeps : (P : Draft → Type 0) → IsKept P → (p : ℕ) (d : Draft) → P d → P (needs_taken p d)
-unfolding needs_taken
-taken_keeps P kept p d h = either P (is_free_page d.image p) _ _ (kept.reads _ d h) h
-
 room_keeps : (b : Base) (o : Option Spot) → IsOf b (room_by b.image o).draft
 room_keeps b (Some s) = taken_keeps (IsOf b) (drafts_are b) s.page _ (needs_keeps (IsOf b) (drafts_are b) 10 _ _ (needs_keeps (IsOf b) (drafts_are b) 2 _ _ (drafted_is b)))
 room_keeps b None = grown_keeps (IsOf b) (drafts_are b) History (found_pages History b.image) [] (drafted b.image) (drafted_is b)
@@ -61,14 +41,9 @@ roomed_is t =
     ap (λ (b : Base). b.image) (after_base t (room_in t.base.image).draft.strokes)
     ∙ (subst (λ (r : Room). IsOf t.base r.draft) (sym (room_is t.base.image)) (room_keeps t.base (free_spot (spots History t.base.image)))).is
 
--- where a slot is free it is the image itself
-taken_image : (p : ℕ) (d : Draft) → (needs_taken p d).image ≡ d.image
-unfolding needs_taken
-taken_image p d = either (λ (x : Draft). x.image ≡ d.image) (is_free_page d.image p) _ _ refl refl
-
 taken_same : (image : Image) (s : Spot) → (taken_at image s).image ≡ image
 taken_same image s =
-    taken_image s.page (needs 10 (scn_page_of image s.page) (needs 2 (inventory_of image s.page) (drafted image)))
+    needs_image_same s.page (needs 10 (scn_page_of image s.page) (needs 2 (inventory_of image s.page) (drafted image)))
     ∙ needs_image 10 (scn_page_of image s.page) (needs 2 (inventory_of image s.page) (drafted image)) ∙ needs_image 2 (inventory_of image s.page) (drafted image)
 
 module _ (image : Image) (h : HasHeader image) (linked : broken_at (pages_of History image) ≡ None) where

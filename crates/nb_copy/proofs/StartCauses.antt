@@ -1,22 +1,9 @@
 -- Why no backup may begin, test by test.
-use Rattle.std.proofs.Common.{◌≡◌, ◌+◌, ℕ, zero, suc, List, [], ◌∷◌, replicate, refl, sym, ap, subst, ◌∙◌, arith}
-use Rattle.std.specs.Prelude.{Bool, true, false, min, Option, Some, None, is_none, not, nat_eq}
-use Rattle.nb_fields.specs.States.{normal_state}
+use Rattle.std.proofs.Common.{◌≡◌, ◌+◌, ℕ, zero, suc, List, [], ◌∷◌, replicate, refl, sym, ap, subst, ◌∙◌, arith, Bool, true, false, min, Option, Some, None, is_none, not, nat_eq}
+use Rattle.nb_copy.proofs.Common.{normal_state, Refusal, Access, FileExists, NoHistory, Ask, Image, is_read_only, ask_of, level_behind, Cause, first_cause, when, read_only, not_state, not_free, is_free_entry, broken_at, History, Spot, pages_of, backup_spot, level_in, guid_in, Seen, HistoryRow, ask_in, earlier_row, row_cause, earlier_cause, file_cause, Level, first_here, first_next, no_cause, one_cause}
 use Rattle.nb_host.specs.Names.{same_name}
-use Rattle.nb_host.specs.declared.refusals.Refusal.{Refusal}
-use Rattle.nb_host.specs.declared.refusals.Refusal.TheVariants.{Access, FileExists, NoHistory}
-use Rattle.nb_model.specs.Account.{Ask}
-use Rattle.nb_model.specs.Image.{Image, is_read_only}
-use Rattle.nb_model.specs.Backups.{ask_of, level_behind}
-use Rattle.nb_model.specs.Causes.{Cause, first_cause, when, read_only, not_state, not_free, is_free_entry, broken_at}
-use Rattle.nb_model.specs.Chains.{History, Spot, pages_of, backup_spot, level_in, guid_in}
-use Rattle.nb_model.specs.Outcomes.{Seen}
-use Rattle.nb_engine.specs.declared.rows.HistoryRow.{HistoryRow}
 use Rattle.nb_engine.specs.History.{row_at}
-use Rattle.nb_alloc.proofs.CauseLaws.{first_none, first_next, first_here}
 use Rattle.nb_engine.proofs.FreeLaws.{closed_cause, open_cause}
-use Rattle.nb_copy.specs.Starting.{ask_in, earlier_row, row_cause, earlier_cause, file_cause}
-use Rattle.nb_copy.specs.declared.since.Since.TheVariants.{Level}
 
 -- the tests of the database and of the file's name
 module _ (s : Seen) (name : List ℕ) where
@@ -41,7 +28,7 @@ module _ (s : Seen) (name : List ℕ) where
       there e = left ∙ first_here (not_free name (s.entry name)) [] (FileExists name) (ap (λ (b : Bool). when (not b) (FileExists name)) e)
 
       pub allowed : is_free_entry (s.entry name) ≡ true → file_cause s name ≡ None
-      allowed e = left ∙ first_next (not_free name (s.entry name)) [] (ap (λ (b : Bool). when (not b) (FileExists name)) e) ∙ first_none
+      allowed e = left ∙ first_next (not_free name (s.entry name)) [] (ap (λ (b : Bool). when (not b) (FileExists name)) e) ∙ no_cause
 
 -- level 0 goes on from no backup
 pub none_asked : (level : ℕ) (image : Image) → level ≡ 0 → ◌≡◌ {A = Ask} (record { level = level; previous = replicate 16 0; previous_scn = 0 }) (ask_in (Level level) image)
@@ -66,7 +53,7 @@ module _ (image : Image) (row : Option Spot) (missing : Refusal) where
         by (Some spot) d = cc
 
     pub one_found : (o : Option HistoryRow) (it : HistoryRow) → o ≡ Some it → o ≡ row_at row → row_cause image row missing ≡ None
-    one_found o it some is = found false (by row (sym some ∙ is)) ∙ first_next None [] refl ∙ first_none
+    one_found o it some is = found false (by row (sym some ∙ is)) ∙ first_next None [] refl ∙ no_cause
       where
         by : (x : Option Spot) → Some it ≡ row_at x → is_none x ≡ false
         by None d = cc
@@ -113,11 +100,5 @@ module _ (level below : ℕ) (image : Image) (e : level ≡ suc below) where
 abbrev pub row_of_guid : (guid : List ℕ) → Image → Option Spot
 row_of_guid guid image = backup_spot (λ row. same_name (guid_in row) guid) image
 
--- the last of the causes
-last_cause : (c : Cause) → first_cause (c ∷ []) ≡ c
-unfolding first_cause
-last_cause None = refl
-last_cause (Some r) = refl
-
 pub after_none : (c d : Cause) → c ≡ None → d ≡ first_cause (c ∷ d ∷ [])
-after_none c d none = sym (first_next c (d ∷ []) none ∙ last_cause d)
+after_none c d none = sym (first_next c (d ∷ []) none ∙ one_cause d)

@@ -1,37 +1,10 @@
 -- The start of a backup: tests, room in the history, and the begin.
-use Rattle.std.proofs.Common.{◌≡◌, ◌⊎◌, inl, ℕ, zero, suc, List, [], ◌∷◌, ◌++◌, length, replicate, refl, sym, ap, subst, ◌∙◌}
-use Rattle.std.specs.Prelude.{true, Option, Some, None, is_none, Err, IsErr, IsErrAnd, Result}
-use Rattle.nb_fields.specs.States.{normal_state}
-use Rattle.nb_host.specs.World.{World}
-use Rattle.nb_host.specs.declared.faults.Fault.{Fault}
-use Rattle.nb_host.specs.declared.faults.Fault.TheVariants.{Refused as RefusedFault, Device, Memory}
-use Rattle.nb_host.specs.declared.refusals.Refusal.{Refusal}
-use Rattle.nb_host.specs.declared.refusals.Refusal.TheVariants.{NoHistory, NoGuid}
-use Rattle.nb_page.specs.Quiet.{Quiet}
-use Rattle.nb_change.specs.Gave.{GaveNothing}
-use Rattle.nb_base.specs.Takes.{Strikes}
-use Rattle.nb_level.specs.declared.head.LevelHead.{LevelHead}
-use Rattle.nb_model.specs.declared.reply.Reply.TheVariants.{Refused}
-use Rattle.nb_model.specs.Account.{Ask, Base}
-use Rattle.nb_model.specs.Backups.{room_in, starts, backup_turn, since_turn}
-use Rattle.nb_model.specs.Causes.{Cause, first_cause, when, read_only, not_state, not_free, no_scn, no_room, not_of_form, broken_at, short_for}
-use Rattle.nb_model.specs.Chains.{History, Spot, pages_of, spots, free_spot}
-use Rattle.nb_model.specs.Image.{Image, image_scn}
-use Rattle.nb_model.specs.Outcomes.{Outcome, Copies, ClosesBackup, Seen, next_guid, without_guid, says, unless}
-use Rattle.nb_model.specs.Strokes.{Stroke, begin}
-use Rattle.nb_model.specs.Trail.{Trail}
-use Rattle.nb_state.specs.Open.{Held, IsOpen, but_pages, name_of}
-use Rattle.nb_state.specs.Does.{Tested, has_only_told, unless_by}
-use Rattle.nb_state.specs.Turns.{GaveAtMost}
-use Rattle.nb_state.proofs.TurnLaws.{struck_front}
-use Rattle.nb_engine.specs.Room.{room_cause}
-use Rattle.nb_alloc.proofs.CauseLaws.{told_some, unless_refused, unless_allowed, first_here}
-use Rattle.nb_copy.specs.Starting.{HasNotBegun, StartsBackup, earlier_row, row_cause, earlier_cause, file_cause, ask_in, turn_since, Backed}
-use Rattle.nb_copy.specs.declared.since.Since.{Since}
-use Rattle.nb_copy.specs.declared.since.Since.TheVariants.{Level, Guid}
+use Rattle.std.proofs.Common.{◌≡◌, ◌⊎◌, inl, ℕ, zero, suc, List, [], ◌∷◌, ◌++◌, length, replicate, refl, sym, ap, subst, ◌∙◌, true, Option, Some, None, is_none, Err, IsErr, IsErrAnd, Result}
+use Rattle.nb_copy.proofs.Common.{normal_state, GaveAtMost, World, Fault, Device, Memory, Refusal, NoHistory, NoGuid, Quiet, GaveNothing, Strikes, LevelHead, Refused, Ask, Base, room_in, starts, backup_turn, since_turn, Cause, first_cause, when, read_only, not_state, not_free, no_scn, no_room, not_of_form, broken_at, short_for, History, Spot, pages_of, spots, free_spot, Image, image_scn, Outcome, Copies, ClosesBackup, Seen, next_guid, without_guid, says, unless, Stroke, begin, Trail, Held, IsOpen, but_pages, name_of, Tested, has_only_told, unless_by, struck_front, room_cause, told_some, unless_refused, unless_allowed, HasNotBegun, StartsBackup, earlier_row, row_cause, earlier_cause, file_cause, ask_in, turn_since, Backed, Since, Level, Guid, passed_on, first_here}
+use Rattle.nb_host.specs.declared.faults.Fault.TheVariants.{Refused as RefusedFault}
 use Rattle.nb_copy.proofs.BesideLaws.{starts_quiet}
 use Rattle.nb_copy.proofs.StartCauses.{after_none}
-use Rattle.nb_change.proofs.ResultLaws.{passed_on}
+use Rattle.nb_engine.proofs.BackupLaws.{strokes_by}
 
 -- the tests in the order of the calls are those of the turn
 at_once : (a b c d e f g h i : Cause) → first_cause (first_cause (first_cause (a ∷ b ∷ c ∷ []) ∷ first_cause (d ∷ e ∷ []) ∷ []) ∷ first_cause (d ∷ f ∷ g ∷ h ∷ i ∷ []) ∷ []) ≡ first_cause (a ∷ b ∷ c ∷ d ∷ e ∷ f ∷ g ∷ h ∷ i ∷ [])
@@ -104,11 +77,6 @@ turn_by s session (Level zero) name =
     (not_of_form (room_in s.base.image).draft) (no_room (room_in s.base.image).draft) (no_scn s.base.image)))
 turn_by s session (Level (suc below)) name = row_turn s session name (ask_in (Level (suc below)) s.base.image) (earlier_row (Level (suc below)) s.base.image) (NoHistory below)
 turn_by s session (Guid guid) name = row_turn s session name (ask_in (Guid guid) s.base.image) (earlier_row (Guid guid) s.base.image) (NoGuid guid)
-
-strokes_by : (s : Seen) (cause : Cause) (o : Outcome) → (unless s cause o).strokes ≡ unless_by cause o.strokes
-unfolding unless
-strokes_by s None o = refl
-strokes_by s (Some r) o = refl
 
 pub struck_some : (old new : World) (n : List ℕ) (t : Trail) (cause : Cause) (xs ys : List Stroke) → Strikes old new n t (unless_by cause xs) → Strikes old new n t (unless_by cause (xs ++ ys))
 struck_some old new n t None xs ys struck = struck_front old new n t xs ys struck

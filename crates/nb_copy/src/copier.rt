@@ -13,7 +13,8 @@ ghost use Rattle.nb_model.specs.Outcomes.{Seen, next_guid, next_time};
 ghost use Rattle.nb_model.specs.Owner.{delta_name};
 ghost use Rattle.nb_model.specs.Trail.{Trail};
 ghost use Rattle.nb_base.specs.Open.{OfFiles};
-ghost use Rattle.nb_state.specs.Open.{IsOpen, but_pages};
+ghost use Rattle.nb_state.specs.Open.{IsOpen};
+ghost use Rattle.nb_state.specs.Looks.{Looks};
 ghost use Rattle.nb_state.specs.Does.{Goes, Tested};
 ghost use Rattle.nb_state.specs.Turns.{GaveAtMost};
 ghost use Rattle.nb_copy.specs.FileCopying.{file_count, file_next, file_written};
@@ -104,10 +105,8 @@ fn check_start<H: Host>(
     ensures previous { IfOk result (λ head. length head.previous ≡ 16) }
     ensures size { IfOk result (λ head. head.page_size ≡ engine.old.files.page_size) }
     ensures sized { IfOk result (λ head. IsTrue (is_page_size head.page_size)) }
-    ensures open { (t : Trail) → IsTrue H.tells → IsOpen (H.world host.old) engine.old t → IsOpen (H.world host.new) engine.new t }
-    ensures same { but_pages engine.new ≡ but_pages engine.old }
+    ensures looks { Looks H.tells (H.world host.old) (H.world host.new) engine.old engine.new }
     ensures stays { engine.old.files.state ≡ merge_state → engine.new ≡ engine.old }
-    ensures quiet { Quiet (H.world host.old) (H.world host.new) }
     ensures cause { CountsDevice result (H.faults host.old) (H.faults host.new) }
 {
     check_file(host, engine, name)?;

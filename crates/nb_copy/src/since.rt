@@ -2,9 +2,9 @@
 ghost use Rattle.std.specs.Prelude.{◌≡◌, ◌≤◌, length, IsTrue, IfOk};
 ghost use Rattle.nb_fields.specs.Places.{is_page_size};
 ghost use Rattle.nb_host.specs.Causes.{CountsDevice};
-ghost use Rattle.nb_page.specs.Quiet.{Quiet};
 ghost use Rattle.nb_model.specs.Trail.{Trail};
-ghost use Rattle.nb_state.specs.Open.{IsOpen, but_pages};
+ghost use Rattle.nb_state.specs.Open.{IsOpen};
+ghost use Rattle.nb_state.specs.Looks.{Looks};
 ghost use Rattle.nb_state.specs.Does.{Tested};
 ghost use Rattle.nb_copy.specs.Starting.{ask_by, ask_in, earlier_cause, IsNineAtMost, IsItsLevel};
 ghost use Rattle.nb_copy.specs.declared.since.Since.TheVariants.{Level as LevelBelow, Guid as OfGuid};
@@ -46,9 +46,7 @@ fn find_level<H: Host>(host: &mut H, engine: &mut Engine, level: u8) -> Result<L
     ensures previous { IfOk result (λ head. length head.previous ≡ 16) }
     ensures size { IfOk result (λ head. head.page_size ≡ engine.old.files.page_size) }
     ensures sized { IfOk result (λ head. IsTrue (is_page_size head.page_size)) }
-    ensures open { (t : Trail) → IsTrue H.tells → IsOpen (H.world host.old) engine.old t → IsOpen (H.world host.new) engine.new t }
-    ensures same { but_pages engine.new ≡ but_pages engine.old }
-    ensures quiet { Quiet (H.world host.old) (H.world host.new) }
+    ensures looks { Looks H.tells (H.world host.old) (H.world host.new) engine.old engine.new }
     ensures cause { CountsDevice result (H.faults host.old) (H.faults host.new) }
 {
     if level == 0 {
@@ -75,9 +73,7 @@ fn find_guid<H: Host>(
     ensures previous { IfOk result (λ head. length head.previous ≡ 16) }
     ensures size { IfOk result (λ head. head.page_size ≡ engine.old.files.page_size) }
     ensures sized { IfOk result (λ head. IsTrue (is_page_size head.page_size)) }
-    ensures open { (t : Trail) → IsTrue H.tells → IsOpen (H.world host.old) engine.old t → IsOpen (H.world host.new) engine.new t }
-    ensures same { but_pages engine.new ≡ but_pages engine.old }
-    ensures quiet { Quiet (H.world host.old) (H.world host.new) }
+    ensures looks { Looks H.tells (H.world host.old) (H.world host.new) engine.old engine.new }
     ensures cause { CountsDevice result (H.faults host.old) (H.faults host.new) }
 {
     match engine.history_find(host, guid)? {
@@ -105,9 +101,7 @@ impl Since {
         ensures previous { IfOk result (λ head. length head.previous ≡ 16) }
         ensures size { IfOk result (λ head. head.page_size ≡ engine.old.files.page_size) }
         ensures sized { IfOk result (λ head. IsTrue (is_page_size head.page_size)) }
-        ensures open { (t : Trail) → IsTrue H.tells → IsOpen (H.world host.old) engine.old t → IsOpen (H.world host.new) engine.new t }
-        ensures same { but_pages engine.new ≡ but_pages engine.old }
-        ensures quiet { Quiet (H.world host.old) (H.world host.new) }
+        ensures looks { Looks H.tells (H.world host.old) (H.world host.new) engine.old engine.new }
         ensures cause { CountsDevice result (H.faults host.old) (H.faults host.new) }
     {
         match self {

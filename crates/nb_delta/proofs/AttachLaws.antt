@@ -1,27 +1,7 @@
 -- How a difference file is attached.
-use Rattle.std.proofs.Common.{◌≡◌, ℕ, List, length, refl, sym, ◌∙◌, subst}
-use Rattle.std.specs.Prelude.{Some, None, Option, option_map, Result, Ok, Err, IsErr}
-use Rattle.std.specs.Result.{IsErrAnd}
-use Rattle.nb_host.specs.Files.{File}
-use Rattle.nb_host.specs.declared.faults.Fault.{Fault}
-use Rattle.nb_host.specs.declared.faults.Fault.TheVariants.{Refused, Device, Memory}
-use Rattle.nb_fields.specs.Table.{table_of}
-use Rattle.nb_delta.specs.Known.{Known}
-use Rattle.nb_delta.specs.Reading.{Reads}
+use Rattle.std.proofs.Common.{◌≡◌, ℕ, List, sym, subst, Some, Result, Ok, Err, IsErr}
+use Rattle.nb_delta.proofs.Common.{IsErrAnd, File, Fault, Refused, Device, Memory, table_of, Known, Reads}
 use Rattle.nb_delta.specs.Attaching.{Attaches}
-
--- a file that has a length has so many bytes
-pub record IsLong (file : File) (size : ℕ) : Type 0 where
-  pub bytes : List ℕ
-  pub is : file ≡ Some bytes
-  pub long : length bytes ≡ size
-
-pub long_file : (file : File) (size : Option ℕ) (long : ℕ) → size ≡ option_map length file → size ≡ Some long → IsLong file long
-long_file (Some bytes) size long told is = record { bytes = bytes; is = refl; long = cc }
-long_file None size long told is = absurd (none_some long (sym told ∙ is))
-  where
-    none_some : (n : ℕ) → option_map (length {A = ℕ}) None ≡ Some n → ⊥
-    none_some n e = cc
 
 refused : (size : ℕ) (name bytes entries : List ℕ) (fault : Fault) → Reads (table_of size bytes) (Err fault) entries → Attaches size name (Some bytes) (Err fault)
 refused size name bytes entries (Refused refusal) told = told

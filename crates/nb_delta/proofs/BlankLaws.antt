@@ -1,20 +1,6 @@
 -- A difference file without entries.
-use Rattle.std.proofs.Common.{◌≡◌, ◌⊎◌, inl, inr, ℕ, Bool, ◌+◌, ◌*◌, ◌≤◌, List, [], ◌++◌, length, drop, replicate, refl, sym, ap, ◌∙◌, subst, arith, IsTrue}
-use Rattle.std.specs.Prelude.{Some, Result}
-use Rattle.std.proofs.lemmas.Bool.{cases_lt}
-use Rattle.std.proofs.lemmas.List.{length-replicate, drop_all, append-nil}
-use Rattle.std.proofs.Math.Nat.{mul-le-mul_right}
-use Rattle.nb_host.specs.Files.{File, bytes_of, with_page, put_at, padded}
-use Rattle.nb_host.specs.World.{World}
-use Rattle.nb_host.specs.Crash.{PageLeft}
-use Rattle.nb_host.specs.Calls.{Remakes, WritesPage}
-use Rattle.nb_host.specs.Moments.{IsTimely, Passes}
-use Rattle.nb_change.specs.Changes.{Only, Changes, Remade}
-use Rattle.nb_change.proofs.CallLaws.{page_others, remade_alone, remade_step}
-use Rattle.nb_fields.specs.Bytes.{number_in}
-use Rattle.nb_fields.specs.Places.{is_page_size, slots_in}
-use Rattle.nb_fields.specs.Table.{page_in, alloc_place}
-use Rattle.nb_delta.specs.Slots.{HasTable, IsBlank}
+use Rattle.std.proofs.Common.{◌≡◌, ◌⊎◌, inl, inr, ℕ, Bool, ◌+◌, ◌*◌, ◌≤◌, List, [], ◌++◌, length, drop, replicate, refl, sym, ap, ◌∙◌, subst, arith, IsTrue, Some, Result}
+use Rattle.nb_delta.proofs.Common.{cases_lt, length-replicate, drop_all, append-nil, mul-le-mul_right, File, bytes_of, with_page, put_at, padded, World, PageLeft, Remakes, WritesPage, IsTimely, Passes, Only, Changes, Remade, page_others, remade_alone, remade_step, number_in, is_page_size, slots_in, page_in, alloc_place, HasTable, IsBlank}
 use Rattle.nb_delta.proofs.EntryLaws.{no_entries}
 use Rattle.nb_delta.proofs.GroupLaws.{page_past, zeros_count}
 use Rattle.nb_delta.proofs.TableLaws.{Spells, SamePlace, same_place, count_at}

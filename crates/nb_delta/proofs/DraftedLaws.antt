@@ -1,16 +1,6 @@
 -- Bringing the entries that wait into the table: what the two steps of it leave, by the groups that were computed.
 use Rattle.std.proofs.Common.{◌≡◌, inl, inr, ℕ, ◌+◌, ◌-◌, ◌*◌, ◌/◌, ◌<◌, List, length, subst, IsTrue}
-use Rattle.nb_host.specs.Crash.{IsDurable}
-use Rattle.nb_host.specs.Files.{File}
-use Rattle.nb_host.specs.World.{World}
-use Rattle.nb_fields.specs.Places.{is_page_size, slots_in}
-use Rattle.nb_change.specs.Changes.{Only, Changes, Moved}
-use Rattle.nb_change.proofs.MovedLaws.{moved_weaker, moved_joined}
-use Rattle.nb_change.proofs.SettledLaws.{durable_is}
-use Rattle.nb_delta.specs.Entries.{AreEntries}
-use Rattle.nb_delta.specs.Slots.{HasZeros}
-use Rattle.nb_delta.specs.Waiting.{Waits, Stays, FrontStep, HasAll}
-use Rattle.nb_delta.specs.Groups.{Empties, NotesSome, NotesAll}
+use Rattle.nb_delta.proofs.Common.{IsDurable, File, World, is_page_size, slots_in, Only, Changes, Moved, moved_weaker, moved_joined, durable_is, AreEntries, HasZeros, Waits, Stays, FrontStep, HasAll, Empties, NotesSome, NotesAll}
 use Rattle.nb_delta.proofs.FrontLaws as front
 use Rattle.nb_delta.proofs.FrontLaws.{Places, places_found, waits_long}
 use Rattle.nb_delta.proofs.StepLaws.{some_slots}

@@ -1,15 +1,6 @@
 -- What a write of an allocation page leaves, and what stands once all after a group are empty.
-use Rattle.std.proofs.Common.{◌≡◌, ◌≢◌, inl, inr, ⊎_elim, ℕ, ◌+◌, ◌*◌, ◌<◌, ◌≤◌, List, length, replicate, refl, sym, ap, ◌∙◌, subst, arith, IsTrue}
-use Rattle.std.specs.Prelude.{Some}
-use Rattle.std.proofs.lemmas.Bool.{cases_eq}
-use Rattle.std.proofs.Math.Nat.{mul-le-mul_right}
-use Rattle.nb_host.specs.Files.{File, bytes_of, with_page}
-use Rattle.nb_host.specs.Crash.{PageLeft}
-use Rattle.nb_fields.specs.Places.{is_page_size, slots_in}
-use Rattle.nb_fields.specs.Table.{page_in, slot_place, alloc_place}
-use Rattle.nb_delta.specs.Slots.{slot_page}
-use Rattle.nb_delta.specs.Waiting.{Stays}
-use Rattle.nb_delta.specs.Groups.{GroupStep, GroupPut, Empties}
+use Rattle.std.proofs.Common.{◌≡◌, ◌≢◌, inl, inr, ⊎_elim, ℕ, ◌+◌, ◌*◌, ◌<◌, ◌≤◌, List, length, replicate, refl, sym, ap, ◌∙◌, subst, arith, IsTrue, Some}
+use Rattle.nb_delta.proofs.Common.{cases_eq, mul-le-mul_right, File, bytes_of, with_page, PageLeft, is_page_size, slots_in, page_in, slot_place, alloc_place, slot_page, Stays, GroupStep, GroupPut, Empties}
 use Rattle.nb_delta.proofs.ZeroLaws.{zeros_same}
 use Rattle.nb_delta.proofs.PlaceLaws.{alloc_other, alloc_other_slot}
 use Rattle.nb_delta.proofs.SpellLaws.{put_step, page_step, spells_behind}

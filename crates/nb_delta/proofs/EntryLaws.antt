@@ -1,26 +1,18 @@
 -- Entries, one more of them, and their index.
-use Rattle.std.proofs.Common.{◌≡◌, ◌≢◌, ℕ, zero, suc, ◌+◌, ◌<◌, ◌≤◌, Bool, true, false, cond, List, [], ◌∷◌, ◌++◌, length, get_or, Option, Some, None, refl, sym, ap, ◌∙◌, subst, arith, inl, inr, ⊎_elim, length-append, BTreeMap, nat_cmp}
-use Rattle.std.specs.Prelude.{nat_eq, ◌||◌, Result, Ok, Err, OnOk, is_ok, is_some, IfSome}
-use Rattle.std.specs.List.{list_any, position_from, IsDistinct, AllByRecursion}
+use Rattle.std.proofs.Common.{◌≡◌, ◌≢◌, ℕ, zero, suc, ◌+◌, ◌<◌, ◌≤◌, Bool, true, false, cond, List, [], ◌∷◌, ◌++◌, length, get_or, Option, Some, None, refl, sym, ap, ◌∙◌, subst, arith, inl, inr, ⊎_elim, length-append, BTreeMap, nat_cmp, nat_eq, ◌||◌, Result, Ok, Err, OnOk, is_ok, is_some, IfSome}
+use Rattle.nb_delta.proofs.Common.{list_any, position_from, IsDistinct, AllByRecursion, cases_eq, cases_lt, eq-eqb, ne_eqb, eqb-true, or_cases, or_left, or_right, cond-true, cond-false, list_any-append, most_pages, place_of, AreEntries, IsIndex, false_true, some_none}
 use Rattle.std.specs.Ordering.{is_eq}
 use Rattle.std.specs.Cmp.{nat_cmp_is}
 use Rattle.std.specs.BTreeMap.{get, Updates, IsEmpty}
 use Rattle.std.specs.declared.cmp.Ordering.TheVariants.{Less, Greater}
 use Rattle.std.specs.declared.alloc.AllocFailed.{AllocFailed}
-use Rattle.std.proofs.lemmas.Bool.{cases_eq, cases_lt, eq-eqb, ne_eqb, eqb-true, or_cases, or_left, or_right, cond-true, cond-false}
-use Rattle.std.proofs.lemmas.List.Folds.{list_any-append}
 use Rattle.std.proofs.lemmas.Bool.Decides.{eqb_tells}
 use Rattle.std.proofs.lemmas.Map.Steps.{length-le_from_distinct_below}
-use Rattle.nb_fields.specs.Places.{most_pages}
-use Rattle.nb_delta.specs.Entries.{place_of, AreEntries, IsIndex}
 
 -- no entries
 pub no_entries : AreEntries []
 unfolding IsDistinct
 no_entries = record { below = λ page is. cc; once = tt }
-
-some_none : (n : ℕ) → Some n ≡ None → ⊥
-some_none n e = cc
 
 -- a page without a place is none of the entries
 not_named : (page i : ℕ) (xs : List ℕ) → position_from (nat_eq page) i xs ≡ None → list_any (nat_eq page) xs ≡ false
@@ -64,9 +56,6 @@ entry_below (x ∷ xs) n below (suc k) inside = entry_below xs n (λ page is. be
 -- there are no more entries than pages
 pub few : (xs : List ℕ) → AreEntries xs → length xs ≤ most_pages
 few xs are = length-le_from_distinct_below xs most_pages are.once are.below
-
-false_true : false ≡ true → ⊥
-false_true e = cc
 
 none_equal : (x p : ℕ) (xs : List ℕ) → nat_eq x p ≡ false → AllByRecursion (λ y. nat_eq x y ≡ false) xs → AllByRecursion (λ y. nat_eq x y ≡ false) (xs ++ p ∷ [])
 none_equal x p [] other are = (other, tt)

@@ -1,20 +1,6 @@
 -- Where the allocation pages of some groups are written, the table has a front of the entries.
-use Rattle.std.proofs.Common.{◌≡◌, inl, inr, ⊎_elim, ℕ, zero, suc, ◌+◌, ◌-◌, ◌*◌, ◌/◌, ◌<◌, ◌≤◌, List, [], ◌∷◌, ◌++◌, length, get_or, take, drop, replicate, refl, sym, ap, ◌∙◌, subst, arith, IsTrue, length-append, length-take-le, take-append-drop}
-use Rattle.std.specs.Prelude.{Some, min, nat_eq}
-use Rattle.std.specs.List.{list_any, IsDistinct, AllByRecursion}
-use Rattle.std.proofs.lemmas.Bool.{cases_eq, cases_lt, or_left}
-use Rattle.std.proofs.lemmas.List.{get_or_append_left, append_assoc, append-nil}
-use Rattle.std.proofs.lemmas.List.Folds.{list_any-append}
-use Rattle.std.proofs.Math.Nat.{mul-le-mul_right}
-use Rattle.nb_host.specs.Files.{File, bytes_of}
-use Rattle.nb_fields.specs.Bytes.{number_in}
-use Rattle.nb_fields.specs.Places.{is_page_size, slots_in}
-use Rattle.nb_fields.specs.Table.{page_in, slot_place, alloc_place}
-use Rattle.nb_delta.specs.Entries.{AreEntries}
-use Rattle.nb_fields.proofs.SizeLaws.{size_facts}
-use Rattle.nb_delta.specs.Slots.{HasTable, HasZeros}
-use Rattle.nb_delta.specs.Waiting.{Waits, HasFront, Fronts, HasAll}
-use Rattle.nb_delta.specs.Groups.{Empties, IsOfGroup, NotesSome, NotesAll}
+use Rattle.std.proofs.Common.{◌≡◌, inl, inr, ⊎_elim, ℕ, zero, suc, ◌+◌, ◌-◌, ◌*◌, ◌/◌, ◌<◌, ◌≤◌, List, [], ◌∷◌, ◌++◌, length, get_or, take, drop, replicate, refl, sym, ap, ◌∙◌, subst, arith, IsTrue, length-append, length-take-le, take-append-drop, Some, min, nat_eq}
+use Rattle.nb_delta.proofs.Common.{list_any, IsDistinct, cases_eq, cases_lt, or_left, get_or_append_left, append_assoc, append-nil, list_any-append, mul-le-mul_right, File, bytes_of, number_in, is_page_size, slots_in, page_in, slot_place, alloc_place, AreEntries, size_facts, HasTable, HasZeros, Waits, HasFront, Fronts, HasAll, Empties, IsOfGroup, NotesSome, NotesAll, all_parts}
 use Rattle.nb_delta.proofs.GroupLaws.{zeros_count}
 use Rattle.nb_delta.proofs.TableLaws.{count_at, number_at, Spells, SamePlace, same_place}
 use Rattle.nb_delta.proofs.ZeroLaws.{zeros_all, zeros_none}
@@ -22,14 +8,10 @@ use Rattle.nb_delta.proofs.PageLaws.{length-page_in}
 use Rattle.nb_delta.proofs.PlaceLaws.{slot_at}
 use Rattle.nb_delta.proofs.StepLaws.{some_slots, some_bytes, has_told, has_read, has_there}
 
-none_front : (P : ℕ → Type 0) (xs ys : List ℕ) → AllByRecursion P (xs ++ ys) → AllByRecursion P xs
-none_front P [] ys all = tt
-none_front P (x ∷ xs) ys all = (all.0, none_front P xs ys all.1)
-
 distinct_front : (xs ys : List ℕ) → IsDistinct nat_eq (xs ++ ys) → IsDistinct nat_eq xs
 unfolding IsDistinct
 distinct_front [] ys are = tt
-distinct_front (x ∷ xs) ys are = (none_front _ xs ys are.0, distinct_front xs ys are.1)
+distinct_front (x ∷ xs) ys are = ((all_parts _ xs ys are.0).0, distinct_front xs ys are.1)
 
 -- a front of entries
 pub entries_front : (xs ys : List ℕ) → AreEntries (xs ++ ys) → AreEntries xs

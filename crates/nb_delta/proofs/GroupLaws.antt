@@ -1,20 +1,7 @@
 -- One step of reading the groups of a difference file.
-use Rattle.std.proofs.Common.{◌≡◌, ℕ, suc, ◌+◌, ◌-◌, ◌*◌, ◌/◌, ◌<◌, ◌≤◌, Bool, true, false, List, [], ◌++◌, length, take, drop, replicate, refl, sym, ap, ◌∙◌, subst, arith, inl, inr, length-drop}
-use Rattle.std.specs.Prelude.{nat_lt, ◌||◌, ◌&&◌, ◌==◌, Some, None, Result, Ok, Err, IsErr}
-use Rattle.std.specs.Result.{IsErrAnd}
-use Rattle.std.proofs.lemmas.Bool.{lt-ltb, le-ltb, cases_lt, or_from, or_left, or_right, and_from, and_left, and_right, ne_eqb}
-use Rattle.std.proofs.lemmas.List.{drop_all, take-replicate, take_all, take-append-le, length-replicate}
-use Rattle.std.proofs.Math.Nat.{mul-le-mul_right}
-use Rattle.nb_host.specs.Files.{File}
-use Rattle.nb_host.specs.Calls.{ReadsPage}
-use Rattle.nb_host.specs.declared.faults.Fault.{Fault}
-use Rattle.nb_host.specs.declared.faults.Fault.TheVariants.{Refused, Device, Memory}
-use Rattle.nb_host.specs.declared.refusals.Refusal.TheVariants.{BadDelta}
-use Rattle.nb_fields.specs.Bytes.{number_in, number_of}
-use Rattle.nb_fields.specs.Places.{slots_in, most_pages}
-use Rattle.nb_fields.specs.Table.{page_in, alloc_place, entries_from, groups_from, table_of}
+use Rattle.std.proofs.Common.{◌≡◌, ℕ, suc, ◌+◌, ◌-◌, ◌*◌, ◌/◌, ◌<◌, ◌≤◌, Bool, true, false, List, [], ◌++◌, length, take, drop, replicate, refl, sym, ap, ◌∙◌, subst, arith, inl, inr, length-drop, nat_lt, ◌||◌, ◌&&◌, ◌==◌, Some, None, Result, Ok, Err, IsErr}
+use Rattle.nb_delta.proofs.Common.{IsErrAnd, lt-ltb, le-ltb, cases_lt, or_from, or_left, or_right, and_from, and_left, and_right, ne_eqb, drop_all, take-replicate, take_all, take-append-le, length-replicate, mul-le-mul_right, File, ReadsPage, Fault, Refused, Device, Memory, BadDelta, number_in, number_of, slots_in, most_pages, page_in, alloc_place, entries_from, groups_from, table_of, Counts, Reads, ReadsGroup, none_some, le-div}
 use Rattle.nb_fields.proofs.NumberLaws.{number_of-zeros}
-use Rattle.nb_delta.specs.Reading.{Counts, Reads, ReadsGroup}
 use Rattle.nb_delta.proofs.ReadLaws.{entries_none}
 
 -- the allocation page is held in part, or its count is too large
@@ -115,9 +102,6 @@ page_read (Some xs) at bytes before after e read =
       whole = omega (arith, there);
     }
 page_read None at bytes before after e read = absurd (none_some bytes e)
-  where
-    none_some : (ys : List ℕ) → None ≡ Some ys → ⊥
-    none_some ys h = cc
 
 -- before the first group
 pub groups_begun : (size : ℕ) (bytes : List ℕ) → table_of size bytes ≡ groups_from (length bytes / size + 1 - 0) size (alloc_place size 0) bytes []
@@ -137,16 +121,10 @@ pub first_group : (size group : ℕ) → group ≤ alloc_place size group
 unfolding alloc_place
 first_group size group = omega arith
 
-pub whole_pages : (n size long : ℕ) → 0 < size → n * size ≤ long → n ≤ long / size
-whole_pages n size long some inside = elim (cases_lt (long / size) n) [
-  | inl l ↦ let more : (long / size + 1) * size ≤ n * size = mul-le-mul_right size (omega arith) in absurd (omega (arith, more))
-  | inr l ↦ l
-]
-
 -- a group that begins within the file, or at its end, is one of those that are looked at
 pub one_more : (size group : ℕ) (bytes : List ℕ) → 0 < size → alloc_place size group * size ≤ length bytes → length bytes / size + 1 - group ≡ suc (length bytes / size + 1 - (group + 1))
 one_more size group bytes some inside =
-    let pages = whole_pages (alloc_place size group) size (length bytes) some inside in
+    let pages = le-div (alloc_place size group) (length bytes) size some inside in
     omega (arith, pages, first_group size group)
 
 pub first_inside : (size : ℕ) (bytes : List ℕ) → alloc_place size 0 * size ≤ length bytes

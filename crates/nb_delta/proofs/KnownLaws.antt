@@ -1,21 +1,6 @@
 -- What a call says of the object that it knows, by what it says of the object's parts.
-use Rattle.std.proofs.Common.{◌≡◌, ℕ, ◌+◌, ◌-◌, ◌*◌, ◌<◌, ◌≤◌, List, [], ◌∷◌, ◌++◌, length, take, drop, replicate, refl, sym, ap, ◌∙◌, subst, arith, inl, inr, IsTrue, length-append, append_assoc}
-use Rattle.std.specs.Prelude.{None}
-use Rattle.nb_host.specs.World.{World}
-use Rattle.std.proofs.lemmas.Bool.{cases_lt}
-use Rattle.std.proofs.lemmas.List.{take-append-le, take-append-drop, take_all, length-take-le, length-replicate, drop-replicate, replicate-append-replicate, append-nil}
-use Rattle.nb_host.specs.Files.{File, Files, bytes_of}
-use Rattle.nb_host.specs.Calls.{ReadsBytes}
-use Rattle.nb_host.specs.Moments.{IsTimely}
-use Rattle.nb_fields.specs.Places.{is_page_size, most_pages}
-use Rattle.nb_fields.specs.Table.{page_in, slot_place}
-use Rattle.nb_change.specs.Changes.{Only, Changes, Moved, Remade}
-use Rattle.nb_change.proofs.MovedLaws.{moved_begun}
-use Rattle.nb_delta.specs.Entries.{place_of}
-use Rattle.nb_delta.specs.Known.{Known}
-use Rattle.nb_delta.specs.Slots.{HasTable, HasZeros, slot_page, SlotStep, AddStep, IsBlank}
-use Rattle.nb_delta.specs.Noting.{IsNewest}
-use Rattle.nb_delta.specs.Waiting.{Waits, FrontStep, HasAll}
+use Rattle.std.proofs.Common.{◌≡◌, ℕ, ◌+◌, ◌-◌, ◌*◌, ◌<◌, ◌≤◌, List, [], ◌∷◌, ◌++◌, length, take, drop, replicate, refl, sym, ap, ◌∙◌, subst, arith, inl, inr, IsTrue, length-append, append_assoc, None}
+use Rattle.nb_delta.proofs.Common.{World, cases_lt, take-append-le, take-append-drop, take_all, length-take-le, length-replicate, drop-replicate, replicate-append-replicate, append-nil, File, Files, bytes_of, ReadsBytes, IsTimely, is_page_size, most_pages, page_in, slot_place, Only, Changes, Moved, Remade, moved_begun, place_of, Known, HasTable, HasZeros, slot_page, SlotStep, AddStep, IsBlank, IsNewest, Waits, FrontStep, HasAll, nil_from_length}
 use Rattle.nb_delta.proofs.StepLaws.{keeps_none}
 
 -- what a crash leaves while an entry is added
@@ -164,13 +149,9 @@ wait_zeros before after size inside k same is zeros =
     (subst (λ (n : ℕ). (table waiting : List ℕ) → Waits n inside.entries inside.drafted table waiting (before inside.name) → HasZeros n (after inside.name) (length inside.entries)) is zeros)
 
 -- where none waits, the file has all entries already
-none_left : (waiting : List ℕ) → length waiting ≡ 0 → waiting ≡ []
-none_left [] none = refl
-none_left (x ∷ xs) none = absurd (omega arith)
-
 pub none_waits : (files : Files) (inside k : Known) → inside ≡ k → inside.drafted ≡ 0 → WaitWrites files files k
 none_waits files inside k same none =
     subst (λ (x : Known). WaitWrites files files x) same
     (λ table waiting waits.
-    let all : inside.entries ≡ table = waits.all ∙ ap (λ (xs : List ℕ). table ++ xs) (none_left waiting (waits.many ∙ none)) ∙ append-nil table in
+    let all : inside.entries ≡ table = waits.all ∙ ap (λ (xs : List ℕ). table ++ xs) (nil_from_length waiting (waits.many ∙ none)) ∙ append-nil table in
     record { has = subst (λ (xs : List ℕ). HasTable inside.page_size (files inside.name) xs) (sym all) waits.has; slots = λ j. refl; no_shorter = omega arith })

@@ -17,3 +17,4 @@ pub mod FrontLaws
 pub mod DraftedLaws
 pub mod ZeroLaws
 pub mod NoteLaws
+mod Common

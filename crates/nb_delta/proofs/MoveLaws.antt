@@ -1,10 +1,6 @@
 -- What one call after another says of the file and of the log.
 use Rattle.std.proofs.Common.{◌≡◌, List, ℕ, refl, sym, subst, ap, ◌∙◌}
-use Rattle.nb_host.specs.Files.{Files, with_file, with_page}
-use Rattle.nb_host.specs.World.{World}
-use Rattle.nb_host.specs.Crash.{IsDurable}
-use Rattle.nb_host.specs.Calls.{IsSilent}
-use Rattle.nb_change.proofs.NameLaws.{with_file-same}
+use Rattle.nb_delta.proofs.Common.{Files, with_file, with_page, World, IsDurable, IsSilent, with_file-same}
 
 -- nothing was said by one run of calls after another
 pub silence_none : (w : World) → IsSilent w w

@@ -1,19 +1,6 @@
 -- What a crash leaves while an entry is added: its slot is written, room is made, and then the table names it.
-use Rattle.std.proofs.Common.{◌≡◌, ℕ, ◌-◌, ◌*◌, Bool, List, length, refl, sym, subst, IsTrue}
-use Rattle.std.specs.Prelude.{Result}
-use Rattle.nb_host.specs.Files.{File}
-use Rattle.nb_host.specs.World.{World}
-use Rattle.nb_host.specs.Crash.{PageLeft, IsDurable}
-use Rattle.nb_host.specs.Calls.{WritesPage}
-use Rattle.nb_host.specs.Moments.{IsTimely, Passes}
-use Rattle.nb_fields.specs.Places.{is_page_size}
-use Rattle.nb_fields.specs.Table.{alloc_place}
-use Rattle.nb_change.specs.Changes.{Only, Changes, Moved}
-use Rattle.nb_change.proofs.CallLaws.{page_alone}
-use Rattle.nb_change.proofs.MovedLaws.{moved_joined}
-use Rattle.nb_change.proofs.SettledLaws.{durable_is}
-use Rattle.nb_delta.specs.Slots.{Keeps, SlotStep, AddStep}
-use Rattle.nb_delta.specs.Noting.{IsReady, IsNewest, Prepared, NoteStep}
+use Rattle.std.proofs.Common.{◌≡◌, ℕ, ◌-◌, ◌*◌, Bool, List, length, refl, sym, subst, IsTrue, Result}
+use Rattle.nb_delta.proofs.Common.{File, World, PageLeft, IsDurable, WritesPage, IsTimely, Passes, is_page_size, alloc_place, Only, Changes, Moved, page_alone, moved_joined, durable_is, Keeps, SlotStep, AddStep, IsReady, IsNewest, Prepared, NoteStep}
 use Rattle.nb_delta.proofs.EntryLaws.{named_none}
 use Rattle.nb_delta.proofs.StepLaws.{keeps_slot, keeps_joined, note_left, add_step_again, newest_keeps}
 

@@ -1,10 +1,6 @@
 -- The allocation pages of several groups of entries, written one after another.
 use Rattle.std.proofs.Common.{◌≡◌, ◌⊎◌, inl, inr, ⊎_elim, ℕ, ◌+◌, ◌≤◌, List, refl, sym, ◌∙◌, subst, arith, IsTrue}
-use Rattle.std.proofs.lemmas.Bool.{cases_lt}
-use Rattle.nb_host.specs.Files.{File, bytes_of}
-use Rattle.nb_fields.specs.Places.{is_page_size}
-use Rattle.nb_fields.specs.Table.{page_in, alloc_place}
-use Rattle.nb_delta.specs.Groups.{GroupStep, GroupPut, IsOfGroup, NotesSome, NotesAll}
+use Rattle.nb_delta.proofs.Common.{cases_lt, File, bytes_of, is_page_size, page_in, alloc_place, GroupStep, GroupPut, IsOfGroup, NotesSome, NotesAll}
 use Rattle.nb_delta.proofs.EmptyLaws.{group_step, group_slots, group_others}
 
 module _ (size : ℕ) (is_size : IsTrue (is_page_size size)) (entries : List ℕ) where

@@ -1,14 +1,6 @@
 -- The pages of a file after a page was put into it, and after it grew by zeros.
 use Rattle.std.proofs.Common.{◌≡◌, ◌≢◌, ◌⊎◌, inl, inr, ⊎_elim, ℕ, ◌+◌, ◌-◌, ◌*◌, ◌<◌, ◌≤◌, List, ◌++◌, length, get_or, take, drop, replicate, refl, sym, ◌∙◌, ap, arith, length-append, length-take, length-drop}
-use Rattle.std.proofs.lemmas.List.{get_or-drop, get_or_append_left, get_or-append-add, get_or-append_right, get_or-replicate, ext_get_or, length-replicate, places}
-use Rattle.std.proofs.lemmas.Bool.{cases_lt}
-use Rattle.std.proofs.Math.Nat.{mul-le-mul_right}
-use Rattle.nb_host.specs.Files.{padded, put_at}
-use Rattle.nb_fields.specs.Table.{page_in}
-
-pub length-padded : (bytes : List ℕ) (n : ℕ) → length (padded bytes n) ≡ length bytes + (n - length bytes)
-unfolding padded
-length-padded bytes n = length-append bytes (replicate (n - length bytes) 0) ∙ ap (λ (k : ℕ). length bytes + k) (length-replicate {A = ℕ} (n - length bytes) 0)
+use Rattle.nb_delta.proofs.Common.{get_or-drop, get_or_append_left, get_or-append-add, get_or-append_right, get_or-replicate, ext_get_or, length-replicate, places, cases_lt, mul-le-mul_right, padded, put_at, page_in, length-front}
 
 -- zeros after are read as what stands after the end
 pub zeros_behind : (bytes : List ℕ) (n i : ℕ) → get_or (bytes ++ replicate n 0) i 0 ≡ get_or bytes i 0
@@ -23,13 +15,10 @@ zeros_behind bytes n i = elim (cases_lt i (length bytes)) [
     zero_at : (n k : ℕ) → get_or (replicate {A = ℕ} n 0) k 0 ≡ 0
     zero_at n k = elim (cases_lt k n) [ inl l ↦ get_or-replicate n k 0 0 l | inr l ↦ past (replicate n 0) k (omega (arith, l, length-replicate {A = ℕ} n 0)) ]
 
-front : (bytes : List ℕ) (at : ℕ) → length (take at (padded bytes at)) ≡ at
-front bytes at = let long = length-padded bytes at in omega (arith, length-take at (padded bytes at))
-
 pub put_at-below : (bytes : List ℕ) (at : ℕ) (new : List ℕ) (i : ℕ) → i < at → get_or (put_at bytes at new) i 0 ≡ get_or bytes i 0
 unfolding put_at padded
 put_at-below bytes at new i low =
-    get_or_append_left (take at (padded bytes at)) (new ++ drop (at + length new) bytes) 0 i (omega (arith, low, front bytes at))
+    get_or_append_left (take at (padded bytes at)) (new ++ drop (at + length new) bytes) 0 i (omega (arith, low, length-front bytes at))
     ∙ taken (padded bytes at) at i low ∙ zeros_behind bytes (at - length bytes) i
   where
     taken : (xs : List ℕ) (n i : ℕ) → i < n → get_or (take n xs) i 0 ≡ get_or xs i 0
@@ -38,14 +27,14 @@ put_at-below bytes at new i low =
 pub put_at-inside : (bytes : List ℕ) (at : ℕ) (new : List ℕ) (j : ℕ) → j < length new → get_or (put_at bytes at new) (at + j) 0 ≡ get_or new j 0
 unfolding put_at
 put_at-inside bytes at new j low =
-    ap (λ (n : ℕ). get_or (take at (padded bytes at) ++ (new ++ drop (at + length new) bytes)) (n + j) 0) (sym (front bytes at))
+    ap (λ (n : ℕ). get_or (take at (padded bytes at) ++ (new ++ drop (at + length new) bytes)) (n + j) 0) (sym (length-front bytes at))
     ∙ get_or-append-add (take at (padded bytes at)) (new ++ drop (at + length new) bytes) j 0
     ∙ get_or_append_left new (drop (at + length new) bytes) 0 j low
 
 pub put_at-above : (bytes : List ℕ) (at : ℕ) (new : List ℕ) (i : ℕ) → at + length new ≤ i → get_or (put_at bytes at new) i 0 ≡ get_or bytes i 0
 unfolding put_at
 put_at-above bytes at new i above =
-    get_or-append_right (take at (padded bytes at)) (new ++ drop (at + length new) bytes) at i 0 (front bytes at) (omega arith)
+    get_or-append_right (take at (padded bytes at)) (new ++ drop (at + length new) bytes) at i 0 (length-front bytes at) (omega arith)
     ∙ get_or-append_right new (drop (at + length new) bytes) (length new) (i - at) 0 refl (omega arith)
     ∙ get_or-drop (at + length new) bytes (i - at - length new) 0
     ∙ ap (λ (n : ℕ). get_or bytes n 0) (let e : at + length new + (i - at - length new) ≡ i = omega arith in e)
@@ -53,7 +42,7 @@ put_at-above bytes at new i above =
 pub length-put_at : (bytes : List ℕ) (at : ℕ) (new : List ℕ) → length (put_at bytes at new) ≡ at + length new + (length bytes - (at + length new))
 unfolding put_at
 length-put_at bytes at new =
-    omega (arith, front bytes at, length-append (take at (padded bytes at)) (new ++ drop (at + length new) bytes), length-append new (drop (at + length new) bytes), length-drop (at + length new) bytes)
+    omega (arith, length-front bytes at, length-append (take at (padded bytes at)) (new ++ drop (at + length new) bytes), length-append new (drop (at + length new) bytes), length-drop (at + length new) bytes)
 
 module _ (size : ℕ) where
   pub length-page_in : (bytes : List ℕ) (i : ℕ) → length (page_in size bytes i) ≡ size

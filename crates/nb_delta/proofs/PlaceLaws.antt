@@ -1,9 +1,6 @@
 -- Slots and allocation pages stand in different places.
 use Rattle.std.proofs.Common.{◌≡◌, ◌≢◌, inl, inr, ℕ, ◌+◌, ◌-◌, ◌*◌, ◌/◌, ◌<◌, ◌≤◌, refl, ap, arith}
-use Rattle.std.proofs.lemmas.Bool.{cases_lt, cases_eq}
-use Rattle.std.proofs.Math.Nat.{mul-le-mul_right}
-use Rattle.nb_fields.specs.Places.{slots_in}
-use Rattle.nb_fields.specs.Table.{slot_place, alloc_place}
+use Rattle.nb_delta.proofs.Common.{cases_lt, cases_eq, mul-le-mul_right, slots_in, slot_place, alloc_place}
 
 -- an entry by its group and its place in the group
 pub record InGroup (room k : ℕ) : Type 0 where

@@ -1,16 +1,6 @@
 -- One step of reading the entries of a difference file.
-use Rattle.std.proofs.Common.{◌≡◌, ℕ, suc, ◌+◌, ◌*◌, ◌<◌, true, false, List, [], ◌∷◌, ◌++◌, length, refl, sym, ◌∙◌, subst}
-use Rattle.std.specs.Prelude.{nat_eq, nat_le, nat_lt, Result, Ok, Err, IsErr}
-use Rattle.std.specs.Result.{IsErrAnd}
-use Rattle.std.specs.List.{list_any}
-use Rattle.std.proofs.lemmas.Bool.{or_parts, leb-false}
-use Rattle.nb_fields.specs.Bytes.{number_in}
-use Rattle.nb_fields.specs.Table.{page_in, entries_from}
-use Rattle.nb_fields.specs.Places.{most_pages}
-use Rattle.nb_host.specs.declared.faults.Fault.{Fault}
-use Rattle.nb_host.specs.declared.faults.Fault.TheVariants.{Refused, Device, Memory}
-use Rattle.nb_host.specs.declared.refusals.Refusal.TheVariants.{BadDelta}
-use Rattle.nb_delta.specs.Reading.{is_unfit, Reads, ReadsOn}
+use Rattle.std.proofs.Common.{◌≡◌, ℕ, suc, ◌+◌, ◌*◌, ◌<◌, true, false, List, [], ◌∷◌, ◌++◌, length, refl, sym, ◌∙◌, subst, nat_eq, nat_le, nat_lt, Result, Ok, Err, IsErr}
+use Rattle.nb_delta.proofs.Common.{IsErrAnd, list_any, or_parts, leb-false, number_in, page_in, entries_from, most_pages, Fault, Refused, Device, Memory, BadDelta, is_unfit, Reads, ReadsOn}
 
 -- a refusal that names the broken page
 pub on_broken : (form rest : Result (List ℕ) ℕ) (fault : Fault) (page : ℕ) → fault ≡ Refused (BadDelta page) → form ≡ Err page → ReadsOn form (Err fault) rest

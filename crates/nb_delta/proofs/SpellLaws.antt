@@ -1,17 +1,6 @@
 -- What a page write leaves of the table of a difference file.
-use Rattle.std.proofs.Common.{◌≡◌, ◌≢◌, ◌⊎◌, inl, inr, ⊎_elim, ℕ, ◌+◌, ◌-◌, ◌*◌, ◌<◌, ◌≤◌, false, List, [], ◌∷◌, ◌++◌, length, get_or, replicate, sym, ap, ◌∙◌, arith, length-append}
-use Rattle.std.specs.Prelude.{nat_eq}
-use Rattle.std.specs.List.{list_any}
-use Rattle.std.proofs.lemmas.Bool.{cases_lt, cases_eq}
-use Rattle.std.proofs.lemmas.List.{get_or_append_left, length-replicate}
-use Rattle.std.proofs.Math.Nat.{mul-le-mul_right}
-use Rattle.nb_host.specs.Files.{File, bytes_of, put_at}
-use Rattle.nb_host.specs.Crash.{PageLeft}
-use Rattle.nb_fields.specs.Bytes.{number_in}
-use Rattle.nb_fields.specs.Places.{slots_in, most_pages}
-use Rattle.nb_fields.specs.Table.{page_in, slot_place, alloc_place}
-use Rattle.nb_delta.specs.Pages.{WithPage, SamePages, Grows, PageStep, Put}
-use Rattle.nb_delta.specs.Noting.{IsAllocation}
+use Rattle.std.proofs.Common.{◌≡◌, ◌≢◌, ◌⊎◌, inl, inr, ⊎_elim, ℕ, ◌+◌, ◌-◌, ◌*◌, ◌<◌, ◌≤◌, false, List, [], ◌∷◌, ◌++◌, length, get_or, replicate, sym, ap, ◌∙◌, arith, length-append, nat_eq}
+use Rattle.nb_delta.proofs.Common.{list_any, cases_lt, cases_eq, get_or_append_left, length-replicate, mul-le-mul_right, File, bytes_of, put_at, PageLeft, number_in, slots_in, most_pages, page_in, slot_place, alloc_place, WithPage, SamePages, Grows, PageStep, Put, IsAllocation}
 use Rattle.nb_delta.proofs.EntryLaws.{entries_more}
 use Rattle.nb_delta.proofs.GroupLaws.{zeros_count}
 use Rattle.nb_delta.proofs.TableLaws.{count_at, number_at, Spells, same_place}

@@ -1,22 +1,10 @@
 -- What a page write leaves of a difference file, by its table and its slots.
-use Rattle.std.proofs.Common.{◌≡◌, ◌≢◌, inl, inr, ⊎_elim, ℕ, ◌+◌, ◌-◌, ◌*◌, ◌/◌, ◌<◌, ◌≤◌, false, List, [], ◌∷◌, ◌++◌, length, drop, replicate, refl, sym, ap, ◌∙◌, subst, arith, IsTrue, length-append}
-use Rattle.std.specs.Prelude.{Some, None, nat_eq, min}
-use Rattle.std.specs.List.{list_any}
-use Rattle.std.proofs.lemmas.List.{length-replicate}
-use Rattle.std.proofs.Math.Nat.{mul-le-mul_right}
-use Rattle.nb_host.specs.Files.{File, bytes_of, with_page}
-use Rattle.nb_host.specs.Crash.{PageLeft}
-use Rattle.nb_fields.specs.Places.{is_page_size, slots_in, most_pages}
-use Rattle.nb_fields.specs.Table.{page_in, slot_place, alloc_place}
-use Rattle.nb_fields.proofs.SizeLaws.{size_facts}
-use Rattle.nb_delta.specs.Slots.{HasTable, slot_page, HasSlot, HasZeros, Keeps, SlotStep, SlotPut, Adds, AddStep}
-use Rattle.nb_delta.specs.Noting.{IsAllocation, HasRoom, MakesRoom, Prepared, IsReady, IsNewest, Notes, NoteStep}
+use Rattle.std.proofs.Common.{◌≡◌, ◌≢◌, inl, inr, ⊎_elim, ℕ, ◌+◌, ◌-◌, ◌*◌, ◌/◌, ◌<◌, ◌≤◌, false, List, [], ◌∷◌, ◌++◌, length, drop, replicate, refl, sym, ap, ◌∙◌, subst, arith, IsTrue, length-append, Some, None, nat_eq, min}
+use Rattle.nb_delta.proofs.Common.{list_any, length-replicate, mul-le-mul_right, File, bytes_of, with_page, PageLeft, is_page_size, slots_in, most_pages, page_in, slot_place, alloc_place, size_facts, HasTable, slot_page, HasSlot, HasZeros, Keeps, SlotStep, SlotPut, Adds, AddStep, IsAllocation, HasRoom, MakesRoom, Prepared, IsReady, IsNewest, Notes, NoteStep, cases_eq, WithPage, Put}
 use Rattle.nb_delta.proofs.TableLaws.{Spells, same_place}
 use Rattle.nb_delta.proofs.ZeroLaws.{zeros_all, zeros_same}
-use Rattle.std.proofs.lemmas.Bool.{cases_eq}
 use Rattle.nb_delta.proofs.TellLaws.{table_read, table_told}
 use Rattle.nb_delta.proofs.PlaceLaws.{in_group, group_is, slot_at, slot_other, alloc_other, alloc_other_slot}
-use Rattle.nb_delta.specs.Pages.{WithPage, Put}
 use Rattle.nb_delta.proofs.SpellLaws.{put_step, from_put, page_step, spells_slot, spells_behind, spells_same, spells_more}
 
 pub some_slots : (size : ℕ) → IsTrue (is_page_size size) → 0 < slots_in size

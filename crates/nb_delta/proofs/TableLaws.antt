@@ -1,17 +1,9 @@
 -- What of a file's bytes makes its table this list, and that the two are one.
-use Rattle.std.proofs.Common.{◌≡◌, ◌⊎◌, inl, inr, ⊎_elim, ℕ, zero, suc, ◌+◌, ◌-◌, ◌*◌, ◌/◌, ◌<◌, ◌≤◌, false, List, [], ◌∷◌, ◌++◌, length, get_or, refl, sym, ap, ◌∙◌, subst, arith, length-append}
-use Rattle.std.specs.Prelude.{nat_lt, ◌&&◌, ◌==◌, Result, Ok, Err}
-use Rattle.std.proofs.lemmas.Bool.{cases_lt, cases_eq, cases_order, cases_Bool, ltb-false, eqb-true, eqb-false, eq-eqb, or_parts, and_cases}
-use Rattle.std.proofs.lemmas.List.{get_or_append_left, get_or-append_right}
-use Rattle.std.proofs.Math.Nat.{mul-le-mul_right}
-use Rattle.nb_fields.specs.Bytes.{number_in}
-use Rattle.nb_fields.specs.Places.{slots_in}
-use Rattle.nb_fields.specs.Table.{page_in, alloc_place, entries_from, groups_from}
-use Rattle.nb_delta.specs.Entries.{AreEntries}
-use Rattle.nb_delta.specs.Reading.{is_unfit}
+use Rattle.std.proofs.Common.{◌≡◌, ◌⊎◌, inl, inr, ⊎_elim, ℕ, zero, suc, ◌+◌, ◌-◌, ◌*◌, ◌/◌, ◌<◌, ◌≤◌, false, List, [], ◌∷◌, ◌++◌, length, get_or, refl, sym, ap, ◌∙◌, subst, arith, length-append, nat_lt, ◌&&◌, ◌==◌, Result, Ok, Err}
+use Rattle.nb_delta.proofs.Common.{cases_lt, cases_eq, cases_order, cases_Bool, ltb-false, eqb-true, eqb-false, eq-eqb, or_parts, and_cases, get_or_append_left, get_or-append_right, mul-le-mul_right, number_in, slots_in, page_in, alloc_place, entries_from, groups_from, AreEntries, is_unfit, err_ok, le-div}
 use Rattle.nb_delta.proofs.EntryLaws.{entries_more}
 use Rattle.nb_delta.proofs.ReadLaws.{entries_none, entry_unfit, entry_cut, entry_read, fit_named, fit_below}
-use Rattle.nb_delta.proofs.GroupLaws.{is_misshapen, group_misshapen, group_broken, group_full, group_last, next_group, first_group, whole_pages}
+use Rattle.nb_delta.proofs.GroupLaws.{is_misshapen, group_misshapen, group_broken, group_full, group_last, next_group, first_group}
 
 -- the count of a group, and the number of its entry i
 abbrev pub count_at : (size : ℕ) (bytes : List ℕ) (g : ℕ) → ℕ
@@ -44,9 +36,6 @@ same_place room g i h j low lower same = elim (cases_order h g) [
   | inr (inl l) ↦ let m : (h + 1) * room ≤ g * room = mul-le-mul_right room (omega arith) in absurd (omega (arith, m))
   | inr (inr l) ↦ let m : (g + 1) * room ≤ h * room = mul-le-mul_right room (omega arith) in absurd (omega (arith, m))
 ]
-
-err_ok : (page : ℕ) (table : List ℕ) → Err page ≡ Ok table → ⊥
-err_ok page table e = cc
 
 -- a table that was read
 abbrev ok_of : List ℕ → Result (List ℕ) ℕ
@@ -157,7 +146,7 @@ module _ (size : ℕ) (bytes : List ℕ) where
     pub groups_read : (most g : ℕ) (found table : List ℕ) → Holds size bytes found → length found ≡ g * slots_in size → ((h : ℕ) → h < g → count_at size bytes h ≡ slots_in size)
         → length bytes / size + 1 ≤ most + g → alloc_place size g * size ≤ length bytes → groups_from most size (alloc_place size g) bytes found ≡ Ok table → Spells size bytes table
     groups_read zero g found table holds many before fuel inside told =
-        let pages = whole_pages (alloc_place size g) size (length bytes) large inside in
+        let pages = le-div (alloc_place size g) (length bytes) size large inside in
         let first = first_group size g in
         absurd (omega arith)
     groups_read (suc most) g found table holds many before fuel inside told = elim (cases_Bool (is_misshapen size (alloc_place size g) bytes (count_at size bytes g))) [

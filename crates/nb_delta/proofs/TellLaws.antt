@@ -1,16 +1,9 @@
 -- A file whose bytes spell a list has it as its table, and only then.
-use Rattle.std.proofs.Common.{◌≡◌, ◌⊎◌, inl, inr, ⊎_elim, ℕ, zero, suc, ◌+◌, ◌-◌, ◌*◌, ◌/◌, ◌<◌, ◌≤◌, false, List, [], ◌∷◌, ◌++◌, length, get_or, take, refl, sym, ap, ◌∙◌, subst, arith}
-use Rattle.std.specs.Prelude.{nat_eq, nat_lt, nat_le, ◌&&◌, Ok}
-use Rattle.std.specs.List.{list_any, IsDistinct, AllByRecursion}
-use Rattle.std.proofs.lemmas.Bool.{cases_lt, le-ltb, lt-leb, eqb-false, eq-eqb, ne_eqb, or_from, and_left, and_right}
-use Rattle.std.proofs.lemmas.List.{take_all}
-use Rattle.std.proofs.Math.Nat.{mul-le-mul_right}
-use Rattle.nb_fields.specs.Places.{slots_in, most_pages}
-use Rattle.nb_fields.specs.Table.{alloc_place, entries_from, groups_from, table_of}
-use Rattle.nb_delta.specs.Reading.{is_unfit}
+use Rattle.std.proofs.Common.{◌≡◌, ◌⊎◌, inl, inr, ⊎_elim, ℕ, zero, suc, ◌+◌, ◌-◌, ◌*◌, ◌/◌, ◌<◌, ◌≤◌, false, List, [], ◌∷◌, ◌++◌, length, get_or, take, refl, sym, ap, ◌∙◌, subst, arith, nat_eq, nat_lt, nat_le, ◌&&◌, Ok}
+use Rattle.nb_delta.proofs.Common.{list_any, IsDistinct, AllByRecursion, cases_lt, le-ltb, lt-leb, eqb-false, eq-eqb, ne_eqb, or_from, and_left, and_right, take_all, mul-le-mul_right, slots_in, most_pages, alloc_place, entries_from, groups_from, table_of, is_unfit, le-div}
 use Rattle.nb_delta.proofs.EntryLaws.{no_entries, entry_below}
 use Rattle.nb_delta.proofs.ReadLaws.{entries_none, entry_read}
-use Rattle.nb_delta.proofs.GroupLaws.{is_misshapen, group_full, group_last, next_group, first_group, whole_pages, first_inside, groups_begun}
+use Rattle.nb_delta.proofs.GroupLaws.{is_misshapen, group_full, group_last, next_group, first_group, first_inside, groups_begun}
 use Rattle.nb_delta.proofs.TableLaws.{count_at, number_at, Holds, Spells, groups_read}
 
 -- an entry is none of those before it
@@ -74,7 +67,7 @@ module _ (size : ℕ) (bytes table : List ℕ) where
     groups_told : (most g : ℕ) → g * slots_in size ≤ length table → length bytes / size + 1 ≤ most + g → alloc_place size g * size ≤ length bytes
         → groups_from most size (alloc_place size g) bytes (take (g * slots_in size) table) ≡ Ok table
     groups_told zero g inside fuel at_least =
-        let pages = whole_pages (alloc_place size g) size (length bytes) large at_least in
+        let pages = le-div (alloc_place size g) (length bytes) size large at_least in
         let first = first_group size g in
         absurd (omega arith)
     groups_told (suc most) g inside fuel at_least = elim (cases_lt (length table) (g * slots_in size + slots_in size)) [

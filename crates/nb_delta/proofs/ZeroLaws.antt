@@ -1,11 +1,6 @@
 -- Zeros after the numbers of an allocation page.
 use Rattle.std.proofs.Common.{◌≡◌, inl, ℕ, ◌+◌, ◌-◌, ◌*◌, ◌≤◌, List, length, drop, replicate, sym, ap, ◌∙◌, arith, length-drop}
-use Rattle.std.proofs.lemmas.List.{drop-drop, drop-replicate, drop_all, take_all}
-use Rattle.nb_host.specs.Files.{File, bytes_of}
-use Rattle.nb_fields.specs.Bytes.{part, AreApart}
-use Rattle.nb_fields.specs.Places.{slots_in}
-use Rattle.nb_fields.specs.Table.{page_in, alloc_place}
-use Rattle.nb_delta.specs.Slots.{HasZeros}
+use Rattle.nb_delta.proofs.Common.{drop-drop, drop-replicate, drop_all, take_all, File, bytes_of, part, AreApart, slots_in, page_in, alloc_place, HasZeros}
 
 -- a page of zeros
 pub zeros_all : (size k : ℕ) (page : List ℕ) → page ≡ replicate size 0 → drop k page ≡ replicate (size - k) 0

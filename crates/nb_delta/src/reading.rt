@@ -1,9 +1,9 @@
 // Attaching reads the allocation pages of a difference file, group by group, until one isn't full.
 ghost use Rattle.std.specs.Prelude.{◌≡◌, ◌≢◌, ℕ, suc, ◌+◌, ◌*◌, ◌/◌, ◌<◌, ◌≤◌, IsTrue, true, false, List, [], length, Some, Result, IfOk, IfErr, OnOk};
 ghost use Rattle.nb_host.specs.declared.faults.Fault.TheVariants.{Device};
-ghost use Rattle.nb_host.specs.Causes.{CountsDevice, CountsFault};
+ghost use Rattle.nb_host.specs.Causes.{CountsDevice};
 ghost use Rattle.nb_fields.specs.Places.{is_page_size, slots_in, most_pages};
-ghost use Rattle.nb_fields.specs.Table.{page_in, alloc_place, entries_from, groups_from, table_of};
+ghost use Rattle.nb_fields.specs.Table.{page_in, entries_from, groups_from, table_of};
 ghost use Rattle.nb_page.specs.Quiet.{Quiet};
 ghost use Rattle.nb_delta.specs.Reading.{is_unfit, Counts, Reads, ReadsOn, ReadsGroup};
 

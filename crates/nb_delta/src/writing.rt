@@ -1,13 +1,11 @@
 // Pages are written in an order that a crash can't harm: a slot is kept for good before the table names it.
-ghost use Rattle.std.specs.Prelude.{◌≡◌, ℕ, ◌+◌, ◌*◌, ◌-◌, ◌<◌, ◌≤◌, IsTrue, List, [], ◌∷◌, ◌++◌, length, replicate, min, Some, None, OnOk};
+ghost use Rattle.std.specs.Prelude.{◌≡◌, ℕ, ◌+◌, ◌*◌, ◌-◌, ◌<◌, ◌≤◌, IsTrue, List, [], length, replicate, min, Some, None, OnOk};
 ghost use Rattle.nb_host.specs.Crash.{LeavesAll, IsDurable};
-ghost use Rattle.nb_host.specs.Calls.{IsStill, IsSilent, CountsRead};
-ghost use Rattle.nb_host.specs.Moments.{Passes};
+ghost use Rattle.nb_host.specs.Calls.{IsStill, IsSilent};
 ghost use Rattle.nb_host.specs.Causes.{CountsFault};
 ghost use Rattle.nb_fields.specs.Places.{is_page_size, slots_in, most_pages};
 ghost use Rattle.nb_fields.specs.Table.{slot_place};
 ghost use Rattle.nb_change.specs.Changes.{Only, NoNames, Changes, Moved, Remade};
-ghost use Rattle.nb_delta.specs.Entries.{place_of};
 ghost use Rattle.nb_delta.specs.Slots.{HasTable, Keeps, SlotStep, SlotPut, Adds, AddStep, IsBlank};
 ghost use Rattle.nb_delta.specs.Noting.{IsAllocation, MakesRoom, Prepared, IsReady, IsNewest, Notes, NoteStep};
 

@@ -1,31 +1,11 @@
 -- How a backup begins and ends by its turn.
-use Rattle.std.proofs.Common.{◌≡◌, ℕ, ◌+◌, List, [], ◌∷◌, refl, sym, ap, subst, ◌∙◌}
-use Rattle.std.specs.Prelude.{true, Option, Some, None, Result, Ok, Err}
-use Rattle.nb_fields.specs.States.{normal_state}
-use Rattle.nb_host.specs.World.{World}
-use Rattle.nb_host.specs.declared.faults.Fault.{Fault}
-use Rattle.nb_host.specs.declared.faults.Fault.TheVariants.{Refused as RefusedFault, Device, Memory}
-use Rattle.nb_host.specs.declared.refusals.Refusal.{Refusal}
-use Rattle.nb_page.specs.Quiet.{Quiet}
-use Rattle.nb_model.specs.declared.reply.Reply.TheVariants.{Refused, Scn}
-use Rattle.nb_model.specs.Image.{image_scn}
-use Rattle.nb_model.specs.Account.{Base, Ask}
-use Rattle.nb_model.specs.Strokes.{Stroke, begin}
-use Rattle.nb_model.specs.Causes.{Cause, read_only, not_state, no_scn}
-use Rattle.nb_model.specs.Outcomes.{Seen, Outcome, next_guid, without_guid, says, unless}
-use Rattle.nb_model.specs.Pages.{begin_turn, end_turn, end_strokes, end_scn, ends_by}
-use Rattle.nb_model.specs.Trail.{Trail}
-use Rattle.nb_base.specs.Takes.{Strikes, after_strokes}
-use Rattle.nb_state.specs.Open.{Held, IsOpen, name_of}
-use Rattle.nb_state.specs.Does.{Tested, has_only_told, unless_by}
+use Rattle.std.proofs.Common.{◌≡◌, ℕ, ◌+◌, List, [], ◌∷◌, refl, sym, ap, subst, ◌∙◌, true, Option, Some, None, Result, Ok, Err}
+use Rattle.nb_engine.proofs.Common.{normal_state, World, Fault, Device, Memory, Refusal, Quiet, Refused, Scn, image_scn, Base, Ask, Stroke, begin, Cause, read_only, not_state, no_scn, Seen, Outcome, next_guid, without_guid, says, unless, begin_turn, end_turn, end_strokes, end_scn, ends_by, Trail, Strikes, after_strokes, Held, IsOpen, name_of, Tested, has_only_told, unless_by, open_still, none_yet, DoesBegin, DoesEnd, Starts, starting_cause, told_some, unless_refused, unless_allowed, seeing, first_here, first_next}
+use Rattle.nb_host.specs.declared.faults.Fault.TheVariants.{Refused as RefusedFault}
 use Rattle.nb_state.specs.Turns.{begin_cause, end_cause, Begins, Ends}
-use Rattle.nb_state.proofs.MakesLaws.{open_still, none_yet}
-use Rattle.nb_engine.specs.Turns.{DoesBegin, DoesEnd, Starts, starting_cause}
-use Rattle.nb_alloc.proofs.CauseLaws.{told_some, unless_refused, unless_allowed, first_next, first_here}
-use Rattle.nb_alloc.proofs.DoesLaws.{seeing}
 
 -- what a turn does that isn't refused, its strokes by the cause
-strokes_by : (s : Seen) (cause : Cause) (o : Outcome) → (unless s cause o).strokes ≡ unless_by cause o.strokes
+pub strokes_by : (s : Seen) (cause : Cause) (o : Outcome) → (unless s cause o).strokes ≡ unless_by cause o.strokes
 unfolding unless
 strokes_by s None o = refl
 strokes_by s (Some r) o = refl

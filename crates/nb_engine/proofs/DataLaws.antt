@@ -1,35 +1,10 @@
 -- A data page is there, and what it then is written as.
-use Rattle.std.proofs.Common.{◌≡◌, ℕ, ◌-◌, ◌<◌, List, [], ◌∷◌, ◌++◌, length, take, drop, refl, sym, ap, subst, ◌∙◌, arith, length-drop}
-use Rattle.std.specs.Prelude.{Some, None, Result, IsTrue}
-use Rattle.std.proofs.lemmas.List.{append-nil, drop_all}
-use Rattle.nb_fields.proofs.PageLaws.{padded_whole}
-use Rattle.nb_fields.specs.Page.{with_payload}
-use Rattle.nb_fields.specs.Places.{is_page_size}
-use Rattle.nb_fields.specs.Kinds.{data_kind}
-use Rattle.nb_host.specs.World.{World}
-use Rattle.nb_host.specs.declared.faults.Fault.{Fault}
-use Rattle.nb_host.specs.declared.refusals.Refusal.{Refusal}
-use Rattle.nb_host.specs.declared.refusals.Refusal.TheVariants.{NotDatabase}
-use Rattle.nb_page.specs.Quiet.{Quiet}
-use Rattle.nb_model.specs.Image.{Page, Image}
-use Rattle.nb_model.specs.Forms.{is_kind}
-use Rattle.nb_model.specs.Causes.{not_kind}
-use Rattle.nb_model.specs.Trail.{Trail}
-use Rattle.nb_model.proofs.StepLaws.{kind_parts}
-use Rattle.nb_state.specs.Open.{Held, IsOpen, but_pages}
-use Rattle.nb_alloc.specs.Data.{data_cause, put_data}
-use Rattle.nb_alloc.specs.Make.{page_strokes}
-use Rattle.nb_alloc.specs.Put.{entry_cause}
-use Rattle.nb_alloc.specs.Tries.{Tries}
-use Rattle.nb_alloc.proofs.CauseLaws.{first_next, first_here, one_cause}
-use Rattle.nb_alloc.proofs.DoesLaws.{tries_after, tries_these}
-use Rattle.nb_alloc.proofs.MakeLaws.{tries_named}
-use Rattle.nb_alloc.proofs.PutLaws.{none_of}
-use Rattle.nb_alloc.proofs.ReadyLaws.{page_strokes_are}
+use Rattle.std.proofs.Common.{◌≡◌, ℕ, ◌-◌, ◌<◌, List, [], ◌∷◌, ◌++◌, length, take, drop, refl, sym, ap, subst, ◌∙◌, arith, length-drop, Some, None, Result, IsTrue}
+use Rattle.nb_engine.proofs.Common.{append-nil, drop_all, padded_whole, with_payload, is_page_size, data_kind, World, Fault, Refusal, NotDatabase, Quiet, Page, Image, is_kind, not_kind, Trail, kind_parts, Held, IsOpen, but_pages, data_cause, put_data, page_strokes, entry_cause, Tries, tries_after, tries_these, tries_named, page_strokes_are, first_here, first_next, is_so, one_cause}
 
 -- a data page is below the length
 pub data_there : (image : Image) (p : ℕ) → not_kind image data_kind p ≡ None → p < length image
-data_there image p kind = (kind_parts image data_kind p (none_of (is_kind image data_kind p) (NotDatabase p) kind)).0
+data_there image p kind = (kind_parts image data_kind p (is_so (is_kind image data_kind p) (NotDatabase p) kind)).0
 
 -- why it isn't written
 pub none_there : (image : Image) (p : ℕ) (r : Refusal) → not_kind image data_kind p ≡ Some r → data_cause image p ≡ Some r

@@ -1,19 +1,7 @@
 -- A flag in page 0: the bytes that are written, and the turns that write them.
+use Rattle.std.proofs.Common.{◌≡◌, ℕ, ◌+◌, ◌<◌, ◌≤◌, List, [], ◌∷◌, ◌++◌, length, take, drop, refl, ap, ◌∙◌, arith, Bool, true, false}
+use Rattle.nb_engine.proofs.Common.{take-append-le, take-take, length-take-le, bytes_of, with_part, is_zeros, is_header, normal_state, Done, Page, Image, first_page, flag, page, read_only, not_state, Seen, says, unless, byte_strokes, forced_turn, access_turn, header-long, header-other, same-header}
 use mir.Val.{bool_byte}
-use Rattle.std.proofs.Common.{◌≡◌, ℕ, ◌+◌, ◌<◌, ◌≤◌, List, [], ◌∷◌, ◌++◌, length, take, drop, refl, ap, ◌∙◌, arith}
-use Rattle.std.specs.Prelude.{Bool, true, false}
-use Rattle.std.proofs.lemmas.List.{take-append-le, take-take, length-take-le}
-use Rattle.nb_fields.specs.Bytes.{bytes_of, with_part, is_zeros}
-use Rattle.nb_fields.specs.Header.{is_header}
-use Rattle.nb_fields.specs.States.{normal_state}
-use Rattle.nb_model.specs.declared.reply.Reply.TheVariants.{Done}
-use Rattle.nb_model.specs.Image.{Page, Image, first_page}
-use Rattle.nb_model.specs.Lines.{flag}
-use Rattle.nb_model.specs.Strokes.{page}
-use Rattle.nb_model.specs.Causes.{read_only, not_state}
-use Rattle.nb_model.specs.Outcomes.{Seen, says, unless}
-use Rattle.nb_model.specs.Pages.{byte_strokes, forced_turn, access_turn}
-use Rattle.nb_model.proofs.HeaderLaws.{header-long, header-other, same-header}
 
 -- a flag is one byte
 pub byte_is : (on : Bool) → bool_byte on ≡ flag on

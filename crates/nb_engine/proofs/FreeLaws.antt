@@ -1,20 +1,7 @@
 -- Giving a page back, by the causes of its turn.
-use Rattle.std.proofs.Common.{◌≡◌, ℕ, List, [], ◌∷◌, refl, sym, ap, ◌∙◌}
-use Rattle.std.specs.Prelude.{true, false, Some, None}
-use Rattle.nb_fields.specs.Kinds.{inventory_kind}
-use Rattle.nb_host.specs.declared.refusals.Refusal.{Refusal}
-use Rattle.nb_host.specs.declared.refusals.Refusal.TheVariants.{Access}
-use Rattle.nb_model.specs.declared.reply.Reply.TheVariants.{Refused, Done}
-use Rattle.nb_model.specs.Image.{Image, is_read_only}
-use Rattle.nb_model.specs.Forms.{Draft, drafted, give_page, inventory_of}
-use Rattle.nb_model.specs.Causes.{Cause, first_cause, read_only, not_kind, not_raw, not_of_form, no_room}
-use Rattle.nb_model.specs.Outcomes.{Seen, says, unless}
-use Rattle.nb_model.specs.Pages.{free_turn}
-use Rattle.nb_alloc.specs.Mark.{mark_cause, mark_strokes}
-use Rattle.nb_alloc.proofs.CauseLaws.{first_none, first_next, first_here, refused_by, judged_by}
-use Rattle.nb_alloc.proofs.TestLaws.{applies, rests}
+use Rattle.std.proofs.Common.{◌≡◌, ℕ, List, [], ◌∷◌, refl, sym, ap, ◌∙◌, true, false, Some, None}
+use Rattle.nb_engine.proofs.Common.{inventory_kind, Refusal, Access, Refused, Done, Image, is_read_only, Draft, drafted, give_page, inventory_of, Cause, first_cause, read_only, not_kind, not_raw, not_of_form, no_room, Seen, says, unless, free_turn, mark_cause, mark_strokes, refused_by, judged_by, mark_form, mark_room, applies, first_here, first_next, no_cause, when_false}
 use Rattle.nb_engine.proofs.WriteLaws.{is_raw}
-use Rattle.nb_alloc.proofs.MarkLaws.{mark_form, mark_room}
 
 -- the turn, by its causes
 module _ (s : Seen) (p : ℕ) where
@@ -44,13 +31,13 @@ module _ (s : Seen) (p : ℕ) where
     found = by (mark_cause image p) refl
       where
         by : (c : Cause) → mark_cause image p ≡ c → first_cause (not_of_form draft ∷ no_room draft ∷ []) ≡ mark_cause image p
-        by None e = first_next (not_of_form draft) _ (mark_form s.base p form 1 ∙ e) ∙ first_next (no_room draft) [] (mark_room s.base p form 1 e) ∙ first_none ∙ sym e
+        by None e = first_next (not_of_form draft) _ (mark_form s.base p form 1 ∙ e) ∙ first_next (no_room draft) [] (mark_room s.base p form 1 e) ∙ no_cause ∙ sym e
         by (Some r) e = first_here (not_of_form draft) _ r (mark_form s.base p form 1 ∙ e) ∙ sym e
 
     pub free_is : read_only image ≡ None → free_turn s p ≡ unless s (mark_cause image p) (says s Done (mark_strokes image p 1))
     unfolding free_turn
     free_is free =
-        judged_by s causes draft Done (first_next (not_raw image p) (read_only image ∷ []) raw ∙ first_next (read_only image) [] free ∙ first_none)
+        judged_by s causes draft Done (first_next (not_raw image p) (read_only image ∷ []) raw ∙ first_next (read_only image) [] free ∙ no_cause)
         ∙ ap (λ (c : Cause). unless s c (says s Done draft.strokes)) found
 
 -- whether the database may be changed, by its flag
@@ -58,4 +45,4 @@ pub closed_cause : (image : Image) → is_read_only image ≡ true → read_only
 closed_cause image closed = applies (is_read_only image) (Access 1) closed
 
 pub open_cause : (image : Image) → is_read_only image ≡ false → read_only image ≡ None
-open_cause image open_ = rests (is_read_only image) (Access 1) open_
+open_cause image open_ = when_false (is_read_only image) (Access 1) open_

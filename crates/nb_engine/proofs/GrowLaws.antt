@@ -1,38 +1,8 @@
 -- A chain grows by a page: the new page, and then the link to it.
-use Rattle.std.proofs.Common.{◌≡◌, ℕ, ◌+◌, ◌<◌, ◌≤◌, List, [], ◌∷◌, ◌++◌, length, refl, sym, ap, subst, ◌∙◌, arith, length-append}
-use Rattle.std.specs.Prelude.{Bool, true, false, IsTrue, nat_lt, slice_set, Some, None, Result, Ok, Err}
-use Rattle.std.proofs.lemmas.List.{length-set}
-use Rattle.nb_fields.specs.Bytes.{bytes_of}
-use Rattle.nb_fields.specs.Payloads.{data_payload}
-use Rattle.nb_host.specs.World.{World}
-use Rattle.nb_host.specs.declared.faults.Fault.{Fault}
-use Rattle.nb_host.specs.declared.refusals.Refusal.{Refusal}
-use Rattle.nb_fields.specs.Page.{stamped}
-use Rattle.nb_model.specs.Image.{Page, Image, image_size, image_scn, with_page}
-use Rattle.nb_model.specs.Strokes.{Stroke, merged_page}
-use Rattle.nb_model.specs.Trail.{Trail}
-use Rattle.nb_fields.specs.Places.{is_page_size}
-use Rattle.nb_fields.specs.Kinds.{data_kind}
-use Rattle.nb_model.proofs.SearchLaws.{draft_cause}
-use Rattle.nb_model.proofs.StepLaws.{kind_parts}
-use Rattle.nb_alloc.specs.Put.{entry_cause}
-use Rattle.nb_alloc.proofs.ReadyLaws.{page_strokes_are}
-use Rattle.nb_alloc.proofs.RoomsLaws.{IsFreeBehind}
-use Rattle.nb_model.specs.Forms.{Draft, is_kind, drafted, old_page, put, wrote, written}
-use Rattle.nb_model.specs.Causes.{Cause, first_cause, not_of_form, no_room, no_scn}
-use Rattle.nb_model.specs.Chains.{Chain, History, owner_of, last_of, grown}
+use Rattle.std.proofs.Common.{◌≡◌, ℕ, ◌+◌, ◌<◌, ◌≤◌, List, [], ◌∷◌, ◌++◌, length, refl, sym, ap, subst, ◌∙◌, arith, length-append, Bool, true, false, IsTrue, nat_lt, slice_set, Some, None, Result, Ok, Err}
+use Rattle.nb_engine.proofs.Common.{length-set, bytes_of, data_payload, World, Fault, Refusal, stamped, Page, Image, image_size, image_scn, with_page, Stroke, merged_page, Trail, is_page_size, data_kind, draft_cause, kind_parts, entry_cause, page_strokes_are, IsFreeBehind, Draft, is_kind, drafted, old_page, put, wrote, written, Cause, first_cause, not_of_form, no_room, no_scn, Chain, History, owner_of, last_of, grown, after_strokes, Held, new_behind, page_strokes, new_of, no_rows, linked_payload, write_cause, grow_cause, Tries, tries_other, tries_valued, tries_front, tries_next, tries_named, told, image_is, first_here, first_next, no_cause}
 use Rattle.nb_model.proofs.DraftLaws.{IsKept, IsOf, drafts_are, drafted_is, put_keeps, new_keeps}
 use Rattle.nb_model.proofs.DraftJoin.{join_put}
-use Rattle.nb_base.specs.Takes.{after_strokes}
-use Rattle.nb_state.specs.Open.{Held}
-use Rattle.nb_alloc.specs.Data.{new_behind}
-use Rattle.nb_alloc.specs.Make.{page_strokes, new_of}
-use Rattle.nb_engine.specs.Room.{no_rows, linked_payload, write_cause, grow_cause}
-use Rattle.nb_alloc.specs.Tries.{Tries}
-use Rattle.nb_alloc.proofs.DoesLaws.{tries_other, tries_valued, tries_front, tries_next}
-use Rattle.nb_alloc.proofs.MakeLaws.{tries_named}
-use Rattle.nb_alloc.proofs.CauseLaws.{first_none, first_next, first_here}
-use Rattle.nb_alloc.proofs.NewLaws.{told, image_is}
 use Rattle.nb_engine.proofs.LinkLaws.{write_low}
 
 -- the bytes of a page of the history without a row
@@ -180,4 +150,4 @@ module _ (image : Image) (pages : List ℕ) where
   grow_spent room r e = grow_is ∙ first_next (draft_cause history) (no_scn image ∷ []) room ∙ first_here (no_scn image) [] r e
 
   pub grow_free : draft_cause history ≡ None → no_scn image ≡ None → grow_cause image pages ≡ None
-  grow_free room scn = grow_is ∙ first_next (draft_cause history) (no_scn image ∷ []) room ∙ first_next (no_scn image) [] scn ∙ first_none
+  grow_free room scn = grow_is ∙ first_next (draft_cause history) (no_scn image ∷ []) room ∙ first_next (no_scn image) [] scn ∙ no_cause

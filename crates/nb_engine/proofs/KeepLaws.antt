@@ -1,21 +1,9 @@
 -- Where a slot is kept for a row of the history, and why none is.
-use Rattle.std.proofs.Common.{◌≡◌, ℕ, ◌<◌, List, [], ◌∷◌, length, refl, sym, ap, ◌∙◌, arith}
-use Rattle.std.specs.Prelude.{Bool, true, false, Option, Some, None}
-use Rattle.nb_fields.specs.Places.{most_pages}
-use Rattle.nb_host.specs.declared.refusals.Refusal.TheVariants.{Full}
-use Rattle.nb_alloc.proofs.TestLaws.{rests}
-use Rattle.nb_model.proofs.ReadLaws.{lt_no}
-use Rattle.nb_model.specs.Image.{Image}
-use Rattle.nb_model.specs.Forms.{Draft, drafted, needs, is_kind, is_free_page, inventory_of, scn_page_of}
-use Rattle.nb_model.specs.Causes.{Cause, first_cause, when, broken_at, not_of_form, no_room, no_scn, too_short, short_for}
-use Rattle.nb_model.specs.Chains.{History, Spot, pages_of, found_pages, spots, free_spot, grown}
-use Rattle.nb_model.specs.Backups.{Room as Kept, room_in, needs_taken}
-use Rattle.nb_model.proofs.PutSound.{needs_image}
-use Rattle.nb_engine.specs.declared.walk.Room.{Room}
-use Rattle.nb_engine.specs.History.{room_at}
-use Rattle.nb_engine.specs.Room.{room_cause, IsRoomIn, taken_draft, grow_cause}
-use Rattle.nb_alloc.proofs.CauseLaws.{first_next}
+use Rattle.std.proofs.Common.{◌≡◌, ℕ, ◌<◌, List, [], ◌∷◌, length, refl, sym, ap, ◌∙◌, arith, Bool, true, false, Option, Some, None}
+use Rattle.nb_engine.proofs.Common.{most_pages, Full, lt_no, Image, Draft, drafted, needs, is_kind, is_free_page, inventory_of, scn_page_of, Cause, first_cause, when, broken_at, not_of_form, no_room, no_scn, too_short, short_for, History, Spot, pages_of, found_pages, spots, free_spot, grown, room_in, needs_taken, needs_image, Room, room_at, room_cause, IsRoomIn, taken_draft, grow_cause, first_next, when_false, none_some}
+use Rattle.nb_model.specs.Backups.{Room as Kept}
 use Rattle.nb_engine.proofs.WalkLaws.{IsData, history_least}
+use Rattle.nb_model.proofs.HeldRoom.{needs_image_same}
 
 -- what a test of inventories leaves
 needs_leaves : (kind p : ℕ) (d : Draft) → ((needs kind p d).strokes ≡ d.strokes) × ((needs kind p d).full ≡ d.full)
@@ -53,17 +41,9 @@ module _ (image : Image) (p : ℕ) where
   kept_full : (taken_draft image p).full ≡ false
   kept_full = (taken_leaves p second).1 ∙ (needs_leaves 10 (scn_page_of image p) first).1 ∙ (needs_leaves 2 (inventory_of image p) (drafted image)).1
 
-taken_image : (p : ℕ) (d : Draft) → (needs_taken p d).image ≡ d.image
-unfolding needs_taken
-taken_image p d = by (is_free_page d.image p)
-  where
-    by : (t : Bool) → (elim t as (λ z. Draft) [ true ↦ record d { broken = p ∷ d.broken } | false ↦ d ]).image ≡ d.image
-    by true = refl
-    by false = refl
-
 kept_image : (image : Image) (p : ℕ) → (taken_draft image p).image ≡ image
 kept_image image p =
-    taken_image p (needs 10 (scn_page_of image p) (needs 2 (inventory_of image p) (drafted image))) ∙ needs_image 10 (scn_page_of image p) (needs 2 (inventory_of image p) (drafted image)) ∙ needs_image 2 (inventory_of image p) (drafted image)
+    needs_image_same p (needs 10 (scn_page_of image p) (needs 2 (inventory_of image p) (drafted image))) ∙ needs_image 10 (scn_page_of image p) (needs 2 (inventory_of image p) (drafted image)) ∙ needs_image 2 (inventory_of image p) (drafted image)
 
 -- a cause that doesn't apply
 skip : (a b : Cause) (cs : List Cause) → b ≡ None → first_cause (a ∷ b ∷ cs) ≡ first_cause (a ∷ cs)
@@ -127,7 +107,7 @@ module _ (image : Image) where
     pub grown_cause : broken_at (pages_of History image) ≡ None → grow_cause image (found_pages History image) ≡ room_cause image
     grown_cause linked =
         let least = history_least image linked in
-        let long : too_short image ≡ None = rests _ _ (lt_no (length image) 5 least) in
+        let long : too_short image ≡ None = when_false _ _ (lt_no (length image) 5 least) in
         sym (first_next (broken_at (pages_of History image)) _ linked
         ∙ first_next (short_for (free_spot (spots History image)) image) _ (ap (λ (o : Option Spot). short_for o image) e ∙ long)
         ∙ ap (λ (k : Kept). first_cause (not_of_form k.draft ∷ no_room k.draft ∷ no_scn image ∷ [])) grows_is)
@@ -140,10 +120,7 @@ pub record IsSpot (o : Option Spot) (room : Room) : Type 0 where
   pub slot : room.slot ≡ spot.slot
 
 pub room_some : (o : Option Spot) (room : Room) → room_at o ≡ Some room → IsSpot o room
-room_some None room e = absurd (none_some e)
-  where
-    none_some : None ≡ Some room → ⊥
-    none_some d = cc
+room_some None room e = absurd (none_some room e)
 room_some (Some s) room e =
     let same : room ≡ record { page = s.page; slot = s.slot } = sym (ap (λ (x : Option Room). elim x as (λ z. Room) [ Some r ↦ r | None ↦ room ]) e) in
     record { spot = s; is = refl; page = ap (λ (r : Room). r.page) same; slot = ap (λ (r : Room). r.slot) same }

@@ -12,3 +12,4 @@ pub mod GrowLaws
 pub mod RoomLaws
 pub mod KeepLaws
 pub mod DataLaws
+mod Common

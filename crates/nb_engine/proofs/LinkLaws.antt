@@ -1,25 +1,6 @@
 -- A page of a chain is written, in any database.
-use Rattle.std.proofs.Common.{◌≡◌, ℕ, ◌+◌, ◌-◌, ◌*◌, ◌<◌, ◌≤◌, List, [], ◌∷◌, ◌++◌, length, take, drop, sym, ap, ◌∙◌, arith, length-drop}
-use Rattle.std.specs.Prelude.{Some, None, nat_le, IsTrue}
-use Rattle.nb_host.specs.declared.refusals.Refusal.TheVariants.{NotDatabase}
-use Rattle.std.proofs.lemmas.List.{take-append-drop}
-use Rattle.nb_fields.specs.Bytes.{with_part}
-use Rattle.nb_fields.specs.Page.{with_payload}
-use Rattle.nb_fields.specs.Places.{is_page_size}
-use Rattle.nb_fields.proofs.PartLaws.{part-with_part_before}
-use Rattle.nb_fields.proofs.PageLaws.{padded_whole}
-use Rattle.nb_model.specs.Image.{Image, page_at, image_size}
-use Rattle.nb_model.specs.Account.{Base}
-use Rattle.nb_model.specs.Forms.{drafted}
-use Rattle.nb_model.specs.Chains.{Slot, put_slot}
-use Rattle.nb_model.specs.Causes.{when}
-use Rattle.nb_model.proofs.ReadLaws.{le_no}
-use Rattle.nb_alloc.specs.Put.{entry_cause}
-use Rattle.nb_alloc.specs.Make.{page_strokes}
-use Rattle.nb_engine.specs.Room.{write_cause}
-use Rattle.nb_alloc.proofs.CauseLaws.{first_next, first_here, one_cause}
-use Rattle.nb_alloc.proofs.TestLaws.{applies, rests, le_yes}
-use Rattle.nb_alloc.proofs.ReadyLaws.{page_strokes_are}
+use Rattle.std.proofs.Common.{◌≡◌, ℕ, ◌+◌, ◌-◌, ◌*◌, ◌<◌, ◌≤◌, List, [], ◌∷◌, ◌++◌, length, take, drop, sym, ap, ◌∙◌, arith, length-drop, Some, None, nat_le, IsTrue}
+use Rattle.nb_engine.proofs.Common.{NotDatabase, take-append-drop, with_part, with_payload, is_page_size, part-with_part_before, padded_whole, Image, page_at, image_size, Base, drafted, Slot, put_slot, when, le_no, entry_cause, page_strokes, write_cause, page_strokes_are, applies, first_here, first_next, le_yes, when_false, one_cause}
 
 -- bytes after the head of a page were written
 module _ (at : ℕ) (bytes old : List ℕ) (low : 16 ≤ at) (before : at ≤ length old) (long : length (with_part at bytes old) ≡ length old) where
@@ -44,7 +25,7 @@ slot_strokes b p slot bytes size none = page_strokes_are b p 5 (drop 16 (with_pa
 
 -- why a page isn't written
 pub write_low : (image : Image) (p : ℕ) → p < length image → entry_cause image p ≡ write_cause image p
-write_low image p low = sym (first_next (when (nat_le (length image) p) (NotDatabase p)) (entry_cause image p ∷ []) (rests _ _ (le_no (length image) p low)) ∙ one_cause (entry_cause image p))
+write_low image p low = sym (first_next (when (nat_le (length image) p) (NotDatabase p)) (entry_cause image p ∷ []) (when_false _ _ (le_no (length image) p low)) ∙ one_cause (entry_cause image p))
 
 pub write_past : (image : Image) (p : ℕ) → length image ≤ p → write_cause image p ≡ Some (NotDatabase p)
 write_past image p far = first_here (when (nat_le (length image) p) (NotDatabase p)) (entry_cause image p ∷ []) (NotDatabase p) (applies _ _ (le_yes (length image) p far))

@@ -1,37 +1,9 @@
 -- What making a new page does of its turn.
-use Rattle.std.proofs.Common.{◌≡◌, ◌<◌, ◌≤◌, ℕ, List, [], ◌∷◌, length, refl, sym, ap, subst, ◌∙◌, arith}
-use Rattle.std.specs.Prelude.{true, false, IsTrue, Some, None, Result, IfOk}
-use Rattle.std.proofs.lemmas.Result.{IfOk-weaker}
-use Rattle.nb_fields.specs.Bytes.{bytes_of}
-use Rattle.nb_fields.specs.Places.{is_page_size}
-use Rattle.nb_fields.specs.Payloads.{text_payload}
-use Rattle.nb_host.specs.World.{World}
-use Rattle.nb_host.specs.declared.faults.Fault.{Fault}
-use Rattle.nb_host.specs.declared.refusals.Refusal.{Refusal}
-use Rattle.nb_host.specs.declared.refusals.Refusal.TheVariants.{Access, NotDatabase}
+use Rattle.std.proofs.Common.{◌≡◌, ◌<◌, ◌≤◌, ℕ, List, [], ◌∷◌, length, refl, sym, ap, subst, ◌∙◌, arith, true, false, IsTrue, Some, None, Result, IfOk}
+use Rattle.nb_engine.proofs.Common.{IfOk-weaker, bytes_of, is_page_size, text_payload, World, Fault, Refusal, Access, NotDatabase, Refused, PageMade, Image, image_scn, is_read_only, Stroke, Trail, Draft, first_cause, read_only, too_short, Seen, says, new_turn, lt_no, lt_yes, draft_cause, IsShaped, Held, IsOpen, Does, new_raw, page_made, IsSearchable, Tries, unless_refused, unless_allowed, refused_by, judged_by, seeing, tries_does, applies, first_here, first_next, no_cause, when_false}
 use Rattle.nb_model.specs.declared.reply.Reply.{Reply}
-use Rattle.nb_model.specs.declared.reply.Reply.TheVariants.{Refused, PageMade}
-use Rattle.nb_model.specs.Image.{Image, image_scn, is_read_only}
-use Rattle.nb_model.specs.Strokes.{Stroke}
-use Rattle.nb_model.specs.Trail.{Trail}
-use Rattle.nb_model.specs.Forms.{Draft}
-use Rattle.nb_model.specs.Causes.{first_cause, read_only, too_short}
-use Rattle.nb_model.specs.Outcomes.{Seen, says}
-use Rattle.nb_model.specs.Pages.{new_turn}
-use Rattle.nb_model.specs.Sound.{IsSoundImage, HasHeader}
-use Rattle.nb_model.proofs.ReadLaws.{lt_no, lt_yes}
-use Rattle.nb_model.proofs.SearchLaws.{draft_cause}
-use Rattle.nb_model.proofs.StepLaws.{IsShaped}
-use Rattle.nb_state.specs.Open.{Held, IsOpen}
-use Rattle.nb_state.specs.Does.{Does}
+use Rattle.nb_model.specs.Sound.{HasHeader}
 use Rattle.nb_state.proofs.SizeLaws.{open_sized}
-use Rattle.nb_alloc.specs.Make.{IsWell, new_raw}
-use Rattle.nb_engine.specs.Replies.{page_made}
-use Rattle.nb_alloc.specs.Search.{IsSearchable}
-use Rattle.nb_alloc.specs.Tries.{Tries}
-use Rattle.nb_alloc.proofs.TestLaws.{applies, rests}
-use Rattle.nb_alloc.proofs.CauseLaws.{unless_refused, unless_allowed, first_none, first_next, first_here, refused_by, judged_by}
-use Rattle.nb_alloc.proofs.DoesLaws.{seeing, tries_does}
 
 -- the bytes of the empty text
 pub empty_is : 0 ∷ 0 ∷ [] ≡ text_payload []
@@ -42,14 +14,21 @@ empty_is = refl
 pub header_of : (w : World) (held : Held) (t : Trail) → IsOpen w held t → image_scn t.base.image < 4294967296 → HasHeader t.base.image
 header_of w held t is scn = record { header = is.files.agrees.header; scn = scn }
 
-pub well_of : (w : World) (held : Held) (t : Trail) → IsOpen w held t → IsTrue (is_page_size held.files.page_size) → image_scn t.base.image < 4294967296 → IsSoundImage t.base.image → IsWell t.base.image
-well_of w held t is size scn sound = record { sound = sound; size = subst (λ (n : ℕ). IsTrue (is_page_size n)) is.files.agrees.page_size size; scn = scn }
-
 pub shaped_of : (w : World) (held : Held) (t : Trail) → IsOpen w held t → IsTrue (is_page_size held.files.page_size) → 3 ≤ length t.base.image → IsShaped t.base.image
 shaped_of w held t is size least = record { size = subst (λ (n : ℕ). IsTrue (is_page_size n)) is.files.agrees.page_size size; least = least; sizes = open_sized w held t is }
 
 pub searchable_of : (w : World) (held : Held) (t : Trail) → IsOpen w held t → IsTrue (is_page_size held.files.page_size) → 5 ≤ length t.base.image → IsSearchable t.base.image
 searchable_of w held t is size long = record { shaped = shaped_of w held t is size (omega (arith, long)); long = long }
+
+-- an open database of which a call knows the number of pages
+pub count_of : (w : World) (a b : Held) (t : Trail) (count : ℕ) → a ≡ b → IsOpen w b t → count ≡ a.files.count → count ≡ length t.base.image
+count_of w a b t count same is counted = let here = subst (λ (h : Held). IsOpen w h t) (sym same) is in counted ∙ here.files.agrees.count
+
+-- and has enough of them
+pub ready_of : (w : World) (a b : Held) (t : Trail) (count : ℕ) → a ≡ b → IsOpen w b t → IsTrue (is_page_size a.files.page_size) → count ≡ a.files.count → 5 ≤ count → IsOpen w a t × IsSearchable t.base.image
+ready_of w a b t count same is size counted enough =
+    let here = subst (λ (h : Held). IsOpen w h t) (sym same) is in
+    (here, searchable_of w a t here size (omega (arith, here.files.agrees.count, counted, enough)))
 
 -- the turn, by its causes
 module _ (s : Seen) where
@@ -71,11 +50,11 @@ module _ (s : Seen) where
     unfolding new_turn
     new_short low =
         refused_by s (read_only image ∷ too_short image ∷ []) draft reply (NotDatabase (length image))
-        (first_next (read_only image) (too_short image ∷ []) (rests _ _ free) ∙ first_here (too_short image) [] (NotDatabase (length image)) (applies _ _ (lt_yes (length image) 5 low)))
+        (first_next (read_only image) (too_short image ∷ []) (when_false _ _ free) ∙ first_here (too_short image) [] (NotDatabase (length image)) (applies _ _ (lt_yes (length image) 5 low)))
 
     module _ (long : 5 ≤ length image) where
       open_to_change : first_cause (read_only image ∷ too_short image ∷ []) ≡ None
-      open_to_change = first_next (read_only image) (too_short image ∷ []) (rests _ _ free) ∙ first_next (too_short image) [] (rests _ _ (lt_no (length image) 5 long)) ∙ first_none
+      open_to_change = first_next (read_only image) (too_short image ∷ []) (when_false _ _ free) ∙ first_next (too_short image) [] (when_false _ _ (lt_no (length image) 5 long)) ∙ no_cause
 
       pub new_refused : (r : Refusal) → draft_cause draft ≡ Some r → new_turn s ≡ says s (Refused r) []
       unfolding new_turn

@@ -1,31 +1,9 @@
 -- Pages of an image that aren't of their kind, where pages are written one after the other: each draft notes the same ones, whatever was written
 -- before, since a page changes its kind only where it was noted.
-use Rattle.std.proofs.Common.{◌≡◌, ◌≢◌, ◌⊎◌, inl, inr, ℕ, suc, ◌+◌, ◌*◌, ◌/◌, ◌<◌, ◌≤◌, List, [], ◌∷◌, ◌++◌, length, drop, refl, sym, ap, subst, ◌∙◌, arith, append_assoc, length-drop}
-use Rattle.std.specs.Prelude.{Bool, true, false, not, ◌==◌, ◌&&◌, ◌||◌, nat_lt, min, Some, None}
-use Rattle.std.proofs.lemmas.Bool.Decides.{eqb_tells, leb_tells}
-use Rattle.nb_fields.specs.Bytes.{bytes_of, with_part}
-use Rattle.nb_fields.specs.Places.{entries_in, bits_in, inventory_place, scn_place, is_scn_place}
-use Rattle.nb_fields.specs.Page.{kind_of}
-use Rattle.nb_fields.proofs.NumberLaws.{length-bytes_of}
-use Rattle.nb_fields.proofs.PartLaws.{length-with_part}
-use Rattle.nb_fields.proofs.PlaceLaws.{entries-least}
-use Rattle.nb_fields.proofs.SizeLaws.{SizeFacts, size_facts}
-use Rattle.nb_fields.specs.Kinds.{inventory_kind, data_kind, scn_kind}
-use Rattle.nb_host.specs.declared.refusals.Refusal.TheVariants.{NotDatabase}
-use Rattle.nb_model.specs.Causes.{not_kind, when, lowest_of, lowest_broken}
-use Rattle.nb_model.specs.Image.{Page, Image, page_at, image_size, image_scn}
-use Rattle.nb_model.specs.Forms.{HasItsEntry, Draft, drafted, is_kind, other_kind, needs, has_entry, inventory_of, scn_page_of, bit_number, entry_number, scn_entry, entry_written, entry_raised, raised, written, wrote, put, with_bit, set_bit, give_page}
+use Rattle.std.proofs.Common.{◌≡◌, ◌≢◌, ◌⊎◌, inl, inr, ℕ, suc, ◌+◌, ◌*◌, ◌/◌, ◌<◌, ◌≤◌, List, [], ◌∷◌, ◌++◌, length, drop, refl, sym, ap, subst, ◌∙◌, arith, append_assoc, length-drop, Bool, true, false, not, ◌==◌, ◌&&◌, ◌||◌, nat_lt, min, Some, None}
+use Rattle.nb_engine.proofs.Common.{eqb_tells, leb_tells, bytes_of, with_part, entries_in, bits_in, inventory_place, scn_place, is_scn_place, kind_of, length-bytes_of, length-with_part, entries-least, scn_place-some, SizeFacts, size_facts, inventory_kind, data_kind, scn_kind, NotDatabase, not_kind, when, lowest_of, lowest_broken, Page, Image, page_at, image_size, image_scn, HasItsEntry, Draft, drafted, is_kind, other_kind, needs, has_entry, inventory_of, scn_page_of, bit_number, entry_number, scn_entry, entry_written, entry_raised, raised, written, wrote, put, with_bit, set_bit, give_page, needs_image, all_at, inventory_place_some, scn_place_before, IsShaped, IsWritten, Puts, form_written, kind_parts, written_size, written_shaped, inventory_has, put_on, entry_broken, give_broken, entry_cause, mark_cause, entry_by, other_by, inventory_most, needs_broken, no_entry_broken, first_next, append_none, kind_found, needs_found, no_cause}
 use Rattle.nb_model.proofs.BitLaws.{with_bit_length}
-use Rattle.nb_model.proofs.PutSound.{needs_image}
-use Rattle.nb_model.proofs.SoundLaws.{all_at, inventory_place_some, scn_place_some, scn_place_before}
-use Rattle.nb_model.proofs.StepLaws.{IsShaped, IsWritten, Puts, form_written, kind_parts, kind_from, written_size, written_shaped, inventory_has, needs_found, put_on}
-use Rattle.nb_alloc.specs.Behind.{entry_broken, give_broken}
-use Rattle.nb_alloc.specs.Put.{entry_cause}
-use Rattle.nb_alloc.specs.Mark.{mark_cause}
-use Rattle.nb_alloc.proofs.BehindLaws.{entry_by, other_by}
-use Rattle.nb_alloc.proofs.CauseLaws.{first_none, first_next}
-use Rattle.nb_alloc.proofs.SearchReads.{inventory_most}
-use Rattle.nb_alloc.proofs.RoomsLaws.{needs_broken, both_empty, none_broken, no_entry_broken}
+use Rattle.nb_model.proofs.RoomThere.{other_met}
 
 -- the page is one of these
 abbrev pub In : ℕ → List ℕ → Type 0
@@ -184,7 +162,7 @@ notes_written x e ps p kind payload h some low room met = record {
     long = omega (arith, w.long, low)
 
     here : is_kind y kind p ≡ true
-    here = kind_from y kind p (omega (arith, long, low)) w.here
+    here = kind_found y kind p (omega (arith, long, low)) w.here
 
     other : (k r : ℕ) → r ≢ p → is_kind y k r ≡ is_kind e.image k r
     other k r ne = kind_stays e.image y k r long (w.others r ne)
@@ -211,7 +189,7 @@ module _ (x : Image) (p : ℕ) (inside : scn_page_of x p < length x) where
       low = let long = h.long in omega (arith, at, inside, long)
 
       some : 1 ≤ scn_page_of e.image p
-      some = let two = scn_place_some (image_size e.image) (p / entries_in (image_size e.image)) h.shaped.size in omega (arith, two)
+      some = let two = scn_place-some (image_size e.image) (p / entries_in (image_size e.image)) h.shaped.size in omega (arith, two)
 
       facts : SizeFacts (image_size e.image)
       facts = size_facts (image_size e.image) h.shaped.size
@@ -323,15 +301,15 @@ module _ (x : Image) (shaped : IsShaped x) (q : ℕ) (some : 1 ≤ q) (below : q
   -- Where all that it changes is of its kind, it isn't refused, and each page keeps its kind, a data page its bytes.
   module _ (none : give_broken x q ≡ []) where
     parts : (entry_broken x i ≡ []) × (other_kind x inventory_kind i ≡ [])
-    parts = both_empty (entry_broken x i) (other_kind x inventory_kind i) none
+    parts = append_none (entry_broken x i) (other_kind x inventory_kind i) none
 
     map : is_kind x inventory_kind i ≡ true
-    map = none_broken x 2 i parts.1
+    map = other_met x 2 i parts.1
 
     pub given_cause : mark_cause x q ≡ None
     given_cause =
         first_next (not_kind x inventory_kind i) (entry_cause x i ∷ []) (ap (λ (t : Bool). when (not t) (NotDatabase i)) map)
-        ∙ first_next (entry_cause x i) [] (no_entry_broken x i parts.0) ∙ first_none
+        ∙ first_next (entry_cause x i) [] (no_entry_broken x i parts.0) ∙ no_cause
 
     after : Image
     after = (give_page q (drafted x)).image
@@ -343,7 +321,7 @@ module _ (x : Image) (shaped : IsShaped x) (q : ℕ) (some : 1 ≤ q) (below : q
     kind_kept kind r = elim (notes.kinds kind r) [ inl same ↦ same | inr found ↦ absurd (subst (λ (ps : List ℕ). In r (ps ++ [])) none (notes.to r found)) ]
 
     entry_there : HasItsEntry x i
-    entry_there has = none_broken x 10 (scn_page_of x i) (sym (ap (λ (t : Bool). elim t as (λ z. List ℕ) [ true ↦ other_kind x scn_kind (scn_page_of x i) | false ↦ [] ]) has) ∙ parts.0)
+    entry_there has = other_met x 10 (scn_page_of x i) (sym (ap (λ (t : Bool). elim t as (λ z. List ℕ) [ true ↦ other_kind x scn_kind (scn_page_of x i) | false ↦ [] ]) has) ∙ parts.0)
 
     data_kept : (r : ℕ) → is_kind x data_kind r ≡ true → page_at (give_page q (drafted x)).image r ≡ page_at x r
     unfolding set_bit

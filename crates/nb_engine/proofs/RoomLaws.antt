@@ -1,25 +1,7 @@
 -- Why a free slot of the history is not kept: the lowest of the pages that aren't of the form.
-use Rattle.std.proofs.Common.{◌≡◌, ◌≢◌, ℕ, zero, suc, ◌*◌, ◌/◌, ◌<◌, ◌≤◌, List, [], ◌∷◌, refl, sym, ap, ◌∙◌, arith, mul-le-mul_right}
-use Rattle.std.specs.Prelude.{Bool, true, false, not, Some, None, min, IsTrue}
+use Rattle.std.proofs.Common.{◌≡◌, ◌≢◌, ℕ, zero, suc, ◌*◌, ◌/◌, ◌<◌, ◌≤◌, List, [], ◌∷◌, refl, sym, ap, ◌∙◌, arith, mul-le-mul_right, Bool, true, false, not, Some, None, min, IsTrue}
+use Rattle.nb_engine.proofs.Common.{kind_of, is_page_size, entries_in, bits_in, inventory_place, scn_place, entries-least, scn_place-some, inventory_kind, data_kind, scn_kind, Refusal, NotDatabase, Image, page_at, image_size, Draft, drafted, needs, is_kind, inventory_of, scn_page_of, is_free_page, Cause, first_cause, when, not_kind, lowest_broken, not_of_form, no_scn, needs_taken, inventory_place_some, needs_image, kind_parts, taken_draft, inventory_most, page_alone, none_broken, first_here, first_next, is_so, none_some, one_cause}
 use Rattle.std.proofs.Math.Nat.{div-mul-le_self, le-div_iff_mul-le}
-use Rattle.nb_fields.specs.Page.{kind_of}
-use Rattle.nb_fields.specs.Places.{is_page_size, entries_in, bits_in, inventory_place, scn_place}
-use Rattle.nb_fields.proofs.PlaceLaws.{entries-least}
-use Rattle.nb_fields.specs.Kinds.{inventory_kind, data_kind, scn_kind}
-use Rattle.nb_host.specs.declared.refusals.Refusal.{Refusal}
-use Rattle.nb_host.specs.declared.refusals.Refusal.TheVariants.{NotDatabase}
-use Rattle.nb_model.specs.Image.{Image, page_at, image_size}
-use Rattle.nb_model.specs.Forms.{Draft, drafted, needs, is_kind, inventory_of, scn_page_of, is_free_page}
-use Rattle.nb_model.specs.Causes.{Cause, first_cause, when, not_kind, lowest_broken, not_of_form, no_scn}
-use Rattle.nb_model.specs.Backups.{needs_taken}
-use Rattle.nb_model.proofs.SoundLaws.{inventory_place_some, scn_place_some}
-use Rattle.nb_model.proofs.PutSound.{needs_image}
-use Rattle.nb_model.proofs.StepLaws.{kind_parts}
-use Rattle.nb_engine.specs.Room.{taken_draft}
-use Rattle.nb_alloc.proofs.CauseLaws.{first_next, first_here, one_cause}
-use Rattle.nb_alloc.proofs.PutLaws.{none_of}
-use Rattle.nb_alloc.proofs.SearchReads.{inventory_most}
-use Rattle.nb_alloc.proofs.BehindLaws.{page_alone}
 
 -- the inventory page of a page stands before its SCN page
 before_scn : (size p : ℕ) → IsTrue (is_page_size size) → inventory_place size (p / bits_in size) < scn_place size (p / entries_in size)
@@ -32,7 +14,7 @@ before_scn size p is = by (p / bits_in size) (p / entries_in size) refl refl
     least = entries-least size is
 
     by : (k j : ℕ) → p / bits_in size ≡ k → p / entries_in size ≡ j → inventory_place size k < scn_place size j
-    by zero j e f = let two = scn_place_some size j is in omega (arith, two)
+    by zero j e f = let two = scn_place-some size j is in omega (arith, two)
     by (suc k) j e f =
         let under : suc k * bits_in size ≤ p = omega (arith, div-mul-le_self p (bits_in size), ap (λ (n : ℕ). n * bits_in size) e) in
         let as_entries : 32 * suc k * entries_in size ≤ p = omega (arith, under) in
@@ -63,10 +45,6 @@ two_of p i low = let same : min p i ≡ i = omega (arith, low) in ap (λ (n : �
 three_of : (p s i : ℕ) → i ≤ p → i ≤ s → lowest_broken (p ∷ s ∷ i ∷ []) ≡ Some (NotDatabase i)
 unfolding lowest_broken
 three_of p s i low less = let same : min (min p s) i ≡ i = omega (arith, low, less) in ap (λ (n : ℕ). Some (NotDatabase n)) same
-
-none : lowest_broken [] ≡ None
-unfolding lowest_broken
-none = refl
 
 module _ (image : Image) (p : ℕ) where
   abbrev i : ℕ
@@ -133,10 +111,7 @@ module _ (image : Image) (p : ℕ) where
   refused r e = first_here (not_of_form (taken_draft image p)) (no_scn image ∷ []) r e
 
   not_none : (t : Bool) (q : ℕ) (r : Refusal) → when (not t) (NotDatabase q) ≡ Some r → (t ≡ false) × (Some (NotDatabase q) ≡ Some r)
-  not_none true q r e = absurd (none_some e)
-    where
-      none_some : None ≡ Some r → ⊥
-      none_some d = cc
+  not_none true q r e = absurd (none_some r e)
   not_none false q r e = (refl, e)
 
   module _ (size : IsTrue (is_page_size (image_size image))) (some : 1 ≤ p) (kind : kind_of (page_at image p) ≡ data_kind) where
@@ -160,7 +135,7 @@ module _ (image : Image) (p : ℕ) where
 
     module _ (inventory : not_kind image inventory_kind i ≡ None) where
       is_inventory : is_kind image inventory_kind i ≡ true
-      is_inventory = none_of (is_kind image inventory_kind i) (NotDatabase i) inventory
+      is_inventory = is_so (is_kind image inventory_kind i) (NotDatabase i) inventory
 
       two : 2 ≤ p
       two =
@@ -184,14 +159,14 @@ module _ (image : Image) (p : ℕ) where
 
       module _ (scn_page : not_kind image scn_kind s ≡ None) where
         is_scn_page : is_kind image scn_kind s ≡ true
-        is_scn_page = none_of (is_kind image scn_kind s) (NotDatabase s) scn_page
+        is_scn_page = is_so (is_kind image scn_kind s) (NotDatabase s) scn_page
 
         -- the page itself
         pub free_refused : is_free_page image p ≡ true → cause ≡ Some (NotDatabase p)
         free_refused e = refused (NotDatabase p) (form_is true true true is_inventory is_scn_page e ∙ page_alone p)
 
         pub form_none : is_free_page image p ≡ false → not_of_form (taken_draft image p) ≡ None
-        form_none e = form_is true true false is_inventory is_scn_page e ∙ none
+        form_none e = form_is true true false is_inventory is_scn_page e ∙ none_broken
 
         -- the SCN
         pub room_cause : is_free_page image p ≡ false → cause ≡ no_scn image

@@ -1,20 +1,14 @@
 -- A row is written into a slot, field by field.
-use Rattle.std.proofs.Common.{◌≡◌, ℕ, ◌%◌, ◌<◌, ◌≤◌, List, [], ◌∷◌, ◌++◌, length, replicate, refl, ap, ◌∙◌, arith, append_assoc, length-append}
-use Rattle.std.specs.Prelude.{IsTrue, ◌&&◌, nat_lt, nat_le}
-use Rattle.std.specs.List.{list_all}
-use Rattle.std.proofs.lemmas.Bool.{and_parts, leb-true}
-use Rattle.nb_fields.specs.Bytes.{bytes_of, with_part, padded}
-use Rattle.nb_fields.proofs.NumberLaws.{length-bytes_of}
-use Rattle.nb_fields.proofs.PageLaws.{with_part-padded_next}
+use Rattle.std.proofs.Common.{◌≡◌, ℕ, ◌%◌, ◌<◌, ◌≤◌, List, [], ◌∷◌, ◌++◌, length, replicate, refl, ap, ◌∙◌, arith, append_assoc, length-append, IsTrue, ◌&&◌, nat_lt, nat_le}
+use Rattle.nb_engine.proofs.Common.{list_all, and_parts, leb-true, bytes_of, with_part, padded, length-bytes_of, with_part-padded_next, backup_slot}
 use Rattle.nb_host.specs.Names.{is_name, is_name_byte}
-use Rattle.nb_model.specs.Chains.{backup_slot}
 
 -- a used slot and its level
 used_level : (level : ℕ) → level < 256 → bytes_of 1 1 ++ bytes_of 1 level ≡ 1 ∷ level ∷ []
 unfolding bytes_of
 used_level level low = let same : level % 256 ≡ level = omega (arith, low) in ap (λ (n : ℕ). 1 ∷ n ∷ []) same
 
-zeros_are : replicate 256 0 ≡ padded 256 []
+pub zeros_are : replicate 256 0 ≡ padded 256 []
 unfolding padded
 zeros_are = refl
 

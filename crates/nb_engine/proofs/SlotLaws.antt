@@ -1,16 +1,8 @@
 -- Slots of the history, one by one: what they hold, and what a walk comes by.
-use Rattle.std.proofs.Common.{◌≡◌, List, [], ◌∷◌, ◌++◌, ℕ, refl, sym, ap, ◌∙◌}
-use Rattle.std.specs.Prelude.{Bool, true, false, ◌&&◌, ◌==◌, nat_eq, Option, Some, None, slice_index, is_some}
-use Rattle.nb_fields.specs.Bytes.{number_in, part}
-use Rattle.nb_model.specs.Image.{Image}
-use Rattle.nb_model.specs.Chains.{Slot, Spot, is_used, file_in, spots_of, first_such, last_such, free_spot}
-use Rattle.nb_model.proofs.ReadLaws.{eq_yes}
+use Rattle.std.proofs.Common.{◌≡◌, List, [], ◌∷◌, ◌++◌, ℕ, refl, sym, ap, ◌∙◌, Bool, true, false, ◌&&◌, ◌==◌, nat_eq, Option, Some, None, slice_index, is_some}
+use Rattle.nb_engine.proofs.Common.{number_in, part, Image, Slot, Spot, is_used, file_in, spots_of, first_such, last_such, free_spot, eq_yes, HistoryRow, Room, Walked, row_in, row_at, room_at, meets, gathered}
 use Rattle.nb_walk.proofs.FirstLaws.{stays, misses, hits}
-use Rattle.nb_engine.specs.declared.rows.HistoryRow.{HistoryRow}
 use Rattle.nb_engine.specs.declared.rows.Wanted.{Wanted}
-use Rattle.nb_engine.specs.declared.walk.Room.{Room}
-use Rattle.nb_engine.specs.declared.walk.Walked.{Walked}
-use Rattle.nb_engine.specs.History.{row_in, row_at, room_at, meets, gathered}
 
 -- a row, by its fields
 abbrev pub row_of : (time level : ℕ) (guid : List ℕ) (scn : ℕ) (name : List ℕ) → HistoryRow

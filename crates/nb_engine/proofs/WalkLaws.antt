@@ -1,11 +1,6 @@
 -- The pages of a history that is of the form are data pages below the length.
-use Rattle.std.proofs.Common.{◌≡◌, ℕ, ◌<◌, ◌≤◌, length, arith}
-use Rattle.std.specs.Prelude.{true, Some, None}
-use Rattle.nb_fields.specs.Page.{kind_of}
-use Rattle.nb_fields.specs.Kinds.{data_kind}
-use Rattle.nb_model.specs.Image.{Image, page_at}
-use Rattle.nb_model.specs.Causes.{broken_at}
-use Rattle.nb_model.specs.Chains.{History, Spot, spots, is_in_chain, pages_of, found_pages, last_of, free_spot}
+use Rattle.std.proofs.Common.{◌≡◌, ℕ, ◌<◌, ◌≤◌, length, arith, true, Some, None}
+use Rattle.nb_engine.proofs.Common.{kind_of, data_kind, Image, page_at, broken_at, History, Spot, spots, is_in_chain, pages_of, found_pages, last_of, free_spot}
 use Rattle.nb_model.proofs.RoomLaws.{in_chain, first_found}
 use Rattle.nb_walk.proofs.SpotPages.{spot_on, last_in}
 

@@ -1,37 +1,7 @@
 -- Why a raw page isn't written, and the turn that writes it.
-use Rattle.std.proofs.Common.{◌≡◌, ◌≢◌, inl, inr, ℕ, ◌<◌, List, [], ◌∷◌, ◌++◌, length, refl, sym, ap, ◌∙◌, arith}
-use Rattle.std.specs.Prelude.{Bool, true, false, not, ◌==◌, nat_le, Some, None, Result, Ok, IfErr}
-use Rattle.std.proofs.lemmas.Bool.{eqb-true}
-use Rattle.std.proofs.lemmas.Bool.Decides.{leb_tells}
-use Rattle.nb_fields.specs.Header.{is_header}
-use Rattle.nb_fields.specs.Places.{entries_in}
-use Rattle.nb_fields.specs.Page.{kind_of}
-use Rattle.nb_fields.specs.Payloads.{text_payload}
-use Rattle.nb_fields.specs.Kinds.{inventory_kind, raw_kind, scn_kind}
-use Rattle.nb_host.specs.World.{World}
-use Rattle.nb_host.specs.declared.faults.Fault.{Fault}
-use Rattle.nb_host.specs.declared.refusals.Refusal.{Refusal}
-use Rattle.nb_host.specs.declared.refusals.Refusal.TheVariants.{SystemPage}
-use Rattle.nb_model.specs.declared.reply.Reply.TheVariants.{Refused, Done}
-use Rattle.nb_model.specs.Image.{Page, Image, first_page, page_at, image_size}
-use Rattle.nb_model.specs.Account.{Base}
-use Rattle.nb_model.specs.Forms.{Draft, drafted, put, inventory_of}
-use Rattle.nb_model.specs.Causes.{Cause, first_cause, when, past_end, read_only, not_kind, not_raw, too_long, not_of_form, no_room}
-use Rattle.nb_model.specs.Outcomes.{Seen, says, unless}
-use Rattle.nb_model.specs.Pages.{write_turn}
-use Rattle.nb_model.specs.Trail.{Trail}
-use Rattle.nb_model.proofs.HeaderLaws.{header-kind}
-use Rattle.nb_model.proofs.PutSound.{no_first, not_when}
-use Rattle.nb_base.specs.Takes.{IsNoRefusal}
-use Rattle.nb_state.specs.Open.{Held, IsOpen}
-use Rattle.nb_state.specs.Does.{Makes, Does}
-use Rattle.nb_alloc.specs.Put.{entry_cause, raise_strokes, raw_stroke}
-use Rattle.nb_alloc.specs.Tries.{Tries}
-use Rattle.nb_alloc.proofs.CauseLaws.{first_none, first_next, first_here, refused_by, judged_by, unless_these}
-use Rattle.nb_alloc.proofs.DoesLaws.{seeing, tries_does, if_ok}
+use Rattle.std.proofs.Common.{◌≡◌, ◌≢◌, inl, inr, ℕ, ◌<◌, List, [], ◌∷◌, ◌++◌, length, refl, sym, ap, ◌∙◌, arith, true, false, not, ◌==◌, nat_le, Some, None, Result, Ok, IfErr}
+use Rattle.nb_engine.proofs.Common.{eqb-true, leb_tells, is_header, entries_in, kind_of, text_payload, inventory_kind, raw_kind, scn_kind, World, Fault, Refusal, SystemPage, Refused, Done, Page, Image, first_page, page_at, image_size, Base, Draft, drafted, put, inventory_of, Cause, first_cause, when, past_end, read_only, not_kind, not_raw, too_long, not_of_form, no_room, Seen, says, unless, write_turn, Trail, header-kind, no_first, not_when, IsNoRefusal, Held, IsOpen, Makes, Does, entry_cause, raise_strokes, raw_stroke, Tries, refused_by, judged_by, unless_these, seeing, tries_does, if_ok, put_stroke-after, put_strokes, put_form, put_room, put_refused, done, first_here, first_next, no_cause, true≢false, not_false}
 use Rattle.nb_alloc.proofs.PageLaws.{then_page}
-use Rattle.nb_alloc.proofs.PutLaws.{put_stroke-after, put_strokes, put_form, put_room, put_refused}
-use Rattle.nb_engine.specs.Replies.{done}
 
 -- what a taken raw page is
 pub record IsRaw (image : Image) (p : ℕ) : Type 0 where
@@ -54,18 +24,11 @@ is_raw image p none =
       plain = λ e. absurd (omega (arith, e, is_eight fourth.0));
     }
   where
-    true_false : true ≡ false → ⊥
-    true_false h = cc
-
     below : nat_le (length image) p ≡ false → p < length image
-    below over = elim (leb_tells (length image) p) [ inl w ↦ absurd (true_false (sym w.0 ∙ over)) | inr w ↦ w.1 ]
-
-    is_true : (t : Bool) → not t ≡ false → t ≡ true
-    is_true true e = refl
-    is_true false e = absurd (true_false e)
+    below over = elim (leb_tells (length image) p) [ inl w ↦ absurd (true≢false (sym w.0 ∙ over)) | inr w ↦ w.1 ]
 
     is_eight : when (not (kind_of (page_at image p) == raw_kind)) (SystemPage p) ≡ None → kind_of (page_at image p) ≡ raw_kind
-    is_eight none = eqb-true (kind_of (page_at image p)) 8 (is_true (kind_of (page_at image p) == raw_kind) (not_when _ (SystemPage p) none))
+    is_eight none = eqb-true (kind_of (page_at image p)) 8 (not_false (kind_of (page_at image p) == raw_kind) (not_when _ (SystemPage p) none))
 
 -- page 0 of an open database is none, so no call goes on with it
 pub no_header : (image : Image) (p : ℕ) → is_header (first_page image) ≡ true → not_raw image p ≡ None → p ≡ 0 → ⊥
@@ -81,7 +44,7 @@ put_cause b p kind payload = by (entry_cause b.image p) refl
     abbrev_draft = put p kind payload (drafted b.image)
 
     by : (c : Cause) → entry_cause b.image p ≡ c → first_cause (not_of_form abbrev_draft ∷ no_room abbrev_draft ∷ []) ≡ entry_cause b.image p
-    by None e = first_next (not_of_form abbrev_draft) _ (put_form b p kind payload e) ∙ first_next (no_room abbrev_draft) [] (put_room b p kind payload e) ∙ first_none ∙ sym e
+    by None e = first_next (not_of_form abbrev_draft) _ (put_form b p kind payload e) ∙ first_next (no_room abbrev_draft) [] (put_room b p kind payload e) ∙ no_cause ∙ sym e
     by (Some r) e = first_here (not_of_form abbrev_draft) _ r (put_refused b p kind payload r e) ∙ sym e
 
 -- the turn, by its causes

@@ -6,13 +6,13 @@ ghost use Rattle.nb_fields.specs.Places.{is_page_size, most_pages};
 ghost use Rattle.nb_fields.specs.States.{stalled_state};
 ghost use Rattle.nb_host.specs.declared.faults.Fault.TheVariants.{Memory};
 ghost use Rattle.nb_host.specs.Causes.{CountsDevice, CountsFault};
-ghost use Rattle.nb_page.specs.Quiet.{Quiet};
 ghost use Rattle.nb_model.specs.Causes.{lowest_broken};
 ghost use Rattle.nb_model.specs.Chains.{is_slot, slots_in, next_in};
 ghost use Rattle.nb_model.specs.Forms.{drafted, give_page};
 ghost use Rattle.nb_model.specs.Image.{page_at};
 ghost use Rattle.nb_model.specs.Trail.{Trail};
-ghost use Rattle.nb_state.specs.Open.{IsOpen, but_pages};
+ghost use Rattle.nb_state.specs.Open.{IsOpen};
+ghost use Rattle.nb_state.specs.Looks.{Looks};
 ghost use Rattle.nb_state.specs.Does.{Tested, Goes};
 ghost use Rattle.nb_alloc.specs.Behind.{entry_broken, give_broken};
 ghost use Rattle.nb_alloc.specs.Find.{need_cause};
@@ -27,8 +27,8 @@ use nb_alloc::{
     ScnPage, find_lacking, is_there, lower_page, mark, put_page, read_data, read_system,
 };
 use nb_fields::PageKind;
-use nb_fields::layouts::{data, head};
-use nb_host::{Fault, Host, HostFault, Refusal};
+use nb_fields::layouts::head;
+use nb_host::{Fault, Host, HostFault};
 use nb_pip::{covers, place_of};
 use nb_state::Store;
 use nb_walk::{Chain, read_page};
@@ -126,9 +126,7 @@ impl Engine {
         ensures reads { (t : Trail) → IsTrue H.tells → IsOpen (H.world host.old) self.old t → Reads result t.base.image (not_data t.base.image owner number) number into.new }
         ensures low { OnOk result (0 < number) }
         ensures high { OnOk result (number < most_pages) }
-        ensures open { (t : Trail) → IsTrue H.tells → IsOpen (H.world host.old) self.old t → IsOpen (H.world host.new) self.new t }
-        ensures same { but_pages self.new ≡ but_pages self.old }
-        ensures quiet { Quiet (H.world host.old) (H.world host.new) }
+        ensures looks { Looks H.tells (H.world host.old) (H.world host.new) self.old self.new }
         ensures once { IsTrue H.tells → (H.world host.new).reads ≤ (H.world host.old).reads + 1 }
         ensures cause { CountsDevice result (H.faults host.old) (H.faults host.new) }
         ensures takes_none { IfErr result (λ fault. fault ≢ Memory) }
@@ -155,9 +153,7 @@ impl Engine {
         ensures low { OnOk result (0 < number) }
         ensures high { OnOk result (number < most_pages) }
         ensures sized { length page.new ≡ length page.old }
-        ensures open { (t : Trail) → IsTrue H.tells → IsOpen (H.world host.old) self.old t → IsOpen (H.world host.new) self.new t }
-        ensures same { but_pages self.new ≡ but_pages self.old }
-        ensures quiet { Quiet (H.world host.old) (H.world host.new) }
+        ensures looks { Looks H.tells (H.world host.old) (H.world host.new) self.old self.new }
         ensures once { IsTrue H.tells → (H.world host.new).reads ≤ (H.world host.old).reads + 1 }
         ensures cause { CountsDevice result (H.faults host.old) (H.faults host.new) }
         ensures takes_none { IfErr result (λ fault. fault ≢ Memory) }
@@ -263,9 +259,7 @@ impl Engine {
         requires low { 0 < number }
         requires high { number < most_pages }
         ensures value { (t : Trail) → IsTrue H.tells → IsOpen (H.world host.old) self.old t → IfOk result (λ lacking. need_cause lacking ≡ lowest_broken (entry_broken t.base.image number)) }
-        ensures open { (t : Trail) → IsTrue H.tells → IsOpen (H.world host.old) self.old t → IsOpen (H.world host.new) self.new t }
-        ensures same { but_pages self.new ≡ but_pages self.old }
-        ensures quiet { Quiet (H.world host.old) (H.world host.new) }
+        ensures looks { Looks H.tells (H.world host.old) (H.world host.new) self.old self.new }
         ensures cause { CountsFault result (H.faults host.old) (H.faults host.new) }
     {
         find_lacking(
@@ -286,9 +280,7 @@ impl Engine {
     ) -> Result<Option<u32>, HostFault>
         requires high { number < most_pages }
         ensures value { (t : Trail) → IsTrue H.tells → IsOpen (H.world host.old) self.old t → IfOk result (λ lacking. need_cause lacking ≡ lowest_broken (give_broken t.base.image number)) }
-        ensures open { (t : Trail) → IsTrue H.tells → IsOpen (H.world host.old) self.old t → IsOpen (H.world host.new) self.new t }
-        ensures same { but_pages self.new ≡ but_pages self.old }
-        ensures quiet { Quiet (H.world host.old) (H.world host.new) }
+        ensures looks { Looks H.tells (H.world host.old) (H.world host.new) self.old self.new }
         ensures cause { CountsFault result (H.faults host.old) (H.faults host.new) }
     {
         let page_size = self.store.page_size();

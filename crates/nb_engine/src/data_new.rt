@@ -6,11 +6,11 @@ ghost use Rattle.nb_fields.specs.States.{stalled_state};
 ghost use Rattle.nb_fields.specs.Kinds.{data_kind};
 ghost use Rattle.nb_host.specs.declared.faults.Fault.TheVariants.{Memory};
 ghost use Rattle.nb_host.specs.Causes.{CountsDevice};
-ghost use Rattle.nb_page.specs.Quiet.{Quiet};
 ghost use Rattle.nb_model.specs.Chains.{Chain, owner_of, last_of, grown};
 ghost use Rattle.nb_model.specs.Forms.{drafted, is_kind};
 ghost use Rattle.nb_model.specs.Trail.{Trail};
-ghost use Rattle.nb_state.specs.Open.{IsOpen, but_pages};
+ghost use Rattle.nb_state.specs.Open.{IsOpen};
+ghost use Rattle.nb_state.specs.Looks.{Looks};
 ghost use Rattle.nb_state.specs.Does.{Tested, Goes};
 ghost use Rattle.nb_alloc.specs.Data.{new_data, second_data, unmade, unmade_behind};
 ghost use Rattle.nb_alloc.specs.Make.{new_of};
@@ -157,9 +157,7 @@ impl Engine {
             → Tested result (unmade_behind t.base.image (second_data first second t.base.image).0 behind) }
         ensures still { (t : Trail) (first : ℕ → List ℕ) → IsTrue H.tells → IsOpen (H.world host.old) self.old t → IsShort first → is_kind t.base.image data_kind behind ≡ true → pages ≡ 2
             → OnOk result (is_kind (new_of 5 first t.base.image).0.image 5 behind ≡ true) }
-        ensures open { (t : Trail) → IsTrue H.tells → IsOpen (H.world host.old) self.old t → IsOpen (H.world host.new) self.new t }
-        ensures same { but_pages self.new ≡ but_pages self.old }
-        ensures quiet { Quiet (H.world host.old) (H.world host.new) }
+        ensures looks { Looks H.tells (H.world host.old) (H.world host.new) self.old self.new }
         ensures cause { CountsDevice result (H.faults host.old) (H.faults host.new) }
         ensures takes_none { IfErr result (λ fault. fault ≢ Memory) }
     {

@@ -11,6 +11,7 @@ ghost use Rattle.nb_model.specs.Trail.{Trail, settled};
 ghost use Rattle.nb_base.specs.Reads.{opening_reads};
 ghost use Rattle.nb_base.specs.Takes.{Takes};
 ghost use Rattle.nb_state.specs.Open.{IsOpen, NoPageWaits, but_pages, name_of};
+ghost use Rattle.nb_state.specs.Looks.{Looks};
 ghost use Rattle.nb_cache.specs.Held.{slot_of};
 ghost use Rattle.nb_state.specs.Beginnings.{Attaches, Creates, HoldsNone};
 
@@ -190,10 +191,8 @@ impl Engine {
     ) -> Result<(), HostFault>
         requires size { length into.old ≡ self.old.files.page_size }
         ensures page { (t : Trail) → IsTrue H.tells → IsOpen (H.world host.old) self.old t → number < length t.base.image → OnOk result (into.new ≡ page_at t.base.image number) }
-        ensures open { (t : Trail) → IsTrue H.tells → IsOpen (H.world host.old) self.old t → IsOpen (H.world host.new) self.new t }
-        ensures same { but_pages self.new ≡ but_pages self.old }
+        ensures looks { Looks H.tells (H.world host.old) (H.world host.new) self.old self.new }
         ensures in_memory { IsSome (slot_of self.old.pages number) → IsOk result × (host.new ≡ host.old) }
-        ensures quiet { Quiet (H.world host.old) (H.world host.new) }
         ensures once { IsTrue H.tells → 0 < number → (H.world host.new).reads ≤ (H.world host.old).reads + 1 }
         ensures twice { IsTrue H.tells → (H.world host.new).reads ≤ (H.world host.old).reads + 2 }
         ensures cause { CountsFault result (H.faults host.old) (H.faults host.new) }

@@ -12,6 +12,7 @@ ghost use Rattle.nb_model.specs.Outcomes.{Seen};
 ghost use Rattle.nb_model.specs.Pages.{byte_strokes, forced_turn, access_turn};
 ghost use Rattle.nb_base.specs.Takes.{Strikes};
 ghost use Rattle.nb_state.specs.Open.{IsOpen, HasBlock, NoPageWaits, but_pages, name_of};
+ghost use Rattle.nb_state.specs.Looks.{Looks};
 ghost use Rattle.nb_state.specs.Does.{Goes, Does};
 ghost use Rattle.nb_alloc.specs.Tries.{Tries};
 ghost use Rattle.nb_alloc.specs.Put.{Reads};
@@ -32,10 +33,8 @@ fn read_first<H: Host>(store: &mut Store, host: &mut H, page: &mut [u8]) -> Resu
     ensures reads { (t : Trail) → IsTrue H.tells → IsOpen (H.world host.old) store.old t → Reads result t.base.image None 0 page.new }
     ensures header { OnOk result (is_header page.new ≡ true) }
     ensures control_block { IsTrue H.tells → OnOk result (HasBlock (H.world host.new) store.new page.new) }
-    ensures open { (t : Trail) → IsTrue H.tells → IsOpen (H.world host.old) store.old t → IsOpen (H.world host.new) store.new t }
+    ensures looks { Looks H.tells (H.world host.old) (H.world host.new) store.old store.new }
     ensures none_waits { NoPageWaits store.old → NoPageWaits store.new }
-    ensures same { but_pages store.new ≡ but_pages store.old }
-    ensures quiet { Quiet (H.world host.old) (H.world host.new) }
     ensures cause { CountsDevice result (H.faults host.old) (H.faults host.new) }
     ensures takes_none { IfErr result (λ fault. fault ≢ Memory) }
 {

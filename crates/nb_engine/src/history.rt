@@ -4,13 +4,13 @@ ghost use Rattle.nb_fields.specs.States.{stalled_state};
 ghost use Rattle.nb_host.specs.Names.{same_name};
 ghost use Rattle.nb_host.specs.declared.faults.Fault.TheVariants.{Memory};
 ghost use Rattle.nb_host.specs.Causes.{CountsDevice};
-ghost use Rattle.nb_page.specs.Quiet.{Quiet};
 ghost use Rattle.nb_model.specs.Causes.{broken_at};
 ghost use Rattle.nb_model.specs.Backups.{room_in};
 ghost use Rattle.nb_model.specs.Chains.{History, pages_of, found_pages, backup_spot, level_in, guid_in, put_slot, backup_slot};
 ghost use Rattle.nb_model.specs.Forms.{drafted};
 ghost use Rattle.nb_model.specs.Trail.{Trail};
-ghost use Rattle.nb_state.specs.Open.{IsOpen, but_pages};
+ghost use Rattle.nb_state.specs.Open.{IsOpen};
+ghost use Rattle.nb_state.specs.Looks.{Looks};
 ghost use Rattle.nb_state.specs.Does.{Tested, Goes};
 ghost use Rattle.nb_engine.specs.History.{row_at, IsPlaced};
 ghost use Rattle.nb_engine.specs.Room.{room_cause, write_cause, IsRoomIn};
@@ -34,9 +34,7 @@ impl Engine {
     ) -> Result<Option<HistoryRow>, Fault>
         ensures test { (t : Trail) → IsTrue H.tells → IsOpen (H.world host.old) self.old t → Tested result (broken_at (pages_of History t.base.image)) }
         ensures row { (t : Trail) → IsTrue H.tells → IsOpen (H.world host.old) self.old t → IfOk result (λ row. row ≡ row_at (backup_spot (λ slot. nat_eq (level_in slot) level) t.base.image)) }
-        ensures open { (t : Trail) → IsTrue H.tells → IsOpen (H.world host.old) self.old t → IsOpen (H.world host.new) self.new t }
-        ensures same { but_pages self.new ≡ but_pages self.old }
-        ensures quiet { Quiet (H.world host.old) (H.world host.new) }
+        ensures looks { Looks H.tells (H.world host.old) (H.world host.new) self.old self.new }
         ensures once { (t : Trail) → IsTrue H.tells → IsOpen (H.world host.old) self.old t → OnOk result ((H.world host.new).reads ≤ (H.world host.old).reads + length (found_pages History t.base.image)) }
         ensures most { IsTrue H.tells → (H.world host.new).reads ≤ (H.world host.old).reads + self.old.files.count }
         ensures cause { CountsDevice result (H.faults host.old) (H.faults host.new) }
@@ -57,9 +55,7 @@ impl Engine {
     ) -> Result<Option<HistoryRow>, Fault>
         ensures test { (t : Trail) → IsTrue H.tells → IsOpen (H.world host.old) self.old t → Tested result (broken_at (pages_of History t.base.image)) }
         ensures row { (t : Trail) → IsTrue H.tells → IsOpen (H.world host.old) self.old t → IfOk result (λ row. row ≡ row_at (backup_spot (λ slot. same_name (guid_in slot) guid.now) t.base.image)) }
-        ensures open { (t : Trail) → IsTrue H.tells → IsOpen (H.world host.old) self.old t → IsOpen (H.world host.new) self.new t }
-        ensures same { but_pages self.new ≡ but_pages self.old }
-        ensures quiet { Quiet (H.world host.old) (H.world host.new) }
+        ensures looks { Looks H.tells (H.world host.old) (H.world host.new) self.old self.new }
         ensures once { (t : Trail) → IsTrue H.tells → IsOpen (H.world host.old) self.old t → OnOk result ((H.world host.new).reads ≤ (H.world host.old).reads + length (found_pages History t.base.image)) }
         ensures most { IsTrue H.tells → (H.world host.new).reads ≤ (H.world host.old).reads + self.old.files.count }
         ensures cause { CountsDevice result (H.faults host.old) (H.faults host.new) }

@@ -3,7 +3,6 @@ ghost use Rattle.std.specs.Prelude.{◌≡◌, ◌≢◌, ◌<◌, ◌≤◌, �
 ghost use Rattle.nb_fields.specs.Places.{is_page_size, most_pages};
 ghost use Rattle.nb_host.specs.declared.faults.Fault.TheVariants.{Memory};
 ghost use Rattle.nb_host.specs.Causes.{CountsDevice};
-ghost use Rattle.nb_page.specs.Quiet.{Quiet};
 ghost use Rattle.nb_fields.specs.Page.{kind_of};
 ghost use Rattle.nb_fields.specs.States.{stalled_state};
 ghost use Rattle.nb_fields.specs.Kinds.{data_kind, scn_kind};
@@ -12,7 +11,8 @@ ghost use Rattle.nb_model.specs.Causes.{first_cause, not_kind, not_of_form, no_s
 ghost use Rattle.nb_model.specs.Chains.{History, last_of, put_slot, backup_slot, grown};
 ghost use Rattle.nb_model.specs.Forms.{drafted, is_kind, scn_page_of};
 ghost use Rattle.nb_model.specs.Trail.{Trail};
-ghost use Rattle.nb_state.specs.Open.{IsOpen, but_pages};
+ghost use Rattle.nb_state.specs.Open.{IsOpen};
+ghost use Rattle.nb_state.specs.Looks.{Looks};
 ghost use Rattle.nb_state.specs.Does.{Tested, Goes};
 ghost use Rattle.nb_engine.specs.History.{IsPlaced};
 ghost use Rattle.nb_alloc.specs.Put.{entry_cause};
@@ -25,7 +25,6 @@ use crate::rows::{HistoryRow, put_slot};
 use crate::walk::Room;
 use nb_alloc::{InventoryPage, ScnPage, check_rooms, is_free, put_page};
 use nb_fields::PageKind;
-use nb_fields::layouts::data;
 use nb_host::{Fault, Host, Refusal};
 use nb_state::Store;
 
@@ -58,9 +57,7 @@ fn check_scn_page<H: Host>(
     requires number { number < most_pages }
     ensures test { (t : Trail) → IsTrue H.tells → IsOpen (H.world host.old) store.old t → Tested result (not_kind t.base.image scn_kind (scn_page_of t.base.image number)) }
     ensures room { length scn_page.new ≡ length scn_page.old }
-    ensures open { (t : Trail) → IsTrue H.tells → IsOpen (H.world host.old) store.old t → IsOpen (H.world host.new) store.new t }
-    ensures same { but_pages store.new ≡ but_pages store.old }
-    ensures quiet { Quiet (H.world host.old) (H.world host.new) }
+    ensures looks { Looks H.tells (H.world host.old) (H.world host.new) store.old store.new }
     ensures cause { CountsDevice result (H.faults host.old) (H.faults host.new) }
     ensures takes_none { IfErr result (λ fault. fault ≢ Memory) }
 {
@@ -89,9 +86,7 @@ pub(crate) fn check_room<H: Host>(
         → Tested result (first_cause (not_of_form (taken_draft t.base.image number) ∷ no_scn t.base.image ∷ [])) }
     ensures map_room { length map.new ≡ length map.old }
     ensures scn_room { length scn_page.new ≡ length scn_page.old }
-    ensures open { (t : Trail) → IsTrue H.tells → IsOpen (H.world host.old) store.old t → IsOpen (H.world host.new) store.new t }
-    ensures same { but_pages store.new ≡ but_pages store.old }
-    ensures quiet { Quiet (H.world host.old) (H.world host.new) }
+    ensures looks { Looks H.tells (H.world host.old) (H.world host.new) store.old store.new }
     ensures cause { CountsDevice result (H.faults host.old) (H.faults host.new) }
     ensures takes_none { IfErr result (λ fault. fault ≢ Memory) }
 {

@@ -1,16 +1,7 @@
 -- What the pages of a new database show.
-use Rattle.std.proofs.Common.{◌≡◌, ℕ, zero, suc, ◌+◌, ◌-◌, ◌*◌, ◌/◌, ◌%◌, ◌^◌, ◌<◌, ◌≤◌, List, ◌∷◌, ◌++◌, length, get_or, take, drop, replicate, refl, sym, ap, ◌∙◌, ⊎_elim, arith, length-append}
-use Rattle.std.specs.Prelude.{IsTrue}
-use Rattle.std.specs.Int.{bit_at}
-use Rattle.std.proofs.lemmas.Bool.{cases_lt}
-use Rattle.std.proofs.lemmas.List.{length-replicate, length-take-le, get_or-take, get_or_append_left, get_or-replicate, get_or_at, get_or-append_right, get_or-drop, drop-drop}
+use Rattle.std.proofs.Common.{◌≡◌, ℕ, zero, suc, ◌+◌, ◌-◌, ◌*◌, ◌/◌, ◌%◌, ◌^◌, ◌<◌, ◌≤◌, List, ◌∷◌, ◌++◌, length, get_or, take, drop, replicate, refl, sym, ap, ◌∙◌, ⊎_elim, arith, length-append, IsTrue}
+use Rattle.nb_fields.proofs.Common.{bit_at, cases_lt, length-replicate, length-take-le, get_or-take, get_or_append_left, get_or-replicate, get_or_at, get_or-append_right, get_or-drop, drop-drop, bytes_of, number_of, number_in, padded, code_of, is_page_size, entries_in, bits_in, head_of, page_of, taken_bits, inventory_payload, same_entries, scn_payload, bit_of, entry_of, fresh_count, fresh_kind, fresh_payload, fresh_page, ShowsFresh}
 use Rattle.std.proofs.lemmas.Nat.Bits.{bit_at-zero, bit_at_ones, bit_at_mask_below, bit_at_mask_inside}
-use Rattle.nb_fields.specs.Bytes.{bytes_of, number_of, number_in, padded}
-use Rattle.nb_fields.specs.Kinds.{code_of}
-use Rattle.nb_fields.specs.Places.{is_page_size, entries_in, bits_in}
-use Rattle.nb_fields.specs.Page.{head_of, page_of}
-use Rattle.nb_fields.specs.Payloads.{taken_bits, inventory_payload, same_entries, scn_payload, bit_of, entry_of}
-use Rattle.nb_fields.specs.Fresh.{fresh_count, fresh_kind, fresh_payload, fresh_page, ShowsFresh}
 use Rattle.nb_fields.proofs.NumberLaws.{number_of-bytes_of}
 use Rattle.nb_fields.proofs.PageLaws.{kind_of-page_of, generation_of-page_of, stamp_of-page_of, number_of_page-page_of}
 use Rattle.nb_fields.proofs.SizeLaws.{size_facts}

@@ -1,11 +1,6 @@
 -- The form of a header, by the first 64 bytes.
-use Rattle.std.proofs.Common.{◌≡◌, ℕ, ◌<◌, ◌≤◌, List, [], length, take, ⊎_elim, false, refl, ap, ◌∙◌, sym, arith}
-use Rattle.std.specs.Prelude.{◌&&◌, ◌||◌, ◌==◌, Some, None}
-use Rattle.std.proofs.lemmas.Bool.{cases_lt, lt-leb, le-leb}
-use Rattle.std.proofs.lemmas.List.{take_all, length-take-le, take-take}
-use Rattle.nb_fields.specs.Bytes.{is_zeros}
-use Rattle.nb_fields.specs.Header.{is_marked, is_sound, is_header, state_of, size_of, scn_of, pending_of}
-use Rattle.nb_fields.specs.Free.{is_unfinished, is_free_file}
+use Rattle.std.proofs.Common.{◌≡◌, ℕ, ◌<◌, ◌≤◌, List, [], length, take, ⊎_elim, false, refl, ap, ◌∙◌, sym, arith, ◌&&◌, ◌||◌, ◌==◌, Some, None}
+use Rattle.nb_fields.proofs.Common.{cases_lt, lt-leb, le-leb, take_all, length-take-le, take-take, is_zeros, is_marked, is_sound, is_header, state_of, size_of, scn_of, pending_of, is_unfinished, is_free_file}
 use Rattle.nb_fields.proofs.PartLaws.{number_in-take, part-take}
 use Rattle.nb_fields.specs.States.{applying_state}
 

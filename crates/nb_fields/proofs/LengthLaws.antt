@@ -1,9 +1,6 @@
 -- The length of a new database, one raw page after another.
-use Rattle.std.proofs.Common.{◌≡◌, ℕ, zero, suc, ◌+◌, ◌*◌, ◌≤◌, ap, arith}
-use Rattle.std.specs.Prelude.{if◌then◌else◌}
-use Rattle.std.proofs.lemmas.Bool.{cond_both}
-use Rattle.nb_fields.specs.Places.{is_system_place}
-use Rattle.nb_fields.specs.Fresh.{next_plain, length_after, fresh_count}
+use Rattle.std.proofs.Common.{◌≡◌, ℕ, zero, suc, ◌+◌, ◌*◌, ◌≤◌, ap, arith, if◌then◌else◌}
+use Rattle.nb_fields.proofs.Common.{cond_both, is_system_place, next_plain, length_after, fresh_count}
 
 -- no raw page more
 pub length_after-none : (size n p : ℕ) → n ≡ 0 → length_after size n p ≡ p

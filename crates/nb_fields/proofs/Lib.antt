@@ -1,4 +1,5 @@
 pub mod NumberLaws
+pub mod ZeroLaws
 pub mod PartLaws
 pub mod PageLaws
 pub mod SizeLaws
@@ -7,4 +8,5 @@ pub mod LengthLaws
 pub mod PlaceLaws
 pub mod FreshLaws
 pub mod PlainLaws
-mod Rows
+pub mod Rows
+mod Common

@@ -1,9 +1,7 @@
 -- Numbers as bytes, the lowest first.
 use Rattle.std.proofs.Common.{◌≡◌, ℕ, zero, suc, ◌+◌, ◌-◌, ◌*◌, ◌/◌, ◌%◌, ◌^◌, ◌<◌, ◌≤◌, List, [], ◌∷◌, ◌++◌, length, get_or, take, drop, replicate, refl, ap, ◌∙◌, arith}
-use Rattle.std.proofs.Math.Nat.{div-div-eq-div-mul, pow-suc}
-use Rattle.std.proofs.lemmas.List.{drop_all, drop-replicate}
-use Rattle.std.specs.Int.{from_le_bytes, to_le_bytes, w64}
-use Rattle.nb_fields.specs.Bytes.{number_of, bytes_of}
+use Rattle.nb_fields.proofs.Common.{div-div-eq-div-mul, pow-suc, drop_all, drop-replicate, from_le_bytes, to_le_bytes, w64, number_of, bytes_of, bit_at}
+use Rattle.std.proofs.lemmas.Nat.Bits.{bit_at_lowest, bit_at-suc}
 
 -- no bytes spell 0
 pub number_of-none : number_of [] ≡ 0
@@ -89,4 +87,12 @@ number_of-bytes_of (suc w) v h =
     let power = pow-suc 256 w in
     let below : v / 256 < 256 ^ w = omega arith in
     let rest = number_of-bytes_of w (v / 256) below in
+    omega arith
+
+-- a bit counts as much as that power of two, and no more than the number
+pub bit_at-most : (n m : ℕ) → bit_at n m * 2 ^ m ≤ n
+bit_at-most n zero = omega (arith, bit_at_lowest n)
+bit_at-most n (suc m) =
+    let rest = bit_at-most (n / 2) m in
+    let same : bit_at n (suc m) * 2 ^ suc m ≡ 2 * (bit_at (n / 2) m * 2 ^ m) = ap (λ (t : ℕ). t * 2 ^ suc m) (bit_at-suc n m) ∙ ap (λ (x : ℕ). bit_at (n / 2) m * x) (pow-suc 2 m) ∙ omega arith in
     omega arith

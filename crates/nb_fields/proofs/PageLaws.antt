@@ -1,10 +1,6 @@
 -- Pages made of a head and a payload.
 use Rattle.std.proofs.Common.{◌≡◌, ℕ, ◌+◌, ◌*◌, ◌-◌, ◌%◌, ◌^◌, ◌<◌, ◌≤◌, List, [], ◌∷◌, ◌++◌, length, take, drop, replicate, refl, sym, ap, ◌∙◌, arith, append_assoc, length-append, length-drop}
-use Rattle.std.proofs.lemmas.List.{length-take-le, length-replicate, drop_all, drop_at, take_at, drop-drop, take-append-le, drop-append-le, append-nil, drop-replicate, take-replicate, replicate-append-replicate}
-use borrow.Rule.Slice.PartMut.{put_mid}
-use Rattle.nb_fields.specs.Bytes.{bytes_of, number_of, number_in, with_part, padded, part}
-use Rattle.nb_fields.specs.Page.{head_of, page_of, with_payload, stamped, generation_of}
-use Rattle.nb_fields.specs.Payloads.{text_payload, text_of}
+use Rattle.nb_fields.proofs.Common.{length-take-le, length-replicate, drop_all, drop_at, take_at, drop-drop, take-append-le, drop-append-le, append-nil, drop-replicate, take-replicate, replicate-append-replicate, put_mid, bytes_of, number_of, number_in, with_part, padded, part, head_of, page_of, with_payload, stamped, generation_of, text_payload, text_of}
 use Rattle.nb_fields.proofs.NumberLaws.{number_of-bytes_of}
 
 pub length-padded : (size : ℕ) (bytes : List ℕ) → length bytes ≤ size → length (padded size bytes) ≡ size

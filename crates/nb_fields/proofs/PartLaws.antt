@@ -1,8 +1,6 @@
 -- Parts of a page, read and written.
 use Rattle.std.proofs.Common.{◌≡◌, ℕ, zero, suc, ◌+◌, ◌-◌, ◌^◌, ◌<◌, ◌≤◌, ⊎_elim, List, [], ◌∷◌, ◌++◌, length, get_or, take, drop, refl, sym, ap, ◌∙◌, subst, arith, length-drop, length-append, append_assoc}
-use Rattle.std.proofs.lemmas.List.{length-take-le, drop_at, take_at, drop-drop, drop-append-le, take-append-le, drop-take, take-take}
-use borrow.Rule.Slice.PartMut.{put_mid}
-use Rattle.nb_fields.specs.Bytes.{number_of, bytes_of, part, number_in, with_part, AreApart}
+use Rattle.nb_fields.proofs.Common.{length-take-le, drop_at, take_at, drop-drop, drop-append-le, take-append-le, drop-take, take-take, put_mid, number_of, bytes_of, part, number_in, with_part, AreApart}
 use Rattle.nb_fields.proofs.NumberLaws.{length-bytes_of, number_of-bytes_of, number_of-lt}
 
 pub length-part : (at w : ℕ) (page : List ℕ) → at + w ≤ length page → length (part at w page) ≡ w

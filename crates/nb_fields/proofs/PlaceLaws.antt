@@ -1,11 +1,7 @@
 -- The places of the system pages, for the six page sizes.
-use Rattle.std.proofs.Common.{◌≡◌, ℕ, zero, suc, ◌+◌, ◌*◌, ◌/◌, ◌%◌, ◌<◌, ◌≤◌, true, sym, ap, ◌∙◌, arith}
-use Rattle.std.specs.Prelude.{IsTrue, ◌==◌, ◌||◌, ◌&&◌, nat_lt}
-use Rattle.std.proofs.Math.Nat.{mul-div_cancel, mul-mod_left, div-eq_of_lt, mul-add-mod_self_right, mod-eq_of_lt}
-use Rattle.std.proofs.lemmas.Bool.{eq-eqb, ne_eqb, lt-ltb, cond-true, cond-false, or_from, or_right, or_left, and_from}
+use Rattle.std.proofs.Common.{◌≡◌, ℕ, zero, suc, ◌+◌, ◌*◌, ◌/◌, ◌%◌, ◌<◌, ◌≤◌, true, sym, ap, ◌∙◌, arith, IsTrue, ◌==◌, ◌||◌, ◌&&◌, nat_lt}
+use Rattle.nb_fields.proofs.Common.{mul-div_cancel, mul-mod_left, div-eq_of_lt, mul-add-mod_self_right, mod-eq_of_lt, eq-eqb, ne_eqb, lt-ltb, cond-true, cond-false, or_from, or_right, or_left, and_from, is_page_size, entries_in, bits_in, inventory_place, scn_place, is_inventory_place, is_scn_place, fresh_kind}
 use Rattle.nb_fields.specs.declared.kinds.PageKind.TheVariants.{Inventory, ScnInventory}
-use Rattle.nb_fields.specs.Places.{is_page_size, entries_in, bits_in, inventory_place, scn_place, is_inventory_place, is_scn_place}
-use Rattle.nb_fields.specs.Fresh.{fresh_kind}
 use Rattle.nb_fields.proofs.SizeLaws.{size_facts}
 
 -- how many entries and bits there are at least
@@ -37,7 +33,7 @@ is_inventory_place-at size (suc k) p is at =
     let next : p + 1 ≡ suc k * bits_in size = omega arith in
     or_right (p == 1) ((p + 1) % bits_in size == 0) (eq-eqb ((p + 1) % bits_in size) 0 (ap (λ n. n % bits_in size) next ∙ mul-mod_left (suc k) (bits_in size)))
 
-inventory_place-some : (size k : ℕ) → IsTrue (is_page_size size) → 0 < inventory_place size k
+pub inventory_place-some : (size k : ℕ) → IsTrue (is_page_size size) → 0 < inventory_place size k
 inventory_place-some size zero is = omega arith
 inventory_place-some size (suc k) is =
     let least = bits-least size is in
@@ -80,7 +76,7 @@ scn_place-apart size (suc k) p is at none =
     let zero_too : (p + 1) % entries_in size ≡ 0 = ap (λ n. n % entries_in size) as_entries ∙ mul-mod_left (32 * q) (entries_in size) in
     absurd (omega arith)
 
-scn_place-some : (size k : ℕ) → IsTrue (is_page_size size) → 2 ≤ scn_place size k
+pub scn_place-some : (size k : ℕ) → IsTrue (is_page_size size) → 2 ≤ scn_place size k
 scn_place-some size zero is = omega arith
 scn_place-some size (suc k) is =
     let least = entries-least size is in

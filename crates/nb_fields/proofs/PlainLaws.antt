@@ -1,11 +1,7 @@
 -- The places of raw pages in a new database: as many as were asked for, and no system place among them.
-use Rattle.std.proofs.Common.{◌≡◌, ℕ, zero, suc, ◌+◌, ◌-◌, ◌*◌, ◌/◌, ◌%◌, ◌<◌, ◌≤◌, ◌⊎◌, inl, inr, ⊎_elim, true, false, ap, ◌∙◌, arith}
-use Rattle.std.specs.Prelude.{IsTrue, ◌==◌, ◌||◌, ◌&&◌, nat_lt, if◌then◌else◌}
-use Rattle.std.proofs.Math.Nat.{mul-mod_left}
+use Rattle.std.proofs.Common.{◌≡◌, ℕ, zero, suc, ◌+◌, ◌-◌, ◌*◌, ◌/◌, ◌%◌, ◌<◌, ◌≤◌, ◌⊎◌, inl, inr, ⊎_elim, true, false, ap, ◌∙◌, arith, IsTrue, ◌==◌, ◌||◌, ◌&&◌, nat_lt, if◌then◌else◌}
+use Rattle.nb_fields.proofs.Common.{mul-mod_left, eqb-true, or_cases, and_parts, cases_Bool, cond-true, cond-false, false_from_ne_true, is_page_size, entries_in, bits_in, is_inventory_place, is_scn_place, is_system_place, plain_places, next_plain, length_after, fresh_count}
 use Rattle.std.proofs.lemmas.Nat.{mod-mul-add}
-use Rattle.std.proofs.lemmas.Bool.{eqb-true, or_cases, and_parts, cases_Bool, cond-true, cond-false, false_from_ne_true}
-use Rattle.nb_fields.specs.Places.{is_page_size, entries_in, bits_in, is_inventory_place, is_scn_place, is_system_place, plain_places}
-use Rattle.nb_fields.specs.Fresh.{next_plain, length_after, fresh_count}
 use Rattle.nb_fields.proofs.PlaceLaws.{entries-least}
 
 -- a number after a multiple

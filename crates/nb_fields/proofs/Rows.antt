@@ -1,15 +1,8 @@
 -- Worked pages: the definitions compute.
-use Rattle.std.proofs.Common.{◌≡◌, [], ◌∷◌, ◌++◌, length, take, drop, refl, replicate, Ok, Err, Some, None, true, false}
-use Rattle.std.specs.Prelude.{map}
+use Rattle.std.proofs.Common.{◌≡◌, [], ◌∷◌, ◌++◌, length, take, drop, refl, replicate, Ok, Err, Some, None, true, false, map}
+use Rattle.nb_fields.proofs.Common.{entries_in, bits_in, slots_in, is_header, fresh, fresh_count, fresh_page, is_free_file, stamped, text_payload, raw_kind}
 use Rattle.nb_fields.specs.Opened.{opened}
-use Rattle.nb_fields.specs.Places.{entries_in, bits_in, slots_in}
-use Rattle.nb_fields.specs.Header.{is_header}
-use Rattle.nb_fields.specs.Fresh.{fresh, fresh_count, fresh_page}
-use Rattle.nb_fields.specs.Free.{is_free_file}
 use Rattle.nb_fields.specs.Table.{table_of}
-use Rattle.nb_fields.specs.Page.{stamped}
-use Rattle.nb_fields.specs.Payloads.{text_payload}
-use Rattle.nb_fields.specs.Kinds.{raw_kind}
 
 -- how many entries, bits and slots the pages of each size have
 sizes_entries : map entries_in (1024 ∷ 2048 ∷ 4096 ∷ 8192 ∷ 16384 ∷ 32768 ∷ []) ≡ 248 ∷ 504 ∷ 1016 ∷ 2040 ∷ 4088 ∷ 8184 ∷ []
@@ -79,7 +72,7 @@ unfolding opened
 hello = refl
 
 -- free and not free
-no_file : is_free_file None ≡ true
+pub no_file : is_free_file None ≡ true
 unfolding opened
 no_file = refl
 

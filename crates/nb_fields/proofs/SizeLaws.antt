@@ -1,8 +1,6 @@
 -- What all page sizes have in common.
-use Rattle.std.proofs.Common.{◌≡◌, ℕ, ◌%◌, ◌≤◌, ⊎_elim, true, refl, sym, subst, arith}
-use Rattle.std.specs.Prelude.{IsTrue, ◌==◌}
-use Rattle.std.proofs.lemmas.Bool.{eqb-true, or_cases}
-use Rattle.nb_fields.specs.Places.{is_page_size}
+use Rattle.std.proofs.Common.{◌≡◌, ℕ, ◌%◌, ◌≤◌, ⊎_elim, true, refl, sym, subst, arith, IsTrue, ◌==◌}
+use Rattle.nb_fields.proofs.Common.{eqb-true, or_cases, is_page_size}
 
 pub record SizeFacts (size : ℕ) : Type 0 where
   pub at_least : 1024 ≤ size

@@ -1,8 +1,6 @@
 -- What a file holds with what waits for it.
-use Rattle.std.proofs.Common.{◌≡◌, ℕ, true, false, List, ◌++◌, length, Option, None, Some, arith, sym, ◌∙◌, ap, cond}
-use Rattle.std.specs.Prelude.{is_none}
-use Rattle.nb_host.specs.Files.{put_at}
-use Rattle.nb_file.specs.Gathered.{seen, is_owner, IsNext, IsFreeFor}
+use Rattle.std.proofs.Common.{◌≡◌, ℕ, true, false, List, ◌++◌, length, Option, None, Some, arith, sym, ◌∙◌, ap, cond, is_none}
+use Rattle.nb_file.proofs.Common.{put_at, seen, is_owner, IsNext, IsFreeFor}
 use Rattle.nb_file.proofs.PutLaws.{put_at-next}
 
 -- of its owner, what waits is put over the file

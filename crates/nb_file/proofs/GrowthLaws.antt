@@ -1,13 +1,8 @@
 -- Bytes of a file whose length is set before they are put, and set back.
-use Rattle.std.proofs.Common.{◌≡◌, ℕ, ◌+◌, ◌-◌, ◌*◌, ◌≤◌, ◌<◌, ◌⊎◌, inl, inr, Result, Ok, Err, OnOk, OnErr, is_ok, if◌then◌else◌, List, ◌++◌, length, take, drop, sym, ◌∙◌, ap, subst, arith, length-append, length-take, append_assoc}
-use Rattle.std.specs.Prelude.{replicate}
-use Rattle.std.proofs.lemmas.List.{take-take, take-append-le, take_all, drop_all, length-replicate, replicate-append-replicate}
-use Rattle.std.proofs.lemmas.Bool.{cases_lt}
+use Rattle.std.proofs.Common.{◌≡◌, ℕ, ◌+◌, ◌-◌, ◌*◌, ◌≤◌, ◌<◌, ◌⊎◌, inl, inr, Result, Ok, Err, OnOk, OnErr, is_ok, if◌then◌else◌, List, ◌++◌, length, take, drop, sym, ◌∙◌, ap, subst, arith, length-append, length-take, append_assoc, replicate}
+use Rattle.nb_file.proofs.Common.{take-take, take-append-le, take_all, drop_all, length-replicate, replicate-append-replicate, cases_lt, padded, put_at, resized, IsBegun, IsSameUpTo, IsWhole, padded-short, length-front}
 use Rattle.std.proofs.Math.Nat.{mod-one, mul-add-mod_self_right, mod_self}
-use Rattle.nb_host.specs.Files.{padded, put_at}
-use Rattle.nb_file.specs.Resized.{resized, IsBegun, IsSameUpTo}
-use Rattle.nb_file.specs.Whole.{IsWhole}
-use Rattle.nb_file.proofs.PutLaws.{length-front, padded-short, length-put_at}
+use Rattle.nb_file.proofs.PutLaws.{length-put_at}
 
 pub length-resized : (bytes : List ℕ) (len : ℕ) → length (resized bytes len) ≡ len
 length-resized bytes len = length-front bytes len

@@ -1,7 +1,6 @@
 -- The length and the bytes of one file after a write.
 use Rattle.std.proofs.Common.{◌≡◌, ℕ, ◌+◌, Bool, true, false, List, ◌++◌, length, max, sym, ◌∙◌, ap, Result, Ok, Err, OnOk, is_ok, if◌then◌else◌}
-use Rattle.std.proofs.lemmas.Bool.{false≢true}
-use Rattle.nb_host.specs.Files.{put_at}
+use Rattle.nb_file.proofs.Common.{false≢true, put_at}
 use Rattle.nb_file.proofs.PutLaws.{length-put_at, put_at-end}
 
 -- where the file is sure after a write, its length is known

@@ -4,3 +4,4 @@ mod HeldLaws
 mod PutLaws
 mod PartLaws
 mod TableLaws
+mod Common

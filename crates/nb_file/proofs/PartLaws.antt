@@ -1,6 +1,6 @@
 -- Parts of a file.
 use Rattle.std.proofs.Common.{◌≡◌, ℕ, ◌+◌, ◌-◌, ◌≤◌, List, length, take, drop, refl, subst, sym, ◌∙◌, ap, arith, length-take}
-use Rattle.std.proofs.lemmas.List.{drop-take, drop-drop, take-take}
+use Rattle.nb_file.proofs.Common.{drop-take, drop-drop, take-take}
 use Rattle.nb_file.specs.Fetched.{IsPart}
 
 -- what is read of a part is what is read of the file

@@ -1,16 +1,6 @@
 -- Bytes put at a place, one after the other, and after the end.
-use Rattle.std.proofs.Common.{◌≡◌, ℕ, ◌+◌, ◌-◌, ◌≤◌, max, List, ◌++◌, length, take, drop, sym, ◌∙◌, ap, arith, length-append, length-take, length-drop, append_assoc}
-use Rattle.std.specs.Prelude.{replicate}
-use Rattle.std.proofs.lemmas.List.{take_at, drop_at, drop-drop, drop_all, take_all, length-replicate, append-nil}
-use Rattle.nb_host.specs.Files.{padded, put_at}
-
-pub padded-short : (bytes : List ℕ) (len : ℕ) → len ≤ length bytes → padded bytes len ≡ bytes
-unfolding padded
-padded-short bytes len fits = ap (λ (n : ℕ). bytes ++ replicate n 0) (let e : len - length bytes ≡ 0 = omega arith in e) ∙ append-nil bytes
-
-pub length-front : (bytes : List ℕ) (at : ℕ) → length (take at (padded bytes at)) ≡ at
-unfolding padded
-length-front bytes at = omega (arith, length-take at (bytes ++ replicate (at - length bytes) 0), length-append bytes (replicate (at - length bytes) 0), length-replicate {A = ℕ} (at - length bytes) 0)
+use Rattle.std.proofs.Common.{◌≡◌, ℕ, ◌+◌, ◌-◌, max, List, ◌++◌, length, take, drop, sym, ◌∙◌, ap, arith, length-append, length-drop, append_assoc}
+use Rattle.nb_file.proofs.Common.{take_at, drop_at, drop-drop, drop_all, take_all, append-nil, padded, put_at, padded-short, length-front}
 
 pub length-put_at : (bytes : List ℕ) (at : ℕ) (new : List ℕ) → length (put_at bytes at new) ≡ max (length bytes) (at + length new)
 unfolding put_at

@@ -1,12 +1,11 @@
 -- Where a list that grew by one has its new element.
-use Rattle.std.proofs.Common.{◌≡◌, ℕ, ◌+◌, List, [], ◌∷◌, ◌++◌, length, IsTrue, IsSomeAnd, Some, slice_get, subst, sym, ap, ◌∙◌, arith, length-append, ◌<◌, get_or, refl, Option, None, inl, inr, Result, Ok, Err, OnOk}
+use Rattle.std.proofs.Common.{◌≡◌, ℕ, ◌+◌, List, [], ◌∷◌, ◌++◌, length, IsTrue, IsSomeAnd, Some, slice_get, subst, sym, ap, ◌∙◌, arith, length-append, ◌<◌, get_or, refl, Option, None, inl, inr}
+use Rattle.nb_file.proofs.Common.{cases_lt, IsFreeFor}
 use Rattle.std.proofs.Math.Seq.{get_or-append_seam}
 use Rattle.std.proofs.lemmas.Option.{slice_get_read, slice_get_past}
-use Rattle.std.proofs.lemmas.Bool.{cases_lt}
 use Rattle.std.specs.Cmp.Lexicographic.{nat_list_eq_equiv}
 use Rattle.nb_host.specs.Names.{same_name}
 use Rattle.nb_file.specs.Named.{IsNamedAt}
-use Rattle.nb_file.specs.Gathered.{IsFreeFor}
 
 -- the last element of a list that grew by one
 pub slice_get-append_last : {X : Type 0} (xs : List X) (x : X) → slice_get (xs ++ x ∷ []) (length xs) ≡ Some x
@@ -37,8 +36,3 @@ module _ {X : Type 0} (named : X → List ℕ) (xs : List X) (x : X) (i : ℕ) (
   pub free_for_name : (own : Option (List ℕ)) → IsFreeFor own (named x) → IsFreeFor own name
   free_for_name None free = tt
   free_for_name (Some own) free = nat_list_eq_equiv.congr own (named x) name free ∙ same
-
--- what holds anyway holds at Ok
-pub at_ok : {T E : Type 0} {P : Type 0} (r : Result T E) → P → OnOk r P
-at_ok (Ok x) p = p
-at_ok (Err e) p = tt

@@ -1,6 +1,5 @@
 // One open file, as the system gives it.
 ghost use Rattle.std.specs.Prelude.{◌≡◌, ◌+◌, ◌≤◌, ℕ, Bool, true, false, IsTrue, List, [], length, take, drop, is_ok, if◌then◌else◌, IfOk, OnOk, OnErr};
-ghost use Rattle.std.proofs.lemmas.Bool.{false≢true};
 ghost use Rattle.nb_host.specs.Files.{put_at};
 ghost use Rattle.nb_file.specs.Resized.{resized, IsBegun};
 

@@ -1,6 +1,6 @@
 // The host.
 ghost use Rattle.std.specs.Prelude.{◌≡◌, ◌⊎◌, [], false, take, None, Ok, IfOk};
-ghost use Rattle.nb_host.specs.Causes.{Rose, CountsFault};
+ghost use Rattle.nb_host.specs.Causes.{CountsFault};
 ghost use Rattle.nb_file.specs.Nothing.{silence, silence_timely, untold};
 
 use crate::disk::Disk;

@@ -1,19 +1,6 @@
 -- What is answered, passed on.
-use Rattle.std.proofs.Common.{◌≡◌, ℕ, ◌≤◌, List, length, take, refl, sym, ap, subst, ◌∙◌, arith}
-use Rattle.std.specs.Prelude.{Option, Some, None, option_map, is_some, Result, Ok, Err, IfOk, IsErr, IsErrAnd}
-use Rattle.std.proofs.lemmas.List.{take-take, length-take}
-use Rattle.nb_fields.specs.Header.{size_of}
-use Rattle.nb_host.specs.Files.{File}
-use Rattle.nb_host.specs.declared.faults.Fault.{Fault}
-use Rattle.nb_host.specs.declared.faults.Fault.TheVariants.{Refused, Device, Memory}
-use Rattle.nb_host.specs.declared.refusals.Refusal.{Refusal}
-use Rattle.nb_model.specs.Causes.{Cause}
-use Rattle.nb_fixup.specs.Tests.{IsPageOf, Tested}
-
--- a fault that is passed on
-pub passed : (T : Type 0) (P : Result T Fault → Type 0) (result : Result T Fault) (fault : Fault) → IsErr result × IsErrAnd result (λ f. f ≡ fault) → P (Err fault) → P result
-passed T P (Ok value) fault is here = absurd is.1
-passed T P (Err e) fault is here = subst (λ (f : Fault). P (Err f)) (sym is.1) here
+use Rattle.std.proofs.Common.{◌≡◌, ℕ, ◌≤◌, List, length, take, sym, ap, subst, ◌∙◌, arith, Option, Some, None, option_map, is_some, Result, Ok, Err, IfOk}
+use Rattle.nb_fixup.proofs.Common.{take-take, length-take, size_of, File, Fault, Refused, Device, Memory, Refusal, Cause, IsPageOf, Tested}
 
 -- what is refused by a test
 pub refused : (T : Type 0) (cause : Cause) (fault : Fault) (r : Refusal) → fault ≡ Refused r → cause ≡ Some r → Tested {T = T} cause (Err fault)
@@ -24,19 +11,6 @@ pub tested_by : (S T : Type 0) (fault : Fault) (one two : Cause) → ((r : Refus
 tested_by S T (Refused r) one two as_well tested = as_well r tested
 tested_by S T Device one two as_well tested = tt
 tested_by S T Memory one two as_well tested = tested
-
--- a file that has a length is there, with so many bytes
-pub record IsLong (file : File) (long : ℕ) : Type 0 where
-  pub bytes : List ℕ
-  pub there : file ≡ Some bytes
-  pub same : length bytes ≡ long
-
-pub long_file : (file : File) (size : Option ℕ) (long : ℕ) → size ≡ option_map length file → size ≡ Some long → IsLong file long
-long_file (Some bytes) size long told is = record { bytes = bytes; there = refl; same = cc }
-long_file None size long told is = absurd (none_some (sym told ∙ is))
-  where
-    none_some : option_map (length {A = ℕ}) None ≡ Some long → ⊥
-    none_some e = cc
 
 pub some_length : (file : File) (size : Option ℕ) → size ≡ option_map length file → is_some size ≡ is_some file
 some_length None size told = ap is_some told

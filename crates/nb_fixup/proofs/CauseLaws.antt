@@ -1,34 +1,13 @@
 -- Why a copy isn't fixed, test by test.
-use Rattle.std.proofs.Common.{◌≡◌, ◌≢◌, inl, inr, ℕ, ◌*◌, ◌/◌, ◌%◌, ◌<◌, ◌≤◌, List, [], ◌∷◌, length, take, refl, sym, ap, ◌∙◌, arith, div-add-mod'}
-use Rattle.std.specs.Prelude.{Bool, true, false, not, ◌||◌, ◌==◌, nat_lt, IsTrue, Some, None, is_some, min}
-use Rattle.std.proofs.Math.Nat.{div-eq_of_lt}
+use Rattle.std.proofs.Common.{◌≡◌, ◌≢◌, inl, inr, ℕ, ◌*◌, ◌/◌, ◌%◌, ◌<◌, ◌≤◌, List, [], ◌∷◌, length, take, refl, sym, ap, ◌∙◌, arith, div-add-mod', Bool, true, false, not, ◌||◌, ◌==◌, nat_lt, IsTrue, Some, None, is_some, min}
+use Rattle.nb_fixup.proofs.Common.{div-eq_of_lt, take-take, length-take, is_header, state_of, size_of, is_page_size, most_pages, size_facts, File, Refusal, NoFile, NotDatabase, WrongState, DeltaPresent, Cause, first_cause, when, not_database, not_fixable, delta_name, no_cause, same-header, same-number, copy_cause, file_cause, unheaded, or_right}
 use Rattle.std.proofs.lemmas.Bool.Decides.{eqb_tells}
-use Rattle.std.proofs.lemmas.List.{take-take, length-take}
-use Rattle.nb_fields.specs.Header.{is_header, state_of, size_of}
-use Rattle.nb_fields.specs.Places.{is_page_size, most_pages}
 use Rattle.nb_fields.proofs.HeaderLaws.{is_header-short}
-use Rattle.nb_fields.proofs.SizeLaws.{size_facts}
 use Rattle.nb_fields.specs.States.{stalled_state}
-use Rattle.nb_host.specs.Files.{File}
-use Rattle.nb_host.specs.declared.refusals.Refusal.{Refusal}
-use Rattle.nb_host.specs.declared.refusals.Refusal.TheVariants.{NoFile, NotDatabase, WrongState, DeltaPresent}
 use Rattle.nb_page.specs.Header.{header_in}
 use Rattle.nb_page.specs.declared.header.Header.{Header}
-use Rattle.nb_model.specs.Causes.{Cause, first_cause, when, not_database}
-use Rattle.nb_model.specs.Jobs.{not_fixable}
-use Rattle.nb_model.specs.Owner.{delta_name}
-use Rattle.nb_model.proofs.FormLaws.{no_cause}
-use Rattle.nb_model.proofs.HeaderLaws.{same-header, same-number}
 use Rattle.nb_model.proofs.ReadLaws.{lt_yes, eq_no}
-use Rattle.nb_fixup.specs.Tests.{copy_cause, file_cause}
-
-some_none : (r : Refusal) → Some r ≡ None → ⊥
-some_none r e = cc
-
--- a file without a header
-pub unheaded : (bytes : List ℕ) → is_header bytes ≡ false → not_database bytes ≡ Some (NotDatabase 0)
-unfolding not_database
-unheaded bytes e = rw (e, not_database) refl
+use Rattle.nb_host.proofs.PlainLaws.{some_none}
 
 -- the tests of the length after a header
 abbrev tests : (a b : Bool) (pages : ℕ) → Cause
@@ -66,11 +45,7 @@ module _ (bytes : List ℕ) (len size : ℕ) (header : is_header bytes ≡ true)
   parted h = headed ∙ by_first _ _ pages (ap (λ (t : Bool). not t || nat_lt pages 5) (eq_no (len % size) 0 h))
 
   pub too_few : pages < 5 → not_database bytes ≡ Some (NotDatabase (min pages most_pages))
-  too_few h = headed ∙ by_first _ _ pages (last (len % size == 0) (lt_yes pages 5 h))
-    where
-      last : (t : Bool) {b : Bool} → b ≡ true → (not t || b) ≡ true
-      last true e = e
-      last false e = refl
+  too_few h = headed ∙ by_first _ _ pages (or_right (not (len % size == 0)) _ (lt_yes pages 5 h))
 
   pub too_many : most_pages < pages → not_database bytes ≡ Some (NotDatabase (min pages most_pages))
   too_many h = headed ∙ by_second _ _ pages (lt_yes most_pages pages h) h

@@ -1,13 +1,7 @@
 -- What a fixup changes and leaves.
-use Rattle.std.proofs.Common.{◌≡◌, inl, inr, ⊎_elim, ℕ, ◌*◌, List, length, take, sym, refl, ap, subst, ◌∙◌}
-use Rattle.std.specs.Prelude.{Some, None, Result, Ok, Err}
-use Rattle.nb_fields.specs.Header.{size_of}
-use Rattle.nb_host.specs.Files.{File, Files, with_page}
+use Rattle.std.proofs.Common.{◌≡◌, inl, inr, ⊎_elim, ℕ, ◌*◌, List, length, take, sym, refl, ap, subst, ◌∙◌, Some, None, Result, Ok, Err}
+use Rattle.nb_fixup.proofs.Common.{size_of, File, Files, with_page, Leaves, LeavesAll, PageLeft, Fault, Refused, Device, Memory, NoFile, not_database, Page, image_in, not_fixable, HoldsMain, delta_name, fixed, owner_main, normal_page, fixup_cause, fixed_bytes, IsFixable, IsFixed, FixLeft, FixAnswers, Fixes, Tested, some_none}
 use Rattle.nb_host.specs.World.{World}
-use Rattle.nb_host.specs.Crash.{Leaves, LeavesAll, PageLeft}
-use Rattle.nb_host.specs.declared.faults.Fault.{Fault}
-use Rattle.nb_host.specs.declared.faults.Fault.TheVariants.{Refused, Device, Memory}
-use Rattle.nb_host.specs.declared.refusals.Refusal.TheVariants.{NoFile}
 use Rattle.nb_change.specs.Changes.{Changes, Only, NoNames, Remade}
 use Rattle.nb_change.specs.Gave.{GaveNothing}
 use Rattle.nb_change.proofs.ChangesLaws.{rested, kept_then}
@@ -15,17 +9,7 @@ use Rattle.nb_change.proofs.GaveLaws.{nothing_joined}
 use Rattle.nb_change.proofs.MomentLaws.{left_before}
 use Rattle.nb_change.proofs.SettledLaws.{durable_is}
 use Rattle.nb_page.specs.Quiet.{Quiet}
-use Rattle.nb_model.specs.Causes.{not_database}
-use Rattle.nb_model.specs.Image.{Page, image_in}
-use Rattle.nb_model.specs.Jobs.{not_fixable}
-use Rattle.nb_model.specs.Main.{HoldsMain}
-use Rattle.nb_model.specs.Owner.{delta_name}
-use Rattle.nb_model.specs.Strokes.{fixed}
-use Rattle.nb_model.proofs.MainLaws.{owner_main}
 use Rattle.nb_restore.specs.Target.{IsKept, ReadsOr}
-use Rattle.nb_restore.proofs.FinishLaws.{normal_page}
-use Rattle.nb_fixup.specs.Fixup.{fixup_cause, fixed_bytes, IsFixable, IsFixed, FixLeft, FixAnswers, Fixes}
-use Rattle.nb_fixup.specs.Tests.{Tested}
 use Rattle.nb_fixup.proofs.CauseLaws.{IsFit, fit_is, not_there}
 use Rattle.nb_fixup.proofs.ImageLaws.{first_put, fixed_holds, first_left}
 
@@ -38,10 +22,7 @@ pub copy_there : (files : Files) (name : List ℕ) → fixup_cause files name �
 copy_there files name fit = by (files name) refl
   where
     by : (file : File) → files name ≡ file → (bytes : List ℕ) × IsFixable files name bytes
-    by None is = absurd (none_there (sym (not_there name (files (delta_name name))) ∙ ap (λ (f : File). not_fixable name f (files (delta_name name))) (sym is) ∙ fit))
-      where
-        none_there : Some (NoFile name) ≡ None → ⊥
-        none_there e = cc
+    by None is = absurd (some_none (NoFile name) (sym (not_there name (files (delta_name name))) ∙ ap (λ (f : File). not_fixable name f (files (delta_name name))) (sym is) ∙ fit))
     by (Some bytes) is = (bytes, record { there = is; fit = fit })
 
 -- nothing was changed, whatever the device did

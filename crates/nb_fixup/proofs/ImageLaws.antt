@@ -1,26 +1,12 @@
 -- The fixed file: page 0 over page 0, which makes it the database of its image in the normal state.
-use Rattle.std.proofs.Common.{◌≡◌, ◌⊎◌, inl, inr, ℕ, ◌+◌, ◌-◌, ◌*◌, ◌<◌, ◌≤◌, List, [], ◌∷◌, ◌++◌, length, take, drop, refl, sym, ap, subst, ◌∙◌, arith, append_assoc, mul-le-mul_right}
-use Rattle.std.specs.Prelude.{Some, None}
-use Rattle.std.proofs.lemmas.List.{take-take, drop-take, drop-drop, take-append-drop, take_at, length-take-le}
+use Rattle.std.proofs.Common.{◌≡◌, ◌⊎◌, inl, inr, ℕ, ◌+◌, ◌-◌, ◌*◌, ◌<◌, ◌≤◌, List, [], ◌∷◌, ◌++◌, length, take, drop, refl, sym, ap, subst, ◌∙◌, arith, append_assoc, mul-le-mul_right, Some, None}
+use Rattle.nb_fixup.proofs.Common.{take-take, drop-take, drop-drop, take-append-drop, take_at, length-take-le, size_of, size_facts, File, put_at, padded, with_page, PageLeft, not_database, Page, Image, first_page, image_size, image_in, trimmed, HoldsMain, fixed, Formed, formed, same-number, IsLaid, laid, laid-front, some_page, normal_page, two, written_whole, fixed_bytes}
 use Rattle.nb_fields.specs.Bytes.{bytes_of, with_part}
-use Rattle.nb_fields.specs.Header.{size_of}
 use Rattle.nb_fields.proofs.PartLaws.{length-with_part}
-use Rattle.nb_fields.proofs.SizeLaws.{size_facts}
-use Rattle.nb_host.specs.Files.{File, put_at, padded, with_page}
-use Rattle.nb_host.specs.Crash.{PageLeft}
-use Rattle.nb_model.specs.Causes.{not_database}
-use Rattle.nb_model.specs.Image.{Page, Image, first_page, image_size, image_in, trimmed}
 use Rattle.nb_model.specs.Levels.{joined}
-use Rattle.nb_model.specs.Main.{HoldsMain}
-use Rattle.nb_model.specs.Strokes.{fixed}
-use Rattle.nb_model.proofs.FormLaws.{Formed, formed}
-use Rattle.nb_model.proofs.HeaderLaws.{same-number}
 use Rattle.nb_model.proofs.ImageLaws.{trimmed-append_zeros}
-use Rattle.nb_model.proofs.MainLaws.{IsLaid, laid, laid-front, some_page}
 use Rattle.nb_restore.specs.Copied.{Holds}
-use Rattle.nb_restore.proofs.FinishLaws.{normal_page, two, written_whole}
 use Rattle.nb_restore.proofs.HeadLaws.{HasHead}
-use Rattle.nb_fixup.specs.Fixup.{fixed_bytes}
 
 -- a part of the first page is written into the page, and the page into the file
 part_put : (size at : ℕ) (part bytes : List ℕ) → at + length part ≤ size → size ≤ length bytes → put_at bytes 0 (with_part at part (take size bytes)) ≡ with_part at part bytes
@@ -44,10 +30,7 @@ part_put size at part bytes fits long =
 
 -- an image and pages of zeros after it, with page 0 in the normal state over its page 0
 laid_fixed : (image : Image) (bytes : List ℕ) (page : Page) → (l : IsLaid image bytes) → page ≡ normal_page (take (image_size image) bytes) → HoldsMain (fixed image) (with_page (Some bytes) (0 * length page) page)
-laid_fixed [] bytes page l e = absurd (none (some_page [] l.header))
-  where
-    none : 1 ≤ 0 → ⊥
-    none k = omega arith
+laid_fixed [] bytes page l e = absurd (let few : 1 ≤ 0 = some_page [] l.header in omega (arith, few))
 laid_fixed (p ∷ ps) bytes page l e =
     let size : ℕ = image_size (p ∷ ps) in
     let pages : List Page = p ∷ (ps ++ l.rest) in

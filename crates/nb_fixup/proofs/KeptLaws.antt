@@ -1,17 +1,11 @@
 -- A copy of a kept backup has the image that its begin kept.
 use Rattle.std.proofs.Common.{◌≡◌, ℕ, ◌%◌, List, length, refl, ap, ◌∙◌, false}
-use Rattle.std.proofs.Math.Nat.{mul-mod_left}
-use Rattle.nb_fields.specs.Header.{size_of, guid_of}
-use Rattle.nb_host.specs.Files.{Files}
+use Rattle.nb_fixup.proofs.Common.{mul-mod_left, size_of, guid_of, Files, image_in, delta_name, Formed, formed, IsFixable}
 use Rattle.nb_host.specs.Names.{is_delta}
 use Rattle.nb_model.specs.Account.{Kept, Account}
-use Rattle.nb_model.specs.Image.{image_in}
-use Rattle.nb_model.specs.Owner.{delta_name}
 use Rattle.nb_model.specs.Sound.{IsSoundImage}
 use Rattle.nb_model.specs.Stands.{to_record, IsBegun, IsCopyOf, IsKeptAs, Stands}
-use Rattle.nb_model.proofs.FormLaws.{Formed, formed}
 use Rattle.nb_model.proofs.OpenedLaws.{copy_image}
-use Rattle.nb_fixup.specs.Fixup.{IsFixable}
 use Rattle.nb_fixup.proofs.CauseLaws.{IsFit}
 use Rattle.nb_fixup.proofs.FixupLaws.{fixable_fit}
 

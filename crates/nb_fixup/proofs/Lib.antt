@@ -4,3 +4,4 @@ pub mod ImageLaws
 pub mod FixupLaws
 pub mod KeptLaws
 pub mod StateLaws
+mod Common

@@ -1,8 +1,6 @@
 -- A copy that its state doesn't refuse may be fixed where no difference file stands beside.
-use Rattle.std.proofs.Common.{◌≡◌, ◌≢◌, ℕ, List, refl}
-use Rattle.std.specs.Prelude.{Some, None}
-use Rattle.nb_model.specs.Jobs.{not_fixable}
-use Rattle.nb_cases.specs.Events.{IsFileIn, OnFixup}
+use Rattle.std.proofs.Common.{◌≡◌, ◌≢◌, ℕ, List, refl, Some, None}
+use Rattle.nb_fixup.proofs.Common.{not_fixable, IsFileIn, OnFixup}
 use Rattle.nb_cases.specs.declared.events.Case.{Case}
 use Rattle.nb_cases.specs.declared.events.Case.TheVariants.{NoCall, Go, WrongState, Unfinished, Main, Delta, BothOrMain, GoWithDelta, GoWithoutDelta, GoOrUnfinished}
 

@@ -1,40 +1,14 @@
 -- A fold is a level file, and a chain that ends with it is accepted exactly where one is that ends with the files it was made of.
-use Rattle.std.proofs.Common.{◌≡◌, ◌≢◌, inl, inr, ℕ, ◌+◌, ◌^◌, ◌<◌, ◌≤◌, List, [], ◌∷◌, ◌++◌, length, refl, sym, ap, subst, ◌∙◌, arith}
-use Rattle.std.specs.Prelude.{Bool, true, false, ◌&&◌, ◌==◌, Option, Some, None, Result, Ok, Err}
-use Rattle.std.specs.List.{AllByRecursion}
-use Rattle.std.proofs.lemmas.Bool.{and_parts, eqb-true}
-use Rattle.std.proofs.lemmas.Bool.Decides.{eqb_tells}
-use Rattle.nb_fields.specs.Header.{is_header, state_of, size_of, scn_of, guid_of}
-use Rattle.nb_fields.specs.Places.{most_pages}
-use Rattle.nb_fields.specs.States.{stalled_state}
-use Rattle.nb_host.specs.Files.{File, Files}
+use Rattle.std.proofs.Common.{◌≡◌, ◌≢◌, inl, inr, ℕ, ◌+◌, ◌^◌, ◌<◌, ◌≤◌, List, [], ◌∷◌, ◌++◌, length, refl, sym, ap, subst, ◌∙◌, arith, true, ◌&&◌, ◌==◌, Option, Some, None, Result, Ok, Err}
+use Rattle.nb_fold.proofs.Common.{AllByRecursion, and_parts, eqb-true, eqb_tells, is_header, state_of, size_of, scn_of, guid_of, most_pages, stalled_state, File, Files, Refusal, NoFile, ChainLevel, Cause, Image, Page, Numbered, AreOfSize, AreRising, Contents, Head, begins_level, is_first_page, level_bytes, read_level, Link, applied, first_link, level_link, linked, next_link, next_links, not_behind, verdict, header-room, eq_yes, GoesBehind, goes_behind, bytes_for, folded, folded_head, folded_pages, last_head, last_page, or_before, page_of, pages_of_each, AllOfSize, GiveTheSame, Gives, IsFoldOf, links_of, chained, files_after, HasPages, level_pages, some_none, some_same, ok_same, err_not_ok, none_and_some}
 use Rattle.nb_host.specs.Names.{same_name}
-use Rattle.nb_host.specs.declared.refusals.Refusal.{Refusal}
-use Rattle.nb_host.specs.declared.refusals.Refusal.TheVariants.{NoFile, ChainLevel}
-use Rattle.nb_model.specs.Causes.{Cause, first_cause}
-use Rattle.nb_model.specs.Image.{Image, Page, Numbered}
-use Rattle.nb_model.specs.Levels.{AreOfSize, AreRising, Contents, Head, begins_level, is_first_page, level_bytes, read_level}
-use Rattle.nb_model.specs.Restoring.{Link, applied, first_link, level_link, linked, next_link, next_links, not_behind, verdict}
-use Rattle.nb_model.proofs.ChainLaws.{when_not}
-use Rattle.nb_model.proofs.HeaderLaws.{header-room}
+use Rattle.nb_model.proofs.ChainLaws.{when_not, accepts, four_none, none_left}
 use Rattle.nb_model.proofs.LevelLaws.{level_read}
-use Rattle.nb_model.proofs.ReadLaws.{eq_yes}
-use Rattle.nb_model.proofs.RunLaws.{same_self}
-use Rattle.nb_model.proofs.StandsLaws.{not_level}
-use Rattle.nb_restore.proofs.AnswerLaws.{err_ok, ok_same, some_same}
-use Rattle.nb_restore.proofs.KeptChains.{verdict_first}
-use Rattle.nb_restore.proofs.ChainLaws.{GoesBehind, goes_behind}
-use Rattle.nb_fold.specs.Folding.{bytes_for, folded, folded_head, folded_pages, last_head, last_page, or_before, page_of, pages_of_each}
-use Rattle.nb_fold.specs.Merging.{AllOfSize}
-use Rattle.nb_fold.specs.Same.{GiveTheSame, Gives, IsFoldOf, links_of}
-use Rattle.nb_fold.specs.Verdict.{chained, files_after}
+use Rattle.nb_restore.proofs.KeptChains.{verdict_first, level_begins, level_refused}
 use Rattle.nb_fold.proofs.FoldedLaws.{folded_rises, folded_sizes, none_below}
 use Rattle.nb_model.proofs.LevelWalk.{FirstIsZero}
-use Rattle.nb_level.proofs.PagesLaws.{HasPages, level_pages}
 use Rattle.nb_fold.proofs.SameLaws.{AreNextFiles, AreOf, files_rise, folded_page, goes_after, next_files, no_files, same_image, sizes_alike}
-
-some_none : {X : Type 0} (x : X) → Some x ≡ None → ⊥
-some_none x e = cc
+use Rattle.nb_host.proofs.NameLaws.{same_self}
 
 -- ---- what each file holds
 
@@ -177,10 +151,6 @@ fold_read files name names cs e =
 
 -- ---- what goes on from a link
 
-four_none : (a b c d : Cause) → a ≡ None → b ≡ None → c ≡ None → d ≡ None → first_cause (a ∷ b ∷ c ∷ d ∷ []) ≡ None
-unfolding first_cause
-four_none a b c d ea eb ec ed = rw (ea, first_cause) (rw (eb, first_cause) (rw (ec, first_cause) (rw (ed, first_cause) refl)))
-
 is_behind : (k : ℕ) (last : Link) (name : List ℕ) (c : Contents) → GoesBehind k last c.head → not_behind k last name c ≡ None
 unfolding not_behind
 is_behind k last name c goes =
@@ -188,21 +158,6 @@ is_behind k last name c goes =
     (when_not _ _ (eq_yes _ _ goes.previous_scn))
 
 -- ---- a file of a chain
-
-level_begins : (bytes : List ℕ) (c : Contents) → read_level bytes ≡ Ok c → begins_level bytes ≡ true
-level_begins bytes c read = by (begins_level bytes) refl
-  where
-    by : (b : Bool) → begins_level bytes ≡ b → begins_level bytes ≡ true
-    by true is = is
-    by false is = absurd (err_ok 0 c (read_level bytes) (not_level bytes is) read)
-
-accepts : (k : ℕ) (last : Link) (name bytes : List ℕ) (c : Contents) → begins_level bytes ≡ true → read_level bytes ≡ Ok c → not_behind k last name c ≡ None → next_link k last name bytes ≡ Ok (level_link c)
-unfolding next_link
-accepts k last name bytes c begin read behind = rw (begin, next_link) (rw (read, next_link) (rw (behind, next_link) refl))
-
-refuses : (k : ℕ) (last : Link) (name bytes : List ℕ) (c : Contents) (r : Refusal) → begins_level bytes ≡ true → read_level bytes ≡ Ok c → not_behind k last name c ≡ Some r → next_link k last name bytes ≡ Err r
-unfolding next_link
-refuses k last name bytes c r begin read behind = rw (begin, next_link) (rw (read, next_link) (rw (behind, next_link) refl))
 
 module _ (files : Files) (k : ℕ) (last : Link) (name : List ℕ) (names : List (List ℕ)) where
   next_there : (bytes : List ℕ) (l : Link) → files name ≡ Some bytes → next_link k last name bytes ≡ Ok l → next_links files k last (name ∷ names) ≡ linked l (next_links files (k + 1) l names)
@@ -229,10 +184,6 @@ module _ (files : Files) (name : List ℕ) (names : List (List ℕ)) where
   first_missing : files name ≡ None → verdict files (name ∷ names) ≡ Err (NoFile name)
   unfolding verdict
   first_missing none = rw (none, verdict) refl
-
-none_left : (files : Files) (k : ℕ) (last : Link) → next_links files k last [] ≡ Ok []
-unfolding next_links
-none_left files k last = refl
 
 -- files that go on from one another are a chain's
 chain_links : (files : Files) (k : ℕ) (c : Contents) (names : List (List ℕ)) (cs : List Contents) → c.head.level + 1 ≡ k → files_after files (Some c) names ≡ Ok cs → next_links files k (level_link c) names ≡ Ok (links_of cs)
@@ -308,10 +259,10 @@ module _ (files : Files) (name : List ℕ) (names : List (List ℕ)) (out : List
           ∙ ap (linked (level_link (folded cs))) (none_left files (k + 1) (level_link (folded cs)))
 
       many_stop : (r : Refusal) → not_behind k last name are.first ≡ Some r → next_links files k last (name ∷ names) ≡ Err r
-      many_stop r is = next_broken files k last name names are.next.bytes r are.next.there (refuses k last name are.next.bytes are.first r many_begin are.next.read is)
+      many_stop r is = next_broken files k last name names are.next.bytes r are.next.there (level_refused k last name are.next.bytes are.first r many_begin are.next.read is)
 
       one_stops : (r : Refusal) → not_behind k last out (folded cs) ≡ Some r → next_links files k last (out ∷ []) ≡ Err r
-      one_stops r is = next_broken files k last out [] (bytes_for (folded cs)) r fold.there (refuses k last out (bytes_for (folded cs)) (folded cs) r one_begins read is)
+      one_stops r is = next_broken files k last out [] (bytes_for (folded cs)) r fold.there (level_refused k last out (bytes_for (folded cs)) (folded cs) r one_begins read is)
 
       one_if_many : not_behind k last name are.first ≡ None → not_behind k last out (folded cs) ≡ None
       one_if_many none =
@@ -324,13 +275,10 @@ module _ (files : Files) (name : List ℕ) (names : List (List ℕ)) (out : List
           is_behind k last name are.first
           (record { level = sym same_level ∙ goes.level; previous = sym same_previous ∙ goes.previous; size = sym same_size ∙ goes.size; previous_scn = sym same_scn ∙ goes.previous_scn })
 
-      both : (x : Cause) (r : Refusal) → x ≡ None → x ≡ Some r → ⊥
-      both x r e f = cc
-
       by : (a b : Cause) → not_behind k last name are.first ≡ a → not_behind k last out (folded cs) ≡ b → Alike cs (next_links files k last (name ∷ names)) (next_links files k last (out ∷ []))
       by None None e f = alike_are cs _ _ (Ok (links_of cs)) (Ok (level_link (folded cs) ∷ [])) (many_go e) (one_goes f) ([], refl, refl)
-      by None (Some r) e f = absurd (both (not_behind k last out (folded cs)) r (one_if_many e) f)
-      by (Some r) None e f = absurd (both (not_behind k last name are.first) r (many_if_one f) e)
+      by None (Some r) e f = absurd (none_and_some (not_behind k last out (folded cs)) r (one_if_many e) f)
+      by (Some r) None e f = absurd (none_and_some (not_behind k last name are.first) r (many_if_one f) e)
       by (Some r) (Some q) e f = alike_are cs _ _ (Err r) (Err q) (many_stop r e) (one_stops q f) tt
 
   links_alike : (before : List (List ℕ)) (k : ℕ) (last : Link) → Alike cs (next_links files k last (before ++ name ∷ names)) (next_links files k last (before ++ out ∷ []))
@@ -383,10 +331,10 @@ module _ (files : Files) (name : List ℕ) (names : List (List ℕ)) (out : List
       to_one (Ok ls) (Ok ms) e f is image gives =
           record { links = ms; accepted = f; image_is = sym (same ls ms is) ∙ ap applied (ok_same ls gives.links (verdict files many) e gives.accepted) ∙ gives.image_is }
       to_one (Ok ls) (Err r) e f is image gives = absurd is
-      to_one (Err r) y e f is image gives = absurd (err_ok r gives.links (verdict files many) e gives.accepted)
+      to_one (Err r) y e f is image gives = absurd (err_not_ok r gives.links (verdict files many) e gives.accepted)
 
       to_many : (x y : Result (List Link) Refusal) → verdict files many ≡ x → verdict files one ≡ y → Alike cs x y → (image : Image) → Gives files one image → Gives files many image
       to_many (Ok ls) (Ok ms) e f is image gives =
           record { links = ls; accepted = e; image_is = same ls ms is ∙ ap applied (ok_same ms gives.links (verdict files one) f gives.accepted) ∙ gives.image_is }
       to_many (Err r) (Ok ms) e f is image gives = absurd is
-      to_many x (Err r) e f is image gives = absurd (err_ok r gives.links (verdict files one) f gives.accepted)
+      to_many x (Err r) e f is image gives = absurd (err_not_ok r gives.links (verdict files one) f gives.accepted)

@@ -1,24 +1,9 @@
 -- A file that is added after others that go on from one another.
-use Rattle.std.proofs.Common.{◌≡◌, ℕ, suc, ◌+◌, ◌-◌, ◌<◌, ◌≤◌, List, [], ◌∷◌, ◌++◌, length, get_or, drop, refl, sym, ap, subst, ◌∙◌, arith, append_assoc, drop-cons}
-use Rattle.std.specs.Prelude.{Some, None, Option, Result, Ok, Err, false, ◌==◌}
-use Rattle.std.proofs.lemmas.Bool.{true≢false}
-use Rattle.std.proofs.lemmas.List.{append-nil, drop_all}
-use Rattle.nb_host.specs.Files.{File, Files}
-use Rattle.nb_host.specs.declared.faults.Fault.{Fault}
-use Rattle.nb_host.specs.declared.faults.Fault.TheVariants.{Refused, Device, Memory}
-use Rattle.nb_host.specs.declared.refusals.Refusal.{Refusal}
-use Rattle.nb_model.specs.Causes.{Cause}
-use Rattle.nb_model.specs.Levels.{Contents, read_level}
-use Rattle.nb_model.specs.Restoring.{level_link, not_behind}
-use Rattle.nb_level.specs.Heads.{head_of}
-use Rattle.nb_level.specs.declared.head.LevelHead.{LevelHead}
-use Rattle.nb_chain.specs.First.{Tested}
+use Rattle.std.proofs.Common.{◌≡◌, ℕ, suc, ◌+◌, ◌-◌, ◌<◌, ◌≤◌, List, [], ◌∷◌, ◌++◌, length, get_or, drop, refl, sym, ap, subst, ◌∙◌, arith, append_assoc, Some, None, Option, Result, Ok, Err, false, ◌==◌}
+use Rattle.nb_fold.proofs.Common.{true≢false, append-nil, drop_all, File, Files, Fault, Refused, Device, Memory, Refusal, Cause, Contents, read_level, level_link, not_behind, head_of, LevelHead, Tested, AddSays, AreAlike, AreChained, IsAdded, IsLast, open_reads, first_size, Held, IsGiven, IsOpened, AreOpened, AreOfPages, chained, file_after, files_after, not_after, with_files}
 use Rattle.nb_chain.specs.Level.{WholeSays, LevelRefused, IsWhole}
 use Rattle.nb_chain.specs.Next.{tip_link}
 use Rattle.nb_chain.specs.declared.tip.Tip.{Tip}
-use Rattle.nb_fold.specs.Checking.{AddSays, AreAlike, AreChained, IsAdded, IsLast, open_reads, first_size}
-use Rattle.nb_fold.specs.Sources.{Held, IsGiven, IsOpened, AreOpened, AreOfPages}
-use Rattle.nb_fold.specs.Verdict.{chained, file_after, files_after, not_after, with_files}
 
 -- the last of some files
 pub last_there : (ss : List Held) (s : Held) (last : Option Contents) → 0 < length ss → s ≡ get_or ss (length ss - 1) s → IsLast ss last → (c : Contents) × (last ≡ Some c) × (head_of s.reader.head ≡ c.head)
@@ -183,10 +168,6 @@ module _ (files : Files) (all left : List (List ℕ)) (name : List ℕ) (old : L
     opened = subst (λ (ss : List Held). AreOpened files (so_far.done ++ name ∷ []) ss (so_far.contents ++ is.contents ∷ [])) (sym is.added) (opened_more files so_far.done old so_far.contents name is.source is.contents so_far.opened is.opened);
     reads = omega (arith, so_far.reads, is.reads, reads_more so_far.contents is.contents);
   }
-
--- the next of those that are left
-pub left_there : (names : List (List ℕ)) (k : ℕ) (name : List ℕ) → k < length names → name ≡ get_or names k name → drop k names ≡ name ∷ drop (k + 1) names
-left_there names k name h is = drop-cons names k name h ∙ ap (λ y. y ∷ drop (suc k) names) (sym is) ∙ ap (λ (n : ℕ). name ∷ drop n names) (let e : suc k ≡ k + 1 = omega arith in e)
 
 pub opened_all : (files : Files) (all : List (List ℕ)) (k : ℕ) (sources : List Held) (before after : ℕ) → length all ≤ k → SoFarOpened files all (drop k all) sources before after → AreChained files all before after sources
 unfolding files_after

@@ -1,40 +1,13 @@
 -- What a fold is known by before its file is made, and what it leaves.
-use Rattle.std.proofs.Common.{◌≡◌, ◌≢◌, inl, inr, ⊎_elim, ℕ, suc, ◌+◌, ◌-◌, ◌*◌, ◌<◌, ◌≤◌, List, [], ◌∷◌, length, get_or, refl, sym, ap, subst, ◌∙◌, arith}
-use Rattle.std.specs.Prelude.{true, false, Some, None, Option, Result, Ok, Err}
-use Rattle.std.specs.List.{AllByRecursion}
-use Rattle.std.proofs.lemmas.Bool.{and_parts}
+use Rattle.std.proofs.Common.{◌≡◌, ◌≢◌, inl, inr, ⊎_elim, ℕ, suc, ◌+◌, ◌-◌, ◌*◌, ◌<◌, ◌≤◌, List, [], ◌∷◌, length, get_or, refl, sym, ap, subst, ◌∙◌, arith, true, false, Some, None, Option, Result, Ok, Err}
+use Rattle.nb_fold.proofs.Common.{AllByRecursion, and_parts, is_page_size, most_pages, File, Files, World, Leaves, LeavesAll, Fault, Refused, Device, Memory, Refusal, FileExists, Only, NoNames, Remade, GaveNothing, rested, kept_then, nothing_joined, Quiet, LevelHead, head_of, Head, Contents, AreOfSize, level_bytes, LevelWriting, IsKept, IsUnfinishedOr, AreChained, open_reads, FoldAnswers, FoldLeft, Folds, fold_reads, bytes_for, first_head, folded, folded_head, last_head, pages_of_each, AllOfSize, AllRise, AreApart, MakesOr, pages_left, Held, AllWait, AreOfPages, AreOpened, IsOpened, IsTaken, due, due_by, chained, fold_verdict, HasPages, level_pages, err_not_ok}
 use Rattle.nb_fields.specs.Free.{is_free_file}
-use Rattle.nb_fields.specs.Places.{is_page_size, most_pages}
-use Rattle.nb_host.specs.Files.{File, Files}
-use Rattle.nb_host.specs.World.{World}
-use Rattle.nb_host.specs.Crash.{Leaves, LeavesAll}
-use Rattle.nb_host.specs.declared.faults.Fault.{Fault}
-use Rattle.nb_host.specs.declared.faults.Fault.TheVariants.{Refused, Device, Memory}
-use Rattle.nb_host.specs.declared.refusals.Refusal.{Refusal}
-use Rattle.nb_host.specs.declared.refusals.Refusal.TheVariants.{FileExists}
-use Rattle.nb_change.specs.Changes.{Only, NoNames, Remade}
-use Rattle.nb_change.specs.Gave.{GaveNothing}
-use Rattle.nb_change.proofs.ChangesLaws.{rested, kept_then}
-use Rattle.nb_change.proofs.GaveLaws.{nothing_joined}
 use Rattle.nb_change.proofs.MomentLaws.{left_before}
 use Rattle.nb_page.specs.Free.{is_free_name}
-use Rattle.nb_page.specs.Quiet.{Quiet}
-use Rattle.nb_level.specs.declared.head.LevelHead.{LevelHead}
-use Rattle.nb_level.specs.Heads.{head_of}
-use Rattle.nb_model.specs.Levels.{Head, Contents, AreOfSize, level_bytes}
 use Rattle.nb_model.proofs.FreeLaws.{free_no_level}
-use Rattle.nb_gather.specs.Gathering.{LevelWriting}
-use Rattle.nb_gather.specs.Making.{IsKept, IsUnfinishedOr}
 use Rattle.nb_fold.specs.declared.folded.Folded.{Folded}
-use Rattle.nb_fold.specs.Checking.{AreChained, open_reads}
-use Rattle.nb_fold.specs.Fold.{FoldAnswers, FoldLeft, Folds, fold_reads}
-use Rattle.nb_fold.specs.Folding.{bytes_for, first_head, folded, folded_head, last_head, pages_of_each}
-use Rattle.nb_fold.specs.Merging.{AllOfSize, AllRise, AreApart, MakesOr, pages_left}
 use Rattle.nb_fold.specs.Prepared.{IsPrepared}
-use Rattle.nb_fold.specs.Sources.{Held, AllWait, AreOfPages, AreOpened, IsOpened, IsTaken, due, due_by}
-use Rattle.nb_fold.specs.Verdict.{chained, fold_verdict}
 use Rattle.nb_fold.proofs.FoldedLaws.{folded_rises, folded_sizes}
-use Rattle.nb_level.proofs.PagesLaws.{HasPages, level_pages}
 
 -- the verdict, by the name
 pub verdict_taken : (files : Files) (out : List ℕ) (names : List (List ℕ)) → is_free_name files out ≡ false → fold_verdict files out names ≡ Err (FileExists out)
@@ -191,9 +164,6 @@ not_prepared old new out names fault quiet refused = record {
     by Device r = tt
     by Memory r = quiet
 
-err_ok : (x : Result (List Contents) Refusal) (r : Refusal) (cs : List Contents) → x ≡ Err r → x ≡ Ok cs → ⊥
-err_ok x r cs e f = cc
-
 module _ (old mid new : World) (out : List ℕ) (names : List (List ℕ)) (ss : List Held) (file : LevelWriting) (quiet : Quiet old mid) (plan : IsPrepared old mid out names ss file) where
   abbrev whole : List ℕ
   whole = level_bytes 102 (head_of file.head) (folded plan.files).pages
@@ -212,7 +182,7 @@ module _ (old mid new : World) (out : List ℕ) (names : List (List ℕ)) (ss : 
         (λ files. ⊎_elim (λ was. inl (left_before old mid _ quiet.still.left out (files out) tt was)) (λ made. inr (plan.files, plan.accepted, part (files out) made)));
     reads = ⊎_elim (λ same. inl (same ∙ ap (λ (f : Files). f out) quiet.still.files)) (λ made. inr (plan.files, plan.accepted, part (new.files out) made)) makes.reads;
     gave = nothing_joined old mid new (record { guids = quiet.guids; times = quiet.times }) gave;
-    refused = λ refusal is. absurd (err_ok (fold_verdict old.files out names) refusal plan.files is plan.accepted);
+    refused = λ refusal is. absurd (err_not_ok refusal plan.files (fold_verdict old.files out names) is plan.accepted);
   }
 
   pub fold_fails : (fault : Fault) → IsTaken {T = Unit {0}} (Err fault) (λ done. Unit {0}) → MakesOr mid new out (IsUnfinishedOr whole) → GaveNothing mid new → Folds (Err fault) old new out names

@@ -1,20 +1,7 @@
 -- The pages of files side by side: how they go on by the least number, that they rise, and their sizes.
-use Rattle.std.proofs.Common.{◌≡◌, ◌≢◌, inl, inr, ℕ, zero, suc, ◌+◌, ◌-◌, ◌<◌, ◌≤◌, List, [], ◌∷◌, ◌++◌, length, refl, sym, ap, subst, ◌∙◌, arith}
-use Rattle.std.specs.Prelude.{true, false, ◌==◌, Option, Some, None}
-use Rattle.std.specs.List.{AllByRecursion}
-use Rattle.std.proofs.lemmas.Bool.Decides.{eqb_tells}
-use Rattle.nb_fields.specs.Places.{most_pages}
-use Rattle.nb_model.specs.Image.{Page, Numbered}
-use Rattle.nb_model.specs.Levels.{AreRising, AreOfSize}
-use Rattle.nb_model.proofs.ReadLaws.{eq_no}
-use Rattle.nb_fold.specs.Merging.{AllRise, AllOfSize, pages_left}
-use Rattle.nb_fold.specs.Sources.{Held, Waits, AllWait, WaitsBy, IsLeast, AreAtEnd, waiting_page, waits_at, count_at, counts_at, rest_after, rests}
-use Rattle.nb_host.specs.Files.{Files, bytes_of}
-use Rattle.nb_fold.specs.Folding.{page_of, or_before, last_page, with_number, folded_from, folded_pages}
-
-pub lower : (few many : ℕ) (rs : List Numbered) → few ≤ many → AreRising many rs → AreRising few rs
-lower few many [] low rise = tt
-lower few many (r ∷ rs) low rise = (omega (arith, low, rise.0), rise.1, rise.2)
+use Rattle.std.proofs.Common.{◌≡◌, ◌≢◌, inl, inr, ℕ, zero, suc, ◌+◌, ◌-◌, ◌<◌, ◌≤◌, List, [], ◌∷◌, ◌++◌, length, refl, sym, ap, subst, ◌∙◌, arith, true, false, ◌==◌, Option, Some, None}
+use Rattle.nb_fold.proofs.Common.{AllByRecursion, eqb_tells, most_pages, Page, Numbered, AreRising, AreOfSize, eq_no, AllRise, AllOfSize, pages_left, Held, Waits, AllWait, WaitsBy, IsLeast, AreAtEnd, waiting_page, waits_at, count_at, counts_at, rest_after, rests, Files, bytes_of, page_of, or_before, last_page, with_number, folded_from, folded_pages}
+use Rattle.nb_model.proofs.SpelledLaws.{rise_lower}
 
 -- no page below the first
 pub none_below : (n least : ℕ) (rs : List Numbered) → AreRising least rs → n < least → page_of n rs ≡ None
@@ -33,11 +20,11 @@ rest_other n m (r ∷ rs) other = elim (eqb_tells r.0 n) [
   | inr w ↦ rw (w.0, rest_after) refl
 ]
 
--- where no lower one comes first the rest rises from the next number on
+-- where no rise_lower one comes first the rest rises from the next number on
 pub rest_next : (n : ℕ) (rs : List Numbered) → AreRising n rs → AreRising (n + 1) (rest_after n rs)
 rest_next n [] rise = tt
 rest_next n (r ∷ rs) rise = elim (eqb_tells r.0 n) [
-  | inl w ↦ rw (w.0, rest_after) (lower (n + 1) (r.0 + 1) rs (omega (arith, w.1)) rise.2)
+  | inl w ↦ rw (w.0, rest_after) (rise_lower (n + 1) (r.0 + 1) rs (omega (arith, w.1)) rise.2)
   | inr w ↦ let other = w.1 in rw (w.0, rest_after) (above r.0 n rise.0 other, rise.1, rise.2)
 ]
   where
@@ -111,7 +98,7 @@ folded_least n page rss low rise is =
 
     all_lower : (qss : List (List Numbered)) → AllRise (n + 1) qss → AllRise n qss
     all_lower [] r = tt
-    all_lower (qs ∷ qss) r = (lower n (n + 1) qs (omega arith) r.0, all_lower qss r.1)
+    all_lower (qs ∷ qss) r = (rise_lower n (n + 1) qs (omega arith) r.0, all_lower qss r.1)
 
 -- no file has a page more
 pub folded_ends : (rss : List (List Numbered)) → AllByRecursion (λ (rs : List Numbered). rs ≡ []) rss → folded_pages rss ≡ []
@@ -124,7 +111,7 @@ folded_ends rss none = folded_none most_pages 0 rss (λ m low high. nothing m rs
 -- Folded pages rise.
 number_rises : (n : ℕ) (o : Option Page) (rs : List Numbered) → n < most_pages → AreRising (n + 1) rs → AreRising n (with_number n o rs)
 number_rises n (Some page) rs low rise = (omega arith, low, rise)
-number_rises n None rs low rise = lower n (n + 1) rs (omega arith) rise
+number_rises n None rs low rise = rise_lower n (n + 1) rs (omega arith) rise
 
 pub folded_rises : (left k : ℕ) (rss : List (List Numbered)) → k + left ≤ most_pages → AreRising k (folded_from left k rss)
 unfolding folded_from

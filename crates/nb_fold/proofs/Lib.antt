@@ -8,3 +8,4 @@ pub mod FoldLaws
 pub mod SameLaws
 pub mod AcceptLaws
 pub mod MergedLaws
+mod Common

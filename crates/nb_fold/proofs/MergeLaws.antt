@@ -1,31 +1,12 @@
 -- A page more of the files is folded.
-use Rattle.std.proofs.Common.{◌≡◌, ◌≢◌, ◌⊎◌, inl, inr, ⊎_elim, ℕ, ◌+◌, ◌<◌, ◌≤◌, List, [], ◌∷◌, ◌++◌, refl, sym, ap, subst, ◌∙◌, arith, append_assoc}
-use Rattle.std.specs.Prelude.{Bool, IsTrue, Some, None, Option, Result, Ok, Err, true, false}
-use Rattle.std.proofs.lemmas.List.{append-nil}
-use Rattle.nb_fields.specs.Places.{most_pages}
-use Rattle.nb_host.specs.Files.{File, Files, bytes_of}
-use Rattle.nb_host.specs.World.{World}
-use Rattle.nb_host.specs.Crash.{Leaves, LeavesAll}
+use Rattle.std.proofs.Common.{◌≡◌, ◌≢◌, ◌⊎◌, inl, inr, ⊎_elim, ℕ, ◌+◌, ◌<◌, ◌≤◌, List, [], ◌∷◌, ◌++◌, refl, sym, ap, subst, ◌∙◌, arith, append_assoc, Bool, IsTrue, Some, None, Option, Result, Ok, Err, true, false}
+use Rattle.nb_fold.proofs.Common.{append-nil, most_pages, File, Files, bytes_of, World, Leaves, LeavesAll, Only, NoNames, Remade, rested, kept_on, Quiet, LevelHead, head_of, Page, Numbered, level_bytes, LevelWriting, HasTaken, MayHave, IsUnfinished, IsUnfinishedOr, remade_twice, or_before, folded_pages, AllRise, AreApart, HasFolded, IsFolding, IsReady, Makes, MakesOr, Held, AllWait, AreAtEnd, IsLeast, WaitsBy, count_at, counts_at, rests, waiting_page, waits_at, with_file-named, taken_quiet, unfinished_empty, none_some}
 use Rattle.nb_host.specs.Moments.{IsTimely, Passes}
 use Rattle.nb_host.specs.Calls.{Remakes}
-use Rattle.nb_change.specs.Changes.{Only, NoNames, Remade}
-use Rattle.nb_change.proofs.ChangesLaws.{rested, kept_on}
 use Rattle.nb_change.proofs.MovedLaws.{remade_begun, remade_weaker}
 use Rattle.nb_change.proofs.CallLaws.{remade_alone}
-use Rattle.nb_page.specs.Quiet.{Quiet}
-use Rattle.nb_level.specs.declared.head.LevelHead.{LevelHead}
-use Rattle.nb_level.specs.Heads.{head_of}
-use Rattle.nb_model.specs.Image.{Page, Numbered}
-use Rattle.nb_model.specs.Levels.{level_bytes}
-use Rattle.nb_gather.specs.Gathering.{LevelWriting, HasTaken, MayHave}
-use Rattle.nb_gather.specs.Making.{IsUnfinished, IsUnfinishedOr}
 use Rattle.nb_gather.proofs.CloseLaws.{still_unfinished}
 use Rattle.nb_gather.proofs.FitLaws.{may_front}
-use Rattle.nb_gather.proofs.QuietLaws.{named, remade_twice}
-use Rattle.nb_gather.proofs.BlankLaws.{blank_empty, blank_free}
-use Rattle.nb_fold.specs.Folding.{or_before, folded_pages}
-use Rattle.nb_fold.specs.Merging.{AllRise, AreApart, HasFolded, IsFolding, IsReady, Makes, MakesOr}
-use Rattle.nb_fold.specs.Sources.{Held, AllWait, AreAtEnd, IsLeast, WaitsBy, count_at, counts_at, rests, waiting_page, waits_at}
 use Rattle.nb_fold.proofs.FoldedLaws.{all_end, all_from, folded_ends, folded_least, left_after, page_is, rests_next}
 
 -- Nothing was made yet, and what reads is unfinished.
@@ -46,14 +27,6 @@ makes_quiet old mid new name made makes quiet = record {
 pub makes_then : (old mid new : World) (name : List ℕ) (made : File → Type 0) → Leaves mid name (mid.files name) → Makes old mid name made → Makes mid new name made → Makes old new name made
 makes_then old mid new name made was first second = record { left = remade_twice old mid new name made was first.left second.left; reads = second.reads }
 
--- what was taken stays
-pub taken_quiet : (old new : World) (file : LevelWriting) (rs : List Numbered) → Quiet old new → HasTaken old file rs → HasTaken new file rs
-taken_quiet old new file rs quiet has = record {
-  stands = record { reads = ap (λ (f : Files). f file.name) quiet.still.files ∙ has.stands.reads; torn = λ c now. has.stands.torn c (quiet.still.left.now file.name c tt now) };
-  waits = has.waits;
-  counted = has.counted;
-}
-
 -- the other files read as they did
 all_wait : (old new : Files) (name : List ℕ) (ss : List Held) (rss : List (List Numbered)) → ((m : List ℕ) → m ≢ name → new m ≡ old m) → AreApart name ss → AllWait old ss rss → AllWait new ss rss
 all_wait old new name [] [] others apart waits = tt
@@ -64,19 +37,13 @@ all_wait old new name (s ∷ ss) (rs ∷ rss) others apart waits =
 
 -- a page waits
 counted : (n : ℕ) (page : Page) (ss : List Held) → waiting_page n ss ≡ Some page → 1 ≤ counts_at n ss
-counted n page [] is = absurd (no is)
-  where
-    no : None ≡ Some page → ⊥
-    no e = cc
+counted n page [] is = absurd (none_some page is)
 counted n page (s ∷ ss) is = by (λ p there. counted n p ss there) (waiting_page n ss) refl (waits_at n s.waiting) refl
   where
-    no : None ≡ Some page → ⊥
-    no e = cc
-
     by : ((p : Page) → waiting_page n ss ≡ Some p → 1 ≤ counts_at n ss) → (rest : Option Page) → waiting_page n ss ≡ rest → (here : Bool) → waits_at n s.waiting ≡ here → 1 ≤ counts_at n (s ∷ ss)
     by later (Some p) rest here at = let more = later p rest in omega (arith, more)
     by later None rest true at = rw (at, count_at) (omega arith)
-    by later None rest false at = absurd (no (sym (ap (λ o. or_before o (elim (waits_at n s.waiting) as (λ b. Option Page) [ true ↦ Some s.page | false ↦ None ])) rest ∙ ap (λ b. elim b as (λ x. Option Page) [ true ↦ Some s.page | false ↦ None ]) at) ∙ is))
+    by later None rest false at = absurd (none_some page (sym (ap (λ o. or_before o (elim (waits_at n s.waiting) as (λ b. Option Page) [ true ↦ Some s.page | false ↦ None ])) rest ∙ ap (λ b. elim b as (λ x. Option Page) [ true ↦ Some s.page | false ↦ None ]) at) ∙ is))
 
 pub falls_by : (n : ℕ) (page : Page) (ss : List Held) (new old : ℕ) → waiting_page n ss ≡ Some page → new + counts_at n ss ≤ old → new + 1 ≤ old
 falls_by n page ss new old is few = let some = counted n page ss is in omega (arith, some, few)
@@ -125,9 +92,6 @@ module _ (w : World) (file : LevelWriting) (sources : List Held) (whole : List N
       }
 
 -- The file is made, also where that fails.
-unfinished_empty : IsUnfinished (Some [])
-unfinished_empty = inl (blank_free (Some []) blank_empty)
-
 pub made_first : {T E : Type 0} (tells : Bool) (result : Result T E) (old new : World) (name : List ℕ) → IsTrue tells → IsTimely old → Remakes tells result old new name (Some []) → new.said ≡ old.said → Passes old new → MakesOr old new name IsUnfinished
 made_first tells result old new name told timely makes silent time = record {
   left = remade_alone tells result old new name (Some []) IsUnfinished told timely makes silent time unfinished_empty;
@@ -135,17 +99,14 @@ made_first tells result old new name told timely makes silent time = record {
 }
   where
     by : {T E : Type 0} (r : Result T E) → Remakes tells r old new name (Some []) → (new.files name ≡ old.files name) ⊎ IsUnfinished (new.files name)
-    by (Ok value) m = inr (subst IsUnfinished (sym (named old.files new.files name (Some []) (m.files told))) unfinished_empty)
-    by (Err e) m = ⊎_elim (λ same. inl (ap (λ (f : Files). f name) same)) (λ made. inr (subst IsUnfinished (sym (named old.files new.files name (Some []) made)) unfinished_empty)) (m.files told)
+    by (Ok value) m = inr (subst IsUnfinished (sym (with_file-named old.files new.files name (Some []) (m.files told))) unfinished_empty)
+    by (Err e) m = ⊎_elim (λ same. inl (ap (λ (f : Files). f name) same)) (λ made. inr (subst IsUnfinished (sym (with_file-named old.files new.files name (Some []) made)) unfinished_empty)) (m.files told)
 
 pub makes_or : (old mid new : World) (name : List ℕ) (made : File → Type 0) → Leaves mid name (mid.files name) → MakesOr old mid name made → Makes mid new name made → MakesOr old new name made
 makes_or old mid new name made was first second = record { left = remade_twice old mid new name made was first.left second.left; reads = inr second.reads }
 
 pub makes_weaker : (old new : World) (name : List ℕ) (made all : File → Type 0) → ((c : File) → made c → all c) → MakesOr old new name made → MakesOr old new name all
 makes_weaker old new name made all by makes = record { left = remade_weaker old new (Only name) name made all makes.left by; reads = ⊎_elim inl (λ is. inr (by _ is)) makes.reads }
-
-pub some_more : (old new : World) (name : List ℕ) (made all : File → Type 0) → ((c : File) → made c → all c) → Makes old new name made → Makes old new name all
-some_more old new name made all by makes = record { left = remade_weaker old new (Only name) name made all makes.left by; reads = by _ makes.reads }
 
 -- Its head stands there, and no page was folded.
 pub folding_begun : (old mid : World) (file : LevelWriting) (sources : List Held) (whole : List Numbered) (most : ℕ) → IsReady old file sources whole most → HasTaken mid file [] → mid.reads ≡ old.reads → ((m : List ℕ) → m ≢ file.name → mid.files m ≡ old.files m) → IsFolding mid file sources whole most

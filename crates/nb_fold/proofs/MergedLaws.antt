@@ -1,29 +1,13 @@
 -- Files that are merged into a standby one after the other, and their fold.
-use Rattle.std.proofs.Common.{◌≡◌, ℕ, zero, suc, ◌≤◌, List, [], ◌∷◌, length, replicate, refl, sym, ap, subst, ◌∙◌, arith}
-use Rattle.std.specs.Prelude.{true, ◌==◌, Option, Ok}
-use Rattle.std.proofs.lemmas.Bool.{and_parts, eqb-true, true≢false}
+use Rattle.std.proofs.Common.{◌≡◌, ℕ, zero, suc, ◌≤◌, List, [], ◌∷◌, length, replicate, refl, sym, ap, subst, ◌∙◌, arith, true, ◌==◌, Option, Ok}
+use Rattle.nb_fold.proofs.Common.{and_parts, eqb-true, true≢false, is_header, state_of, size_of, stalled_state, Files, Page, Image, Numbered, image_size, overwritten, trimmed, AreOfSize, Contents, Head, is_first_page, main_page, header-other, main_here, main_past, main_tail, trimmed_alike, trimmed_page, written-sizes, folded, last_page, pages_of_each, AllRise, IsMergedInto, merged_each, chained, HasPages}
 use Rattle.nb_fields.specs.Bytes.{is_zeros}
-use Rattle.nb_fields.specs.Header.{is_header, state_of, size_of}
 use Rattle.nb_fields.proofs.SizeLaws.{size_facts}
-use Rattle.nb_fields.specs.States.{stalled_state}
-use Rattle.nb_host.specs.Files.{Files}
-use Rattle.nb_model.specs.Image.{Page, Image, Numbered, image_size, overwritten, trimmed}
-use Rattle.nb_model.specs.Levels.{AreOfSize, Contents, Head, is_first_page}
-use Rattle.nb_model.specs.Owner.{main_page}
 use Rattle.nb_model.specs.Sound.{IsOfSize}
 use Rattle.nb_model.specs.Strokes.{as_standby, merged, standby_page}
-use Rattle.nb_model.proofs.HeaderLaws.{header-other}
 use Rattle.nb_model.proofs.ImageLaws.{Trimming, all-left, trimming, zeros-are}
-use Rattle.nb_model.proofs.OwnerLaws.{main_here, main_past}
-use Rattle.nb_model.proofs.TrimLaws.{main_tail, trimmed_alike, trimmed_page}
-use Rattle.nb_restore.proofs.CopiedLaws.{written-sizes}
 use Rattle.nb_inplace.proofs.ControlLaws.{standby-long, standby-size}
-use Rattle.nb_fold.specs.Folding.{folded, last_page, pages_of_each}
-use Rattle.nb_fold.specs.Merging.{AllRise}
-use Rattle.nb_fold.specs.Same.{IsMergedInto, merged_each}
-use Rattle.nb_fold.specs.Verdict.{chained}
 use Rattle.nb_fold.proofs.AcceptLaws.{AllHave, files_have, last_zero, zero_there}
-use Rattle.nb_level.proofs.PagesLaws.{HasPages}
 use Rattle.nb_fold.proofs.SameLaws.{AreOf, files_rise, folded_over, next_files, over_each, page_each, page_over, seen, sizes_alike}
 
 -- page 0 alone is another

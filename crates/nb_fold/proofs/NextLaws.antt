@@ -1,10 +1,6 @@
 -- Which page comes next.
-use Rattle.std.proofs.Common.{◌≡◌, ℕ, ◌<◌, ◌≤◌, List, [], ◌∷◌, refl, sym, ap, ◌∙◌, arith}
-use Rattle.std.specs.Prelude.{Bool, true, false, Option, Some, None}
-use Rattle.nb_model.specs.Image.{Page}
-use Rattle.nb_model.proofs.ReadLaws.{eq_no, eq_yes}
-use Rattle.nb_fold.specs.Folding.{or_before}
-use Rattle.nb_fold.specs.Sources.{Held, AreAtEnd, IsLeast, waiting_page, waits_at}
+use Rattle.std.proofs.Common.{◌≡◌, ℕ, ◌<◌, ◌≤◌, List, [], ◌∷◌, refl, sym, ap, ◌∙◌, arith, Bool, true, false, Option, Some, None}
+use Rattle.nb_fold.proofs.Common.{Page, eq_no, eq_yes, or_before, Held, AreAtEnd, IsLeast, waiting_page, waits_at, none_some, some_same}
 
 -- a page, where it is the one
 abbrev page_if : Bool → Page → Option Page
@@ -18,10 +14,7 @@ apart n s (Some m) is low = ap (λ w. page_if (waits_at n w) s.page) is ∙ ap (
 none_ends : (n : ℕ) (ss : List Held) → AreAtEnd ss → waiting_page n ss ≡ None
 none_ends n [] ends = refl
 none_ends n (s ∷ ss) ends =
-    ap (λ o. or_before o (page_if (waits_at n s.waiting) s.page)) (none_ends n ss ends.1) ∙ apart n s None ends.0 (λ m is. absurd (no m (sym ends.0 ∙ is)))
-  where
-    no : (m : ℕ) → None ≡ Some m → ⊥
-    no m e = cc
+    ap (λ o. or_before o (page_if (waits_at n s.waiting) s.page)) (none_ends n ss ends.1) ∙ apart n s None ends.0 (λ m is. absurd (none_some m (sym ends.0 ∙ is)))
 
 none_lower : (n m : ℕ) (ss : List Held) → n < m → IsLeast m ss → waiting_page n ss ≡ None
 none_lower n m [] low least = refl
@@ -33,16 +26,10 @@ first_is n s is = ap (λ w. page_if (waits_at n w) s.page) is ∙ ap (λ b. page
 
 first_least : (n : ℕ) (s : Held) → s.waiting ≡ Some n → (m : ℕ) → s.waiting ≡ Some m → n ≤ m
 first_least n s is m same = let e = some_same n m (sym is ∙ same) in omega (arith, e)
-  where
-    some_same : (a b : ℕ) → Some a ≡ Some b → a ≡ b
-    some_same a b e = cc
 
 least_ends : (n : ℕ) (ss : List Held) → AreAtEnd ss → IsLeast n ss
 least_ends n [] ends = tt
-least_ends n (s ∷ ss) ends = (λ m is. absurd (no m (sym ends.0 ∙ is)), least_ends n ss ends.1)
-  where
-    no : (m : ℕ) → None ≡ Some m → ⊥
-    no m e = cc
+least_ends n (s ∷ ss) ends = (λ m is. absurd (none_some m (sym ends.0 ∙ is)), least_ends n ss ends.1)
 
 least_lower : (n m : ℕ) (ss : List Held) → n < m → IsLeast m ss → IsLeast n ss
 least_lower n m [] low least = tt

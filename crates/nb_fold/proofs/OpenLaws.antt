@@ -1,25 +1,9 @@
 -- A level file is read to its end, and then again.
-use Rattle.std.proofs.Common.{◌≡◌, ℕ, List, sym, ap, subst, ◌∙◌}
-use Rattle.std.specs.Prelude.{Bool, IsTrue, Some, None, Result, Ok, Err, IsErr, IsErrAnd}
-use Rattle.nb_host.specs.Files.{File, Files, bytes_of}
-use Rattle.nb_host.specs.declared.faults.Fault.{Fault}
-use Rattle.nb_host.specs.declared.faults.Fault.TheVariants.{Refused, Device, Memory}
-use Rattle.nb_host.specs.declared.refusals.Refusal.TheVariants.{BadLevel, NoFile}
-use Rattle.nb_model.specs.Levels.{Contents, read_level, with_head}
+use Rattle.std.proofs.Common.{◌≡◌, ℕ, List, sym, ap, subst, ◌∙◌, Bool, IsTrue, Some, Result, Ok, Err, IsErr, IsErrAnd}
+use Rattle.nb_fold.proofs.Common.{File, Files, bytes_of, Fault, Refused, Device, Memory, BadLevel, NoFile, Contents, read_level, with_head, head_of, Held, IsGiven, IsTaken, IsOpened, Waits, some_same, err_not_ok, none_and_some}
 use Rattle.nb_level.specs.Answers.{StartSays}
-use Rattle.nb_level.specs.Heads.{head_of}
 use Rattle.nb_level.specs.Reading.{Reading, still_to_come}
 use Rattle.nb_level.proofs.ToldLaws.{with_head-is}
-use Rattle.nb_fold.specs.Sources.{Held, IsGiven, IsTaken, IsOpened, Waits}
-
-some_same : (a b : List ℕ) → Some a ≡ Some b → a ≡ b
-some_same a b e = cc
-
-none_some : (a : List ℕ) (f : File) → f ≡ None → f ≡ Some a → ⊥
-none_some a f e g = cc
-
-err_ok : (x : Result Contents ℕ) (at : ℕ) (c : Contents) → x ≡ Err at → x ≡ Ok c → ⊥
-err_ok x at c e f = cc
 
 module _ (tells : Bool) (told : IsTrue tells) (file : File) (name bytes : List ℕ) (c : Contents) (there : file ≡ Some bytes) (read : read_level bytes ≡ Ok c) where
   pub begun : (reader : Reading) → StartSays tells file name (Ok reader) → (reader.name ≡ name) × (head_of reader.head ≡ c.head) × (still_to_come bytes reader ≡ Ok c.pages)
@@ -32,8 +16,8 @@ module _ (tells : Bool) (told : IsTrue tells) (file : File) (name bytes : List �
   pub not_begun : {T : Type 0} (P : T → Type 0) (fault : Fault) → StartSays tells file name (Err fault) → IsGiven (Err fault) P
   not_begun P (Refused (BadLevel broken at)) says =
       let is = says.1 told in
-      absurd (err_ok (read_level bytes) at c (ap read_level (sym (some_same is.0 bytes (sym is.1 ∙ there))) ∙ is.2) read)
-  not_begun P (Refused (NoFile missing)) says = absurd (none_some bytes file (says.1 told) there)
+      absurd (err_not_ok at c (read_level bytes) (ap read_level (sym (some_same is.0 bytes (sym is.1 ∙ there))) ∙ is.2) read)
+  not_begun P (Refused (NoFile missing)) says = absurd (none_and_some file bytes (says.1 told) there)
   not_begun P (Refused other) says = says
   not_begun P Device says = tt
   not_begun P Memory says = tt

@@ -1,13 +1,6 @@
 -- The files are read on where the page of a number waits, one after another.
-use Rattle.std.proofs.Common.{◌≡◌, ℕ, zero, suc, ◌+◌, ◌<◌, ◌≤◌, List, [], ◌∷◌, ◌++◌, length, get_or, set, take, drop, sym, ap, subst, ◌∙◌, arith, drop-cons}
-use Rattle.std.proofs.lemmas.List.{take_more, drop-set-lt, drop-drop}
-use Rattle.std.specs.Prelude.{Err}
-use Rattle.nb_host.specs.Files.{Files}
-use Rattle.nb_host.specs.declared.faults.Fault.{Fault}
-use Rattle.nb_host.specs.declared.faults.Fault.TheVariants.{Refused, Device, Memory}
-use Rattle.nb_model.specs.Image.{Numbered}
-use Rattle.nb_fold.specs.Merging.{AreApart}
-use Rattle.nb_fold.specs.Sources.{Held, AllWait, AreOfPages, IsTaken, Waits, count_at, counts_at, due, due_by, rest_after, rests}
+use Rattle.std.proofs.Common.{◌≡◌, ℕ, zero, suc, ◌+◌, ◌<◌, ◌≤◌, List, [], ◌∷◌, ◌++◌, length, get_or, set, take, drop, sym, ap, subst, ◌∙◌, arith, drop-cons, Err}
+use Rattle.nb_fold.proofs.Common.{take_more, drop-set-lt, drop-drop, Files, Fault, Refused, Device, Memory, Numbered, AreApart, Held, AllWait, AreOfPages, IsTaken, Waits, count_at, counts_at, due, due_by, rest_after, rests, head_same}
 
 -- the rests of so many files, and the others as they were
 abbrev pub rests_upto : (i n : ℕ) → List (List Numbered) → List (List Numbered)
@@ -79,10 +72,7 @@ counts_front (suc k) n (s ∷ ss) = let rest = counts_front k n ss in omega (ari
 -- the files from that place on are as they were
 module _ (i n : ℕ) (old now : List Held) (s : Held) (same : drop i now ≡ drop i old) (long : length now ≡ length old) (low : i < length now) (is : s ≡ get_or now i s) where
   pub there_still : s ≡ get_or old i s
-  there_still = is ∙ first (get_or now i s) (get_or old i s) (drop (suc i) now) (drop (suc i) old) (sym (drop-cons now i s low) ∙ same ∙ drop-cons old i s (omega (arith, low, long)))
-    where
-      first : (a b : Held) (xs ys : List Held) → a ∷ xs ≡ b ∷ ys → a ≡ b
-      first a b xs ys e = cc
+  there_still = is ∙ head_same (get_or now i s) (get_or old i s) (drop (suc i) now) (drop (suc i) old) (sym (drop-cons now i s low) ∙ same ∙ drop-cons old i s (omega (arith, low, long)))
 
   pub behind_still : (later : Held) → drop (i + 1) (set now i later) ≡ drop (i + 1) old
   behind_still later =

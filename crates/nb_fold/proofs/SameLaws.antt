@@ -1,29 +1,8 @@
 -- Files that are written over an image one after the other, and all at once by their fold.
-use Rattle.std.proofs.Common.{◌≡◌, ◌≢◌, inl, inr, ℕ, zero, suc, ◌+◌, ◌<◌, ◌≤◌, List, [], ◌∷◌, ◌++◌, refl, sym, ap, subst, ◌∙◌, arith}
-use Rattle.std.specs.Prelude.{true, false, Option, Some, None, Result, Ok, Err}
-use Rattle.std.specs.List.{AllByRecursion}
-use Rattle.std.proofs.lemmas.Bool.Decides.{eqb_tells, leb_tells}
-use Rattle.nb_fields.specs.Places.{most_pages}
-use Rattle.nb_host.specs.Files.{File, Files}
-use Rattle.nb_host.specs.declared.refusals.Refusal.{Refusal}
-use Rattle.nb_host.specs.declared.refusals.Refusal.TheVariants.{NoFile, BadLevel}
-use Rattle.nb_model.specs.Causes.{Cause}
-use Rattle.nb_model.specs.Image.{Page, Image, Numbered, trimmed, written_at, overwritten}
-use Rattle.nb_model.specs.Levels.{Contents, Head, AreRising, read_level}
-use Rattle.nb_model.specs.Owner.{main_page}
-use Rattle.nb_model.specs.Restoring.{Link, all_over, applied, level_link}
-use Rattle.nb_model.proofs.OwnerLaws.{other_page}
-use Rattle.nb_model.proofs.ReadLaws.{eq_no}
-use Rattle.nb_model.proofs.TrimLaws.{trimmed_alike}
+use Rattle.std.proofs.Common.{◌≡◌, ◌≢◌, inl, inr, ℕ, zero, suc, ◌+◌, ◌<◌, ◌≤◌, List, [], ◌∷◌, ◌++◌, refl, sym, ap, subst, ◌∙◌, arith, true, false, Option, Some, None, Result, Ok, Err}
+use Rattle.nb_fold.proofs.Common.{AllByRecursion, eqb_tells, leb_tells, most_pages, File, Files, Refusal, NoFile, BadLevel, Cause, Page, Image, Numbered, trimmed, written_at, overwritten, Contents, Head, AreRising, read_level, main_page, Link, all_over, applied, level_link, other_page, eq_no, trimmed_alike, goes_behind, folded, folded_from, folded_pages, last_page, or_before, page_of, pages_of_each, with_number, AllRise, links_of, chained, file_after, files_after, not_after, with_files, level_pages, all_over-append, ok_same, err_not_ok}
 use Rattle.nb_inplace.proofs.PagesLaws.{written_page}
-use Rattle.nb_restore.proofs.AnswerLaws.{ok_same, err_ok}
-use Rattle.nb_restore.proofs.ChainLaws.{goes_behind}
-use Rattle.nb_fold.specs.Folding.{folded, folded_from, folded_pages, last_page, or_before, page_of, pages_of_each, with_number}
-use Rattle.nb_fold.specs.Merging.{AllRise}
-use Rattle.nb_fold.specs.Same.{links_of}
-use Rattle.nb_fold.specs.Verdict.{chained, file_after, files_after, not_after, with_files}
 use Rattle.nb_fold.proofs.FoldedLaws.{folded_rises, none_above, none_below}
-use Rattle.nb_level.proofs.PagesLaws.{level_pages}
 
 -- the page that is seen where one is written, or none
 abbrev pub seen : Option Page → (before : Page) → Page
@@ -97,12 +76,6 @@ folded_over size rss image rise =
     trimmed_alike size (over_each size rss image) (overwritten size (folded_pages rss) image)
     (λ p. page_each size rss image p rise ∙ ap (λ o. seen o (main_page size image p)) (sym (folded_page p rss rise)) ∙ sym (page_over size 0 (folded_pages rss) image p (folded_rises most_pages 0 rss (omega arith))))
 
--- the files of a chain
-all_over-append : (ls ms : List Link) (image : Image) → all_over (ls ++ ms) image ≡ all_over ms (all_over ls image)
-unfolding all_over
-all_over-append [] ms image = refl
-all_over-append (l ∷ ls) ms image = all_over-append ls ms (overwritten l.size l.pages image)
-
 -- files whose pages have that size
 abbrev pub AreOf : (size : ℕ) → List Contents → Type 0
 AreOf size = AllByRecursion (λ (c : Contents). c.head.size ≡ size)
@@ -143,14 +116,14 @@ unfolding file_after
 next_file files last name c e = by (files name) refl e
   where
     tested : (bytes : List ℕ) (d : Contents) → files name ≡ Some bytes → read_level bytes ≡ Ok d → (cause : Cause) → not_after last name d ≡ cause → elim cause as (λ x. Result Contents Refusal) [ Some refusal ↦ Err refusal | None ↦ Ok d ] ≡ Ok c → IsNextFile files last name c
-    tested bytes d there read (Some r) is h = absurd (err_ok r c (Err r) refl h)
+    tested bytes d there read (Some r) is h = absurd (err_not_ok r c (Err r) refl h)
     tested bytes d there read None is h =
         let same : d ≡ c = ok_same d c (Ok d) refl h in
         record { bytes = bytes; there = there; read = read ∙ ap Ok same; after = subst (λ (x : Contents). not_after last name x ≡ None) same is }
 
     whole : (bytes : List ℕ) → files name ≡ Some bytes → (r : Result Contents ℕ) → read_level bytes ≡ r
         → elim r as (λ x. Result Contents Refusal) [ Err at ↦ Err (BadLevel name at) | Ok d ↦ elim (not_after last name d) as (λ x. Result Contents Refusal) [ Some refusal ↦ Err refusal | None ↦ Ok d ] ] ≡ Ok c → IsNextFile files last name c
-    whole bytes there (Err at) is h = absurd (err_ok (BadLevel name at) c (Err (BadLevel name at)) refl h)
+    whole bytes there (Err at) is h = absurd (err_not_ok (BadLevel name at) c (Err (BadLevel name at)) refl h)
     whole bytes there (Ok d) is h = tested bytes d there is (not_after last name d) refl h
 
     by : (file : File) → files name ≡ file
@@ -158,7 +131,7 @@ next_file files last name c e = by (files name) refl e
           | None ↦ Err (NoFile name)
           | Some bytes ↦ elim (read_level bytes) as (λ x. Result Contents Refusal) [ Err at ↦ Err (BadLevel name at) | Ok d ↦ elim (not_after last name d) as (λ x. Result Contents Refusal) [ Some refusal ↦ Err refusal | None ↦ Ok d ] ]
         ] ≡ Ok c → IsNextFile files last name c
-    by None is h = absurd (err_ok (NoFile name) c (Err (NoFile name)) refl h)
+    by None is h = absurd (err_not_ok (NoFile name) c (Err (NoFile name)) refl h)
     by (Some bytes) is h = whole bytes is (read_level bytes) refl h
 
 -- and those after it
@@ -174,11 +147,11 @@ unfolding files_after
 next_files files last name names cs e = by (file_after files last name) refl e
   where
     behind : (c : Contents) → file_after files last name ≡ Ok c → (r : Result (List Contents) Refusal) → files_after files (Some c) names ≡ r → with_files (c ∷ []) r ≡ Ok cs → AreNextFiles files last name names cs
-    behind c is (Err x) more h = absurd (err_ok x cs (Err x) refl h)
+    behind c is (Err x) more h = absurd (err_not_ok x cs (Err x) refl h)
     behind c is (Ok rest) more h = record { first = c; next = next_file files last name c is; rest = rest; all = ok_same cs (c ∷ rest) (Ok (c ∷ rest)) h refl; more = more }
 
     by : (r : Result Contents Refusal) → file_after files last name ≡ r → elim r as (λ x. Result (List Contents) Refusal) [ Err refusal ↦ Err refusal | Ok c ↦ with_files (c ∷ []) (files_after files (Some c) names) ] ≡ Ok cs → AreNextFiles files last name names cs
-    by (Err x) is h = absurd (err_ok x cs (Err x) refl h)
+    by (Err x) is h = absurd (err_not_ok x cs (Err x) refl h)
     by (Ok c) is h = behind c is (files_after files (Some c) names) refl h
 
 pub no_files : (files : Files) (last : Option Contents) (cs : List Contents) → files_after files last [] ≡ Ok cs → cs ≡ []

@@ -1,22 +1,8 @@
 -- A level file goes on by a run that is appended.
-use Rattle.std.proofs.Common.{◌≡◌, ◌≢◌, ◌⊎◌, inl, inr, ⊎_elim, ℕ, ◌+◌, ◌<◌, List, [], ◌∷◌, ◌++◌, length, take, refl, sym, ap, subst, ◌∙◌, arith, length-append, append_assoc}
-use Rattle.std.specs.Prelude.{Some, Result, Ok, Err, MatchResult}
-use Rattle.std.proofs.lemmas.List.{append-nil}
+use Rattle.std.proofs.Common.{◌≡◌, ◌≢◌, ◌⊎◌, inl, inr, ⊎_elim, ℕ, ◌+◌, ◌<◌, List, [], ◌∷◌, ◌++◌, length, take, refl, sym, ap, subst, ◌∙◌, arith, length-append, append_assoc, Some, Result, Ok, Err, MatchResult}
+use Rattle.nb_gather.proofs.Common.{append-nil, File, Files, with_file, with_bytes, World, AppendLeft, IsTimely, Changes, ChangedLeft, Only, Remade, started, goes_on, with_file-same, with_file-other, LevelHead, head_of, TwoLeft, IsWhileAdding, AddsTwo, Stretch, head_then, joined, run_bytes, total, IsUnfinished, Waiting, Holds, IsHeaded, Reads, IsTornFile, level_front}
 use Rattle.nb_fields.specs.Bytes.{bytes_of as number_bytes}
-use Rattle.nb_host.specs.Files.{File, Files, bytes_of, with_file, with_bytes}
-use Rattle.nb_host.specs.World.{World}
-use Rattle.nb_host.specs.Crash.{AppendLeft}
-use Rattle.nb_host.specs.Moments.{IsTimely}
-use Rattle.nb_change.specs.Changes.{Changes, ChangedLeft, Only, Remade}
-use Rattle.nb_change.proofs.MomentLaws.{started, goes_on}
-use Rattle.nb_change.proofs.NameLaws.{with_file-same, with_file-other}
-use Rattle.nb_level.specs.declared.head.LevelHead.{LevelHead}
-use Rattle.nb_level.specs.Heads.{head_of}
-use Rattle.nb_level.specs.Adding.{TwoLeft, IsWhileAdding, AddsTwo}
-use Rattle.nb_model.specs.Levels.{Stretch, head_then, joined, run_bytes}
-use Rattle.nb_model.proofs.GatherLaws.{total}
-use Rattle.nb_gather.specs.Making.{IsUnfinished}
-use Rattle.nb_gather.specs.Gathering.{Waiting, Holds, IsHeaded, Reads, IsTornFile, level_front}
+use Rattle.nb_host.specs.Files.{bytes_of}
 use Rattle.nb_gather.proofs.TornLaws.{torn_of, torn_is, torn_self, torn_front, torn_longer, torn_more}
 use Rattle.nb_gather.proofs.UnfinishedLaws.{AreFit}
 use Rattle.nb_gather.proofs.NoLevelLaws.{head_more, no_backup}

@@ -1,28 +1,8 @@
 -- A level file is closed: its last run, and the end after a sync.
-use Rattle.std.proofs.Common.{◌≡◌, ◌≢◌, inl, inr, ℕ, suc, ◌<◌, ◌≤◌, List, [], ◌∷◌, ◌++◌, length, refl, sym, ap, subst, ◌∙◌, arith}
-use Rattle.std.specs.Prelude.{Bool, IsTrue, Some, Result, Ok, Err, OnOk}
-use Rattle.std.proofs.lemmas.Bool.Decides.{leb_tells}
-use Rattle.std.proofs.lemmas.List.{append-nil}
+use Rattle.std.proofs.Common.{◌≡◌, ◌≢◌, inl, inr, ℕ, suc, ◌<◌, ◌≤◌, List, [], ◌∷◌, ◌++◌, length, refl, sym, ap, subst, ◌∙◌, arith, Bool, IsTrue, Some, Result, Ok, Err, OnOk}
+use Rattle.nb_gather.proofs.Common.{leb_tells, append-nil, stamp_of, File, Files, with_bytes, World, AppendLeft, IsDurable, AppendsBytes, Syncs, IsTimely, Passes, Changes, Only, Remade, bytes_others, remade_step, remade_weaker, with_file-same, LevelHead, head_of, AddsTwo, Page, Numbered, Stretch, body_bytes, run_bytes, runs_of, end_bytes, level_bytes, taken_from, total, LevelWriting, Holds, Reads, HasTaken, MayHave, complete, incomplete, level_front, IsUnfinished, IsUnfinishedOr}
 use Rattle.nb_fields.specs.Bytes.{bytes_of as number_bytes}
-use Rattle.nb_fields.specs.Page.{stamp_of}
-use Rattle.nb_page.specs.Head.{head_in}
-use Rattle.nb_host.specs.Files.{File, Files, bytes_of, with_bytes}
-use Rattle.nb_host.specs.World.{World}
-use Rattle.nb_host.specs.Crash.{AppendLeft, IsDurable}
-use Rattle.nb_host.specs.Calls.{AppendsBytes, Syncs}
-use Rattle.nb_host.specs.Moments.{IsTimely, Passes}
-use Rattle.nb_change.specs.Changes.{Changes, Only, Remade}
-use Rattle.nb_change.proofs.CallLaws.{bytes_others, remade_step}
-use Rattle.nb_change.proofs.MovedLaws.{remade_weaker}
-use Rattle.nb_change.proofs.NameLaws.{with_file-same}
-use Rattle.nb_level.specs.declared.head.LevelHead.{LevelHead}
-use Rattle.nb_level.specs.Heads.{head_of}
-use Rattle.nb_level.specs.Adding.{AddsTwo}
-use Rattle.nb_model.specs.Image.{Page, Numbered}
-use Rattle.nb_model.specs.Levels.{Stretch, body_bytes, run_bytes, runs_of, end_bytes, level_bytes, taken_from}
-use Rattle.nb_model.proofs.GatherLaws.{total}
-use Rattle.nb_gather.specs.Gathering.{LevelWriting, Holds, Reads, HasTaken, MayHave, complete, incomplete, level_front}
-use Rattle.nb_gather.specs.Making.{IsUnfinished, IsUnfinishedOr}
+use Rattle.nb_host.specs.Files.{bytes_of}
 use Rattle.nb_gather.proofs.AppendLaws.{appended, whole_torn, torn_unfinished, run_read, run_reads, run_left}
 use Rattle.nb_gather.proofs.FitLaws.{RunsFit, runs_fit, complete_all, total_runs}
 use Rattle.nb_gather.proofs.NoLevelLaws.{head_more, no_backup, end_torn}
@@ -157,8 +137,3 @@ module _ (name inner : List ℕ) (named : inner ≡ name) (head : LevelHead) (rs
 
     pub ended_reads : {E : Type 0} (x : Unit {0}) → AppendsBytes {E = E} tells (Ok x) there new inner (end_bytes written) → new.files inner ≡ Some (level_bytes 102 (head_of head) rs)
     ended_reads x appends = end_reads inner head rs may tells value old mid there new told stands_in syncs x written counted appends
-
--- the stamp of a page, as its head has it
-pub stamp_in : (page : Page) → (head_in page).scn ≡ stamp_of page
-unfolding head_in
-stamp_in page = refl

@@ -1,21 +1,9 @@
 -- The runs of pages that a level file may have are such as a level file may have.
-use Rattle.std.proofs.Common.{◌≡◌, ◌⊎◌, inl, inr, ℕ, suc, ◌+◌, ◌<◌, ◌≤◌, List, [], ◌∷◌, ◌++◌, length, refl, sym, ap, subst, arith, length-append}
-use Rattle.std.specs.Prelude.{true, ◌&&◌, ◌==◌, nat_lt}
-use Rattle.std.proofs.lemmas.Bool.{and_parts, eqb-true}
-use Rattle.std.proofs.lemmas.Bool.Decides.{leb_tells}
-use Rattle.nb_fields.specs.Places.{most_pages}
-use Rattle.nb_level.specs.declared.head.LevelHead.{LevelHead}
-use Rattle.nb_model.specs.Image.{Page, Numbered}
-use Rattle.nb_model.specs.Levels.{AreRising, AreOfSize, Stretch, runs_behind, runs_of}
-use Rattle.nb_model.proofs.GatherLaws.{total, gathered_total}
-use Rattle.nb_model.proofs.ImageLaws.{all-append}
-use Rattle.nb_gather.specs.Gathering.{MayHave, complete, incomplete}
-use Rattle.nb_gather.proofs.RunLaws.{tells, no_both, joins, parts}
+use Rattle.std.proofs.Common.{◌≡◌, ◌⊎◌, inl, inr, ℕ, ◌+◌, ◌<◌, ◌≤◌, List, [], ◌∷◌, ◌++◌, length, refl, sym, ap, subst, arith, length-append, true, ◌&&◌, ◌==◌, nat_lt}
+use Rattle.nb_gather.proofs.Common.{and_parts, eqb-true, most_pages, LevelHead, Page, Numbered, AreRising, AreOfSize, Stretch, runs_behind, runs_of, total, gathered_total, all-append, MayHave, complete, incomplete, lt_holds, true_or_false}
+use Rattle.nb_gather.proofs.RunLaws.{joins, parts}
 use Rattle.nb_gather.proofs.UnfinishedLaws.{IsFit, AreFit}
-
--- what the test of a next page tells
-pub lt_tells : (a b : ℕ) → nat_lt a b ≡ true → a < b
-lt_tells a b is = elim (leb_tells (suc a) b) [ inl w ↦ w.1 | inr w ↦ absurd (no_both (nat_lt a b) is w.0) ]
+use Rattle.nb_model.proofs.LevelLaws.{rising_few}
 
 fit_longer : (size first : ℕ) (ps : List Page) (p : Page) → IsFit size (record { first = first; pages = ps }) → length ps < 16 → first + length ps < most_pages → length p ≡ size → IsFit size (record { first = first; pages = ps ++ p ∷ [] })
 fit_longer size first ps p fit few low long = record {
@@ -31,13 +19,13 @@ fit_one size r low long = record { some = omega arith; few = omega arith; below 
 fit_behind : (size first : ℕ) (ps : List Page) (rs : List Numbered) → IsFit size (record { first = first; pages = ps }) → AreRising (first + length ps) rs → AreOfSize size rs → AreFit size (runs_behind first ps rs)
 unfolding runs_behind
 fit_behind size first ps [] fit rising sizes = (fit, tt)
-fit_behind size first ps (r ∷ rs) fit rising sizes = elim (tells (r.0 == first + length ps && nat_lt (length ps) 16)) [
+fit_behind size first ps (r ∷ rs) fit rising sizes = elim (true_or_false (r.0 == first + length ps && nat_lt (length ps) 16)) [
   | inl is ↦
       let both = and_parts (r.0 == first + length ps) (nat_lt (length ps) 16) is in
       let next : r.0 ≡ first + length ps = eqb-true r.0 (first + length ps) both.0 in
       let more : r.0 + 1 ≡ first + length (ps ++ r.1 ∷ []) = omega (arith, next, length-append ps (r.1 ∷ [])) in
       subst (AreFit size) (sym (joins first ps r rs is))
-      (fit_behind size first (ps ++ r.1 ∷ []) rs (fit_longer size first ps r.1 fit (lt_tells (length ps) 16 both.1) (omega (arith, next, rising.1)) sizes.0) (subst (λ n. AreRising n rs) more rising.2) sizes.1)
+      (fit_behind size first (ps ++ r.1 ∷ []) rs (fit_longer size first ps r.1 fit (lt_holds (length ps) 16 both.1) (omega (arith, next, rising.1)) sizes.0) (subst (λ n. AreRising n rs) more rising.2) sizes.1)
   | inr is ↦ subst (AreFit size) (sym (parts first ps r rs is)) (fit, fit_behind size r.0 (r.1 ∷ []) rs (fit_one size r rising.1 sizes.0) rising.2 sizes.1)
 ]
 
@@ -50,10 +38,6 @@ pub total_runs : (rs : List Numbered) → total (runs_of rs) ≡ length rs
 unfolding runs_of
 total_runs [] = refl
 total_runs (r ∷ rs) = let all = gathered_total r.0 (r.1 ∷ []) rs in omega (arith, all)
-
-rising_few : (least : ℕ) (rs : List Numbered) → least ≤ most_pages → AreRising least rs → least + length rs ≤ most_pages
-rising_few least [] low is = omega (arith, low)
-rising_few least (r ∷ rs) low is = let rest = rising_few (r.0 + 1) rs (omega (arith, is.1)) is.2 in omega (arith, is.0, rest)
 
 rising_front : (least : ℕ) (xs ys : List Numbered) → AreRising least (xs ++ ys) → AreRising least xs
 rising_front least [] ys is = tt
@@ -70,13 +54,13 @@ may_front head xs ys may = record { formed = may.formed; rising = rising_front 0
 complete_fit : (size : ℕ) (ss : List Stretch) → AreFit size ss → AreFit size (complete ss)
 unfolding complete
 complete_fit size [] fit = tt
-complete_fit size (s ∷ []) fit = elim (tells (nat_lt (length s.pages) 16)) [ inl is ↦ rw (is, complete) tt | inr is ↦ rw (is, complete) fit ]
+complete_fit size (s ∷ []) fit = elim (true_or_false (nat_lt (length s.pages) 16)) [ inl is ↦ rw (is, complete) tt | inr is ↦ rw (is, complete) fit ]
 complete_fit size (s ∷ t ∷ ss) fit = (fit.0, complete_fit size (t ∷ ss) fit.1)
 
 complete_fewer : (ss : List Stretch) → total (complete ss) ≤ total ss
 unfolding complete
 complete_fewer [] = omega arith
-complete_fewer (s ∷ []) = elim (tells (nat_lt (length s.pages) 16)) [ inl is ↦ rw (is, complete) (omega arith) | inr is ↦ rw (is, complete) (omega arith) ]
+complete_fewer (s ∷ []) = elim (true_or_false (nat_lt (length s.pages) 16)) [ inl is ↦ rw (is, complete) (omega arith) | inr is ↦ rw (is, complete) (omega arith) ]
 complete_fewer (s ∷ t ∷ ss) = let rest = complete_fewer (t ∷ ss) in omega (arith, rest)
 
 -- all that is known of the runs
@@ -101,12 +85,12 @@ runs_fit head rs may =
 pub shape : (size : ℕ) (ss : List Stretch) → AreFit size ss → (incomplete ss ≡ []) ⊎ ((w : Stretch) × (incomplete ss ≡ w ∷ []) × IsFit size w)
 unfolding incomplete
 shape size [] fit = inl refl
-shape size (s ∷ []) fit = elim (tells (nat_lt (length s.pages) 16)) [ inl is ↦ inr (s, rw (is, incomplete) refl, fit.0) | inr is ↦ inl (rw (is, incomplete) refl) ]
+shape size (s ∷ []) fit = elim (true_or_false (nat_lt (length s.pages) 16)) [ inl is ↦ inr (s, rw (is, incomplete) refl, fit.0) | inr is ↦ inl (rw (is, incomplete) refl) ]
 shape size (s ∷ t ∷ ss) fit = shape size (t ∷ ss) fit.1
 
 -- complete runs and the one that waits are all
 pub complete_all : (ss : List Stretch) → complete ss ++ incomplete ss ≡ ss
 unfolding complete incomplete
 complete_all [] = refl
-complete_all (s ∷ []) = elim (tells (nat_lt (length s.pages) 16)) [ inl is ↦ rw (is, complete, incomplete) refl | inr is ↦ rw (is, complete, incomplete) refl ]
+complete_all (s ∷ []) = elim (true_or_false (nat_lt (length s.pages) 16)) [ inl is ↦ rw (is, complete, incomplete) refl | inr is ↦ rw (is, complete, incomplete) refl ]
 complete_all (s ∷ t ∷ ss) = ap (λ (x : List Stretch). s ∷ x) (complete_all (t ∷ ss))

@@ -1,24 +1,10 @@
 -- A level file takes a page.
-use Rattle.std.proofs.Common.{◌≡◌, ◌≢◌, ◌⊎◌, inl, inr, ℕ, ◌+◌, ◌<◌, List, [], ◌∷◌, ◌++◌, length, refl, sym, ap, subst, ◌∙◌, arith}
-use Rattle.std.specs.Prelude.{Bool, true, false, ◌&&◌, ◌||◌, ◌==◌, nat_lt, Result, Ok}
-use Rattle.std.proofs.lemmas.Bool.{and_parts, eqb-true}
-use Rattle.std.proofs.lemmas.Bool.Decides.{eqb_tells}
-use Rattle.nb_fields.specs.Bytes.{bytes_of}
-use Rattle.nb_host.specs.World.{World}
-use Rattle.nb_host.specs.Moments.{IsTimely}
-use Rattle.nb_change.specs.Changes.{Changes, Only, Remade}
-use Rattle.nb_level.specs.declared.head.LevelHead.{LevelHead}
-use Rattle.nb_level.specs.Adding.{AddsTwo}
-use Rattle.nb_model.specs.Image.{Numbered}
-use Rattle.nb_model.specs.Levels.{Stretch, runs_of}
-use Rattle.nb_model.proofs.GatherLaws.{total}
-use Rattle.nb_model.proofs.ReadLaws.{eq_yes}
-use Rattle.nb_gather.specs.Gathering.{LevelWriting, Waiting, Holds, HoldsAll, Reads, HasTaken, MayHave, complete, incomplete, level_front}
-use Rattle.nb_gather.specs.Making.{IsUnfinished}
+use Rattle.std.proofs.Common.{◌≡◌, ◌≢◌, ◌⊎◌, inl, inr, ℕ, ◌+◌, ◌<◌, List, [], ◌∷◌, ◌++◌, length, refl, sym, ap, subst, ◌∙◌, arith, Bool, true, false, ◌&&◌, ◌||◌, ◌==◌, nat_lt, Result, Ok}
+use Rattle.nb_gather.proofs.Common.{and_parts, eqb-true, eqb_tells, bytes_of, World, IsTimely, Changes, Only, Remade, LevelHead, AddsTwo, Numbered, Stretch, runs_of, total, eq_yes, LevelWriting, Waiting, Holds, HoldsAll, Reads, HasTaken, MayHave, complete, incomplete, level_front, IsUnfinished, lt_holds, not_both, or_parts}
 use Rattle.nb_gather.proofs.AppendLaws.{run_read, run_reads, run_left}
-use Rattle.nb_gather.proofs.FitLaws.{RunsFit, runs_fit, may_front, lt_tells}
+use Rattle.nb_gather.proofs.FitLaws.{RunsFit, runs_fit, may_front}
 use Rattle.nb_gather.proofs.QuietLaws.{renamed}
-use Rattle.nb_gather.proofs.RunLaws.{no_both, one_run, longer_run, goes_on, Grows, runs_added, grown_none, grown_other, grown_more, grown_full}
+use Rattle.nb_gather.proofs.RunLaws.{one_run, longer_run, goes_on, Grows, runs_added, grown_none, grown_other, grown_more, grown_full}
 use Rattle.nb_gather.proofs.UnfinishedLaws.{AreFit}
 use Rattle.nb_gather.proofs.WaitingLaws.{none_waits, one_waits, holds_one, holds_longer, goes_as, taken_still, taken_with}
 
@@ -42,12 +28,8 @@ pub record Completes (run : Waiting) (rs : List Numbered) (r : Numbered) (waits 
 
 -- a run that is no run, or that the page goes on with
 or_right : (a b : Bool) → (a || b) ≡ true → a ≡ false → b ≡ true
-or_right true b is none = absurd (no_both true refl none)
+or_right true b is none = absurd (not_both true refl none)
 or_right false b is none = is
-
-or_none : (a b : Bool) → (a || b) ≡ false → (a ≡ false) × (b ≡ false)
-or_none true b is = absurd (no_both true refl is)
-or_none false b is = (refl, is)
 
 module _ (head : LevelHead) (rs : List Numbered) (r : Numbered) (may : MayHave head (rs ++ r ∷ [])) (old : Waiting) (waits : HoldsAll old (incomplete (runs_of rs))) where
   before : RunsFit head rs
@@ -74,7 +56,7 @@ module _ (head : LevelHead) (rs : List Numbered) (r : Numbered) (may : MayHave h
           holds = w.2;
           goes = sym (goes_as old w.0 r w.2) ∙ goes;
           some = (let ne = some.1 in positive old.count ne);
-          few = lt_tells old.count 16 (and_parts (r.0 == old.first + old.count) (nat_lt old.count 16) goes).1;
+          few = lt_holds old.count 16 (and_parts (r.0 == old.first + old.count) (nat_lt old.count 16) goes).1;
         })
   ]
     where
@@ -90,7 +72,7 @@ module _ (head : LevelHead) (rs : List Numbered) (r : Numbered) (may : MayHave h
           taken_still head rs r w name written new counted (one_run r ∷ []) (grown_none r (runs_of rs) (none_waits old head rs before waits none))
           (holds_one old new r joined_.first joined_.more joined_.alone joined_.bytes joined_.count none) stands
       | inr on ↦
-          let other : new.count ≢ 16 = λ e. absurd (no_both (new.count == 16) (eq_yes new.count 16 e) short) in
+          let other : new.count ≢ 16 = λ e. absurd (not_both (new.count == 16) (eq_yes new.count 16 e) short) in
           let room : length on.w.pages + 1 < 16 = below new.count (length on.w.pages) (omega (arith, joined_.count, on.holds.count)) (omega (arith, on.few, on.holds.count)) other in
           taken_still head rs r w name written new counted (longer_run on.w r ∷ []) (grown_more r (runs_of rs) on.w on.is on.goes room)
           (holds_longer old new r joined_.first joined_.more joined_.alone joined_.bytes joined_.count on.w on.some on.holds) stands
@@ -115,8 +97,8 @@ module _ (head : LevelHead) (rs : List Numbered) (r : Numbered) (may : MayHave h
   -- the page doesn't go into it
   pub other_run : may_join old r ≡ false → Completes old rs r (one_run r ∷ [])
   other_run not_ =
-      let both = or_none (old.count == 0) _ not_ in
-      let some : old.count ≢ 0 = λ e. absurd (no_both (old.count == 0) (eq_yes old.count 0 e) both.0) in
+      let both = or_parts (old.count == 0) _ not_ in
+      let some : old.count ≢ 0 = λ e. absurd (not_both (old.count == 0) (eq_yes old.count 0 e) both.0) in
       let w = one_waits old head rs before waits some in
       record { s = w.0; holds = w.2; grows = grown_other r (runs_of rs) w.0 w.1 (sym (goes_as old w.0 r w.2) ∙ both.1) }
 
@@ -153,11 +135,15 @@ module _ (outer self : LevelWriting) (view : self ≡ outer) (w : World) (rs : L
   fits = subst (λ (v : LevelWriting). MayHave v.head (rs ++ r ∷ [])) (sym view) may
 
   -- into the run that waits
-  pub run_still : (new : Waiting) → Joined self.run new r → may_join self.run r ≡ true → (new.count == 16) ≡ false → HasTaken w (record { name = self.name; head = self.head; written = self.written + 1; run = new }) (rs ++ r ∷ [])
-  run_still new joined takes short = joins_still self.head rs r fits self.run inside.waits new joined w self.name self.written inside.counted inside.stands takes short
+  module _ (new : Waiting) (first : self.run.count ≡ 0 → new.first ≡ r.0) (more : 0 < self.run.count → new.first ≡ self.run.first) (alone : self.run.count ≡ 0 → new.bytes ≡ r.1) (bytes : new.bytes ≡ self.run.bytes ++ r.1) (count : new.count ≡ self.run.count + 1) where
+    joined : Joined self.run new r
+    joined = record { first = first; more = more; alone = alone; bytes = bytes; count = count }
 
-  pub run_full : (new : Waiting) → Joined self.run new r → may_join self.run r ≡ true → (new.count == 16) ≡ true → Completes new rs r []
-  run_full new joined takes full = joins_full self.head rs r fits self.run inside.waits new joined takes full
+    pub run_still : may_join self.run r ≡ true → (new.count == 16) ≡ false → HasTaken w (record { name = self.name; head = self.head; written = self.written + 1; run = new }) (rs ++ r ∷ [])
+    run_still takes short = joins_still self.head rs r fits self.run inside.waits new joined w self.name self.written inside.counted inside.stands takes short
+
+    pub run_full : may_join self.run r ≡ true → (new.count == 16) ≡ true → Completes new rs r []
+    run_full takes full = joins_full self.head rs r fits self.run inside.waits new joined takes full
 
   -- or not
   pub run_other : may_join self.run r ≡ false → Completes self.run rs r (one_run r ∷ [])

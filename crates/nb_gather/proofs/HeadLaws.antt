@@ -1,23 +1,9 @@
 -- The head of a level file is written.
-use Rattle.std.proofs.Common.{◌≡◌, ℕ, ◌<◌, List, [], length, refl, sym, ap, subst, ◌∙◌, arith}
-use Rattle.std.specs.Prelude.{Bool, IsTrue, Some, Result, Ok, Err, OnOk}
-use Rattle.nb_host.specs.Files.{File, Files, bytes_of, with_bytes}
-use Rattle.nb_host.specs.World.{World}
-use Rattle.nb_host.specs.Crash.{AppendLeft}
-use Rattle.nb_host.specs.Calls.{AppendsBytes}
-use Rattle.nb_host.specs.Moments.{IsTimely, Passes}
-use Rattle.nb_change.specs.Changes.{Changes, Only, Remade}
-use Rattle.nb_change.proofs.CallLaws.{bytes_others, remade_step}
-use Rattle.nb_change.proofs.MovedLaws.{remade_begun}
-use Rattle.nb_change.proofs.NameLaws.{with_file-same}
-use Rattle.nb_level.specs.declared.head.LevelHead.{LevelHead}
-use Rattle.nb_level.specs.Heads.{head_of}
-use Rattle.nb_model.specs.Levels.{head_then, run_bytes, runs_of}
-use Rattle.nb_gather.specs.Gathering.{LevelWriting, IsHeaded, Reads, IsTornFile, HasTaken, complete, incomplete, level_front}
-use Rattle.nb_gather.specs.Making.{IsEmpty, IsMade, IsUnfinished}
+use Rattle.std.proofs.Common.{◌≡◌, ℕ, ◌<◌, List, [], length, refl, sym, ap, subst, ◌∙◌, arith, Bool, IsTrue, Some, Result, Ok, Err, OnOk}
+use Rattle.nb_gather.proofs.Common.{File, Files, with_bytes, World, AppendLeft, AppendsBytes, IsTimely, Passes, Changes, Only, Remade, bytes_others, remade_step, remade_begun, with_file-same, LevelHead, head_of, head_then, run_bytes, runs_of, LevelWriting, IsHeaded, Reads, IsTornFile, HasTaken, complete, incomplete, level_front, IsEmpty, IsMade, IsUnfinished, total}
+use Rattle.nb_host.specs.Files.{bytes_of}
 use Rattle.nb_gather.proofs.AppendLaws.{append_torn, appended, torn_unfinished}
 use Rattle.nb_gather.proofs.UnfinishedLaws.{AreFit}
-use Rattle.nb_model.proofs.GatherLaws.{total}
 
 -- an empty file is torn from whatever is written into it
 empty_torn : IsTornFile [] (Some [])

@@ -11,4 +11,4 @@ pub mod NoLevelLaws
 pub mod TornLaws
 pub mod UnfinishedLaws
 pub mod ReadAgain
-pub mod BlankLaws
+mod Common

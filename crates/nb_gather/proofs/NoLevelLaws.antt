@@ -1,21 +1,10 @@
 -- What is left of a level file before its end is whole is no backup.
-use Rattle.std.proofs.Common.{◌≡◌, ◌⊎◌, inl, inr, ⊎_elim, ℕ, suc, ◌+◌, ◌/◌, ◌%◌, ◌<◌, List, [], ◌∷◌, ◌++◌, length, take, drop, refl, sym, ap, subst, ◌∙◌, arith, length-append, append_assoc}
-use Rattle.std.specs.Prelude.{true, false, ◌||◌, ◌==◌, nat_le, IsTrue, Some, Ok}
-use Rattle.std.proofs.lemmas.Bool.{eqb-true, or_cases}
-use Rattle.std.proofs.lemmas.List.{drop_at, drop_all, drop-drop}
-use Rattle.nb_fields.specs.Bytes.{number_of, bytes_of, number_in}
+use Rattle.std.proofs.Common.{◌≡◌, ◌⊎◌, inl, inr, ⊎_elim, ℕ, suc, ◌+◌, ◌/◌, ◌%◌, ◌<◌, List, [], ◌∷◌, ◌++◌, length, take, drop, refl, sym, ap, subst, ◌∙◌, arith, length-append, append_assoc, true, false, ◌||◌, ◌==◌, nat_le, IsTrue, Some, Ok}
+use Rattle.nb_gather.proofs.Common.{eqb-true, or_cases, drop_at, drop_all, drop-drop, number_of, bytes_of, number_in, is_page_size, size_facts, decide, Head, Stretch, Contents, head_then, run_bytes, end_bytes, end_mark, read_level, read_pages, read_runs, total, IsHeaded, IsNoBackup, not_both, and_right}
 use Rattle.nb_fields.specs.Header.{is_header, is_marked}
-use Rattle.nb_fields.specs.Places.{is_page_size}
-use Rattle.nb_fields.proofs.SizeLaws.{size_facts}
-use Rattle.nb_change.proofs.NameLaws.{decide}
-use Rattle.nb_model.specs.Levels.{Head, Stretch, Contents, head_then, head_in, run_bytes, end_bytes, end_mark, read_level, read_pages, read_runs}
-use Rattle.nb_model.proofs.ReadLaws.{and_no_right}
-use Rattle.nb_model.proofs.GatherLaws.{total}
+use Rattle.nb_model.specs.Levels.{head_in}
 use Rattle.nb_level.proofs.ToldLaws.{level_told}
-use Rattle.nb_gather.specs.Gathering.{IsHeaded}
-use Rattle.nb_gather.specs.Making.{IsNoBackup}
 use Rattle.nb_gather.proofs.TornLaws.{Torn, torn_take, torn_drop, torn_short, torn_self, torn_longer, torn_more}
-use Rattle.nb_gather.proofs.ReadAgain.{no_both}
 use Rattle.nb_gather.proofs.UnfinishedLaws.{small_torn, AreFit, torn_runs}
 
 -- what stands after a head goes on
@@ -47,7 +36,7 @@ size_torn size (t ∷ ts) is torn =
 no_header : (bs ts : List ℕ) → Torn (78 ∷ bs) ts → is_header ts ≡ false
 unfolding is_header is_marked number_in number_of
 no_header bs [] torn = refl
-no_header bs (t ∷ ts) torn = ⊎_elim (λ e. subst (λ x. is_header (x ∷ ts) ≡ false) (sym e) (and_no_right (nat_le 64 (suc (length ts))) false refl)) (λ e. subst (λ x. is_header (x ∷ ts) ≡ false) (sym e) (and_no_right (nat_le 64 (suc (length ts))) false refl)) torn.0
+no_header bs (t ∷ ts) torn = ⊎_elim (λ e. subst (λ x. is_header (x ∷ ts) ≡ false) (sym e) (and_right (nat_le 64 (suc (length ts))) false refl)) (λ e. subst (λ x. is_header (x ∷ ts) ≡ false) (sym e) (and_right (nat_le 64 (suc (length ts))) false refl)) torn.0
 
 module _ (bytes : List ℕ) where
   runs_read : (version : ℕ) → version ≡ 102 → read_pages version (head_in bytes) bytes ≡ read_runs (length bytes) (head_in bytes) 52 0 0 end_mark (drop 52 bytes)
@@ -96,8 +85,8 @@ module _ (h : Head) (is : IsHeaded h) where
         let told = level_told ts c reads in
         let known : (number_in 4 2 ts == 101 || number_in 4 2 ts == 102) ≡ true = ap (λ v. v == 101 || v == 102) (sym told.version) ∙ told.known in
         let sized : is_page_size (number_in 40 4 ts) ≡ true = ap (λ (h : Head). is_page_size h.size) (sym told.head) ∙ told.size in
-        let version : number_in 4 2 ts ≡ 102 = ⊎_elim (λ e. e) (λ e. absurd (no_both (0 == 101 || 0 == 102) (subst (λ v. (v == 101 || v == 102) ≡ true) e known) refl)) (torn_version tail ts torn) in
-        let size : number_in 40 4 ts ≡ h.size = ⊎_elim (λ e. e) (λ e. absurd (no_both (is_page_size 0) (subst (λ v. is_page_size v ≡ true) e sized) refl)) (torn_size tail ts torn) in
+        let version : number_in 4 2 ts ≡ 102 = ⊎_elim (λ e. e) (λ e. absurd (not_both (0 == 101 || 0 == 102) (subst (λ v. (v == 101 || v == 102) ≡ true) e known) refl)) (torn_version tail ts torn) in
+        let size : number_in 40 4 ts ≡ h.size = ⊎_elim (λ e. e) (λ e. absurd (not_both (is_page_size 0) (subst (λ v. is_page_size v ≡ true) e sized) refl)) (torn_size tail ts torn) in
         torn_runs (head_in ts) (total ss) (size_facts (number_in 40 4 ts) sized).at_least few ss (length ts) 52 0 0 end_mark (drop 52 ts) c.pages (subst (λ n. AreFit n ss) (sym size) fit) (let e : 0 + total ss ≡ total ss = omega arith in e) (torn_tail tail ts torn)
         (sym (runs_read ts (number_in 4 2 ts) version) ∙ told.pages)
 

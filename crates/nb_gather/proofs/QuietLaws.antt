@@ -1,20 +1,9 @@
 -- Calls on the one file that is made, after calls that change nothing.
-use Rattle.std.proofs.Common.{◌≡◌, refl, inl, inr, ⊎_elim, ℕ, List, [], ap, subst, ◌∙◌}
-use Rattle.std.specs.Prelude.{Bool, IsTrue, Result, Ok, Some, OnOk}
-use Rattle.nb_host.specs.Files.{File, Files, with_file}
-use Rattle.nb_host.specs.World.{World}
-use Rattle.nb_host.specs.Crash.{IsDurable, Leaves}
-use Rattle.nb_host.specs.Calls.{Remakes, Syncs}
-use Rattle.nb_host.specs.Moments.{Passes}
-use Rattle.nb_change.specs.Changes.{Changes, Only, Remade}
+use Rattle.std.proofs.Common.{◌≡◌, refl, inl, inr, ⊎_elim, ℕ, List, [], ap, subst, ◌∙◌, Bool, IsTrue, Result, Ok, Some, OnOk}
+use Rattle.nb_gather.proofs.Common.{File, Files, World, IsDurable, Leaves, Remakes, Syncs, Passes, Changes, Only, Remade, rested, composed, remade_on, still_more, left_before, Quiet, IsKept, IsMade, with_file-named, Numbered, LevelWriting, HasTaken, IsBlank, blank_free, IsUnfinished}
 use Rattle.nb_change.specs.Gave.{GaveNothing}
-use Rattle.nb_change.proofs.ChangesLaws.{rested, composed, remade_on, still_more}
-use Rattle.nb_change.proofs.MomentLaws.{left_before}
-use Rattle.nb_change.proofs.NameLaws.{with_file-same}
 use Rattle.nb_change.proofs.ResultLaws.{on_ok_then}
 use Rattle.nb_change.proofs.SettledLaws.{synced}
-use Rattle.nb_page.specs.Quiet.{Quiet}
-use Rattle.nb_gather.specs.Making.{IsKept, IsMade}
 
 module _ (name : List ℕ) (made : File → Type 0) where
   -- calls that change nothing
@@ -35,13 +24,9 @@ module _ (name : List ℕ) (made : File → Type 0) where
 pub quiet_gave : (old new : World) → Quiet old new → GaveNothing old new
 quiet_gave old new quiet = record { guids = quiet.guids; times = quiet.times }
 
--- the file under a name that was just given to it
-pub named : (old new : Files) (name : List ℕ) (file : File) → new ≡ with_file old name file → new name ≡ file
-named old new name file is = ap (λ (f : Files). f name) is ∙ with_file-same old name file
-
 -- a file that was made
 pub is_made : {T E : Type 0} (tells : Bool) (value : T) (old new : World) (name : List ℕ) → IsTrue tells → Remakes {E = E} tells (Ok value) old new name (Some []) → IsMade new name
-is_made tells value old new name told makes = record { reads = named old.files new.files name (Some []) (makes.files told); only = makes.done }
+is_made tells value old new name told makes = record { reads = with_file-named old.files new.files name (Some []) (makes.files told); only = makes.done }
 
 -- and calls that change nothing keep it so
 pub made_quiet : (old new : World) (name : List ℕ) → Quiet old new → IsMade old name → IsMade new name
@@ -61,3 +46,18 @@ renamed old new n m made same changes = subst (λ (x : List ℕ). Changes old ne
 pub remade_twice : (old mid new : World) (name : List ℕ) (made : File → Type 0) → Leaves mid name (mid.files name) → Changes old mid (Only name) (Remade old name made) → Changes mid new (Only name) (Remade mid name made) → Changes old new (Only name) (Remade old name made)
 remade_twice old mid new name made was first second =
     remade_on old mid new (Only name) (Remade old name made) (Remade old name made) name made (mid.files name) first second refl was (λ files has. has) (λ before files left has is done others. inr done)
+
+-- and what was taken into a level file
+pub taken_quiet : (old new : World) (file : LevelWriting) (rs : List Numbered) → Quiet old new → HasTaken old file rs → HasTaken new file rs
+taken_quiet old new file rs quiet has = record {
+  stands = record { reads = ap (λ (f : Files). f file.name) quiet.still.files ∙ has.stands.reads; torn = λ c now. has.stands.torn c (quiet.still.left.now file.name c tt now) };
+  waits = has.waits;
+  counted = has.counted;
+}
+
+-- an empty file has a free name
+pub blank_empty : IsBlank (Some [])
+blank_empty = refl
+
+pub unfinished_empty : IsUnfinished (Some [])
+unfinished_empty = inl (blank_free (Some []) blank_empty)

@@ -1,40 +1,19 @@
 -- What it says of bytes that they are read as runs.
-use Rattle.std.proofs.Common.{◌≡◌, ◌≢◌, ◌⊎◌, inl, inr, ℕ, suc, ◌+◌, ◌*◌, ◌≤◌, List, length, drop, refl, sym, ap, ◌∙◌, arith}
-use Rattle.std.specs.Prelude.{Bool, true, false, not, ◌||◌, ◌==◌, nat_lt, Option, None, Some, Result, Ok, Err}
-use Rattle.std.proofs.lemmas.Bool.Decides.{eqb_tells}
-use Rattle.nb_fields.specs.Bytes.{number_in}
-use Rattle.nb_model.specs.Image.{Numbered}
-use Rattle.nb_model.specs.Levels.{Head, Test, first_fault, behind, read_end, read_runs, pages_in, barred_after, end_mark}
-use Rattle.nb_model.proofs.ReadLaws.{AreClear, eq_yes, run_tests, end_tests}
+use Rattle.std.proofs.Common.{◌≡◌, ◌≢◌, ◌⊎◌, inl, inr, ℕ, suc, ◌+◌, ◌*◌, ◌≤◌, List, length, drop, refl, sym, ap, ◌∙◌, arith, true, false, not, ◌==◌, nat_lt, Option, None, Some, Result, Ok, Err}
+use Rattle.nb_gather.proofs.Common.{eqb_tells, number_in, Numbered, Head, Test, first_fault, behind, read_end, read_runs, pages_in, barred_after, end_mark, AreClear, eq_yes, run_tests, end_tests, not_both, true_or_false, err_ok, or_parts}
 use Rattle.nb_model.proofs.LevelWalk.{none_clear, not_long}
-
--- a broken place is no value
-pub no_value : {A : Type 0} (at : ℕ) (value : A) → ◌≡◌ {A = Result A ℕ} (Err at) (Ok value) → ⊥
-no_value at value is = cc
-
--- either way
-tells : (b : Bool) → (b ≡ true) ⊎ (b ≡ false)
-tells true = inl refl
-tells false = inr refl
 
 some_or : (o : Option ℕ) → ((p : ℕ) × (o ≡ Some p)) ⊎ (o ≡ None)
 some_or None = inr refl
 some_or (Some p) = inl (p, refl)
 
-pub no_both : (b : Bool) → b ≡ true → b ≡ false → ⊥
-no_both b one other = cc
-
-or_no_left : (a b : Bool) → (a || b) ≡ false → a ≡ false
-or_no_left true b is = absurd (no_both true refl is)
-or_no_left false b is = refl
-
 not_no : (a b : ℕ) → not (a == b) ≡ false → a ≡ b
-not_no a b is = elim (eqb_tells a b) [ inl w ↦ w.1 | inr w ↦ absurd (no_both (not (a == b)) (ap not w.0) is) ]
+not_no a b is = elim (eqb_tells a b) [ inl w ↦ w.1 | inr w ↦ absurd (not_both (not (a == b)) (ap not w.0) is) ]
 
 -- with pages before
 pub behind_ok : (rs vs : List Numbered) (r : Result (List Numbered) ℕ) → behind rs r ≡ Ok vs → (ws : List Numbered) × (r ≡ Ok ws)
 behind_ok rs vs (Ok ws) is = (ws, refl)
-behind_ok rs vs (Err at) is = absurd (no_value at vs is)
+behind_ok rs vs (Err at) is = absurd (err_ok at vs is)
 
 -- what is read after a run
 abbrev pub rest_runs : (left : ℕ) → Head → (at count : ℕ) (rest : List ℕ) → Result (List Numbered) ℕ
@@ -71,12 +50,12 @@ module _ (left : ℕ) (h : Head) (at count least barred : ℕ) (rest : List ℕ)
   IsRunThere = (number_in 0 4 rest ≢ end_mark) × AreClear tests × ((vs : List Numbered) × (rest_runs left h at count rest ≡ Ok vs))
 
   pub runs_are : (vs : List Numbered) → read_runs (suc left) h at count least barred rest ≡ Ok vs → IsEnd ⊎ IsRunThere
-  runs_are vs is = elim (tells (nat_lt (length rest) 4)) [
-    | inl short ↦ absurd (no_value (at + length rest) vs (sym (short_read short) ∙ is))
+  runs_are vs is = elim (true_or_false (nat_lt (length rest) 4)) [
+    | inl short ↦ absurd (err_ok (at + length rest) vs (sym (short_read short) ∙ is))
     | inr long ↦ elim (eqb_tells (number_in 0 4 rest) end_mark) [
       | inl mark ↦ inl (mark.1, (vs, sym (end_read long mark.0) ∙ is))
       | inr other ↦ elim (some_or (first_fault tests)) [
-        | inl fault ↦ absurd (no_value fault.0 vs (sym (fault_read long other.0 fault.0 fault.1) ∙ is))
+        | inl fault ↦ absurd (err_ok fault.0 vs (sym (fault_read long other.0 fault.0 fault.1) ∙ is))
         | inr clear ↦ inr (other.1, none_clear tests clear, behind_ok (pages_in h.size (number_in 4 4 rest) (number_in 0 4 rest) (drop 8 rest)) vs (rest_runs left h at count rest) (sym (run_read long other.0 clear) ∙ is))
       ]
     ]
@@ -89,7 +68,7 @@ module _ (left : ℕ) (h : Head) (at count least barred : ℕ) (rest : List ℕ)
 
   pub run_facts : AreClear tests → RunFacts
   run_facts clear = record {
-    some = λ zero_. no_both (number_in 4 4 rest == 0) (eq_yes (number_in 4 4 rest) 0 zero_) (or_no_left (number_in 4 4 rest == 0) _ clear.1.1.0);
+    some = λ zero_. not_both (number_in 4 4 rest == 0) (eq_yes (number_in 4 4 rest) 0 zero_) (or_parts (number_in 4 4 rest == 0) _ clear.1.1.0).0;
     fits = not_long (length rest) (8 + number_in 4 4 rest * h.size) clear.1.1.1.1.1.0;
   }
 
@@ -105,7 +84,7 @@ module _ (at count : ℕ) (rest : List ℕ) where
 
   pub end_facts : (vs : List Numbered) → read_end at count rest ≡ Ok vs → EndFacts
   end_facts vs is = elim (some_or (first_fault (end_tests at count rest))) [
-    | inl fault ↦ absurd (no_value fault.0 vs (sym (end_fault fault.0 fault.1) ∙ is))
+    | inl fault ↦ absurd (err_ok fault.0 vs (sym (end_fault fault.0 fault.1) ∙ is))
     | inr none ↦
         let clear = none_clear (end_tests at count rest) none in
         let most : length rest ≤ 8 = not_long 8 (length rest) clear.1.1.1.0 in

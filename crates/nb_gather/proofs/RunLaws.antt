@@ -1,12 +1,6 @@
 -- How the runs of the pages that were taken go on by one page more.
-use Rattle.std.proofs.Common.{◌≡◌, ◌⊎◌, inl, inr, ℕ, suc, ◌+◌, ◌<◌, ◌≤◌, List, [], ◌∷◌, ◌++◌, length, refl, sym, ap, subst, ◌∙◌, arith, length-append}
-use Rattle.std.specs.Prelude.{Bool, true, false, ◌&&◌, ◌==◌, nat_lt}
-use Rattle.std.proofs.lemmas.Bool.Decides.{leb_tells}
-use Rattle.std.proofs.lemmas.List.{append-nil}
-use Rattle.nb_model.specs.Image.{Page, Numbered}
-use Rattle.nb_model.specs.Levels.{Stretch, runs_behind, runs_of}
-use Rattle.nb_model.proofs.ReadLaws.{and_no_right}
-use Rattle.nb_gather.specs.Gathering.{complete, incomplete}
+use Rattle.std.proofs.Common.{◌≡◌, ◌⊎◌, inl, inr, ℕ, suc, ◌+◌, ◌<◌, ◌≤◌, List, [], ◌∷◌, ◌++◌, length, refl, sym, ap, subst, ◌∙◌, arith, length-append, Bool, true, false, ◌&&◌, ◌==◌, nat_lt}
+use Rattle.nb_gather.proofs.Common.{leb_tells, append-nil, Page, Numbered, Stretch, runs_behind, runs_of, complete, incomplete, not_both, true_or_false, and_right}
 
 -- a run of one page
 abbrev pub one_run : Numbered → Stretch
@@ -26,14 +20,6 @@ added r [] = one_run r ∷ []
 added r (s ∷ []) = elim (goes_on s r) [ true ↦ longer_run s r ∷ [] | false ↦ s ∷ one_run r ∷ [] ]
 added r (s ∷ t ∷ ss) = s ∷ added r (t ∷ ss)
 
--- either way
-pub tells : (b : Bool) → (b ≡ true) ⊎ (b ≡ false)
-tells true = inl refl
-tells false = inr refl
-
-pub no_both : (b : Bool) → b ≡ true → b ≡ false → ⊥
-no_both b one other = cc
-
 -- a run that has begun takes the next page, or doesn't
 module _ (first : ℕ) (ps : List Page) (x : Numbered) (xs : List Numbered) where
   pub joins : (x.0 == first + length ps && nat_lt (length ps) 16) ≡ true → runs_behind first ps (x ∷ xs) ≡ runs_behind first (ps ++ x.1 ∷ []) xs
@@ -48,7 +34,7 @@ module _ (first : ℕ) (ps : List Page) (x : Numbered) (xs : List Numbered) wher
 behind_some : (first : ℕ) (ps : List Page) (xs : List Numbered) → 1 ≤ length (runs_behind first ps xs)
 unfolding runs_behind
 behind_some first ps [] = omega arith
-behind_some first ps (x ∷ xs) = elim (tells (x.0 == first + length ps && nat_lt (length ps) 16)) [
+behind_some first ps (x ∷ xs) = elim (true_or_false (x.0 == first + length ps && nat_lt (length ps) 16)) [
   | inl is ↦ subst (λ (r : List Stretch). 1 ≤ length r) (sym (joins first ps x xs is)) (behind_some first (ps ++ x.1 ∷ []) xs)
   | inr is ↦ subst (λ (r : List Stretch). 1 ≤ length r) (sym (parts first ps x xs is)) (omega arith)
 ]
@@ -60,16 +46,16 @@ module _ (r : Numbered) where
 
   added_some : (ss : List Stretch) → 1 ≤ length (added r ss)
   added_some [] = omega arith
-  added_some (s ∷ []) = elim (tells (goes_on s r)) [ inl is ↦ rw (is, added, length) (omega arith) | inr is ↦ rw (is, added, length) (omega arith) ]
+  added_some (s ∷ []) = elim (true_or_false (goes_on s r)) [ inl is ↦ rw (is, added, length) (omega arith) | inr is ↦ rw (is, added, length) (omega arith) ]
   added_some (s ∷ t ∷ ss) = omega arith
 
   behind_added : (first : ℕ) (ps : List Page) (xs : List Numbered) → runs_behind first ps (xs ++ r ∷ []) ≡ added r (runs_behind first ps xs)
   unfolding runs_behind
-  behind_added first ps [] = elim (tells (r.0 == first + length ps && nat_lt (length ps) 16)) [
+  behind_added first ps [] = elim (true_or_false (r.0 == first + length ps && nat_lt (length ps) 16)) [
     | inl is ↦ joins first ps r [] is ∙ rw (is, added) refl
     | inr is ↦ parts first ps r [] is ∙ rw (is, added) refl
   ]
-  behind_added first ps (x ∷ xs) = elim (tells (x.0 == first + length ps && nat_lt (length ps) 16)) [
+  behind_added first ps (x ∷ xs) = elim (true_or_false (x.0 == first + length ps && nat_lt (length ps) 16)) [
     | inl is ↦ joins first ps x (xs ++ r ∷ []) is ∙ behind_added first (ps ++ x.1 ∷ []) xs ∙ ap (added r) (sym (joins first ps x xs is))
     | inr is ↦
         let run : Stretch = record { first = first; pages = ps } in
@@ -107,7 +93,7 @@ module _ (r : Numbered) where
   -- a run waits exactly where it has fewer than 16 pages
   full_or_not : (s : Stretch) → ((nat_lt (length s.pages) 16 ≡ true) × (complete (s ∷ []) ≡ []) × (incomplete (s ∷ []) ≡ s ∷ [])) ⊎ ((nat_lt (length s.pages) 16 ≡ false) × (complete (s ∷ []) ≡ s ∷ []) × (incomplete (s ∷ []) ≡ []))
   unfolding complete incomplete
-  full_or_not s = elim (tells (nat_lt (length s.pages) 16)) [ inl is ↦ inl (is, rw (is, complete) refl, rw (is, incomplete) refl) | inr is ↦ inr (is, rw (is, complete) refl, rw (is, incomplete) refl) ]
+  full_or_not s = elim (true_or_false (nat_lt (length s.pages) 16)) [ inl is ↦ inl (is, rw (is, complete) refl, rw (is, incomplete) refl) | inr is ↦ inr (is, rw (is, complete) refl, rw (is, incomplete) refl) ]
 
   two_runs : (s t : Stretch) → nat_lt (length t.pages) 16 ≡ true → (complete (s ∷ t ∷ []) ≡ s ∷ []) × (incomplete (s ∷ t ∷ []) ≡ t ∷ [])
   unfolding complete incomplete
@@ -126,7 +112,7 @@ module _ (r : Numbered) where
   grown_none (s ∷ []) none = elim (full_or_not s) [
     | inl is ↦ absurd (no_run s (sym none ∙ is.2))
     | inr is ↦
-        let other : goes_on s r ≡ false = and_no_right (r.0 == s.first + length s.pages) (nat_lt (length s.pages) 16) is.0 in
+        let other : goes_on s r ≡ false = and_right (r.0 == s.first + length s.pages) (nat_lt (length s.pages) 16) is.0 in
         let more : added r (s ∷ []) ≡ s ∷ one_run r ∷ [] = rw (other, added) refl in
         let two = two_runs s (one_run r) refl in
         (ap complete more ∙ two.0 ∙ sym (append-nil (complete (s ∷ [])) ∙ is.1), ap incomplete more ∙ two.1)
@@ -163,7 +149,7 @@ module _ (r : Numbered) where
         elim (full_or_not (longer_run w r)) [
           | inl short ↦ (ap complete more ∙ short.1 ∙ sym (append-nil (complete (s ∷ [])) ∙ is.1), ap incomplete more ∙ short.2)
           | inr full ↦ elim (leb_tells (suc (length (longer_run w r).pages)) 16) [
-            | inl v ↦ absurd (no_both (nat_lt (length (longer_run w r).pages) 16) v.0 full.0)
+            | inl v ↦ absurd (not_both (nat_lt (length (longer_run w r).pages) 16) v.0 full.0)
             | inr v ↦ absurd (omega (arith, v.1, longer_long w, few))
           ]
         ]
@@ -181,7 +167,7 @@ module _ (r : Numbered) where
         elim (full_or_not (longer_run w r)) [
           | inl short ↦ elim (leb_tells (suc (length (longer_run w r).pages)) 16) [
             | inl v ↦ absurd (omega (arith, v.1, longer_long w, full))
-            | inr v ↦ absurd (no_both (nat_lt (length (longer_run w r).pages) 16) short.0 v.0)
+            | inr v ↦ absurd (not_both (nat_lt (length (longer_run w r).pages) 16) short.0 v.0)
           ]
           | inr all ↦ (ap complete more ∙ all.1 ∙ sym (ap (λ (l : List Stretch). l ++ longer_run w r ∷ []) is.1), ap incomplete more ∙ all.2)
         ]

@@ -1,8 +1,6 @@
 -- Bytes that were torn: each is as it was written or zero, and there may be fewer.
-use Rattle.std.proofs.Common.{◌≡◌, ◌⊎◌, inl, ⊎_elim, ℕ, zero, suc, ◌<◌, ◌≤◌, List, [], ◌∷◌, ◌++◌, length, take, drop, refl, arith}
-use Rattle.std.specs.Prelude.{slice_index}
-use Rattle.nb_fields.specs.Bytes.{number_of}
-use Rattle.nb_host.specs.Crash.{IsTornFrom}
+use Rattle.std.proofs.Common.{◌≡◌, ◌⊎◌, inl, ⊎_elim, ℕ, zero, suc, ◌<◌, ◌≤◌, List, [], ◌∷◌, ◌++◌, length, take, drop, refl, arith, slice_index}
+use Rattle.nb_gather.proofs.Common.{number_of, IsTornFrom}
 
 -- byte by byte
 abbrev pub Torn : (bytes torn : List ℕ) → Type 0

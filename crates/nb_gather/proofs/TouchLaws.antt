@@ -1,16 +1,6 @@
 -- Calls that touch one file alone, whatever stands in it.
-use Rattle.std.proofs.Common.{◌≡◌, ℕ, List, subst}
-use Rattle.std.specs.Prelude.{Bool, IsTrue, Result}
-use Rattle.nb_host.specs.Files.{Files}
-use Rattle.nb_host.specs.World.{World}
-use Rattle.nb_host.specs.Calls.{IsStill, WritesPage, AppendsBytes}
-use Rattle.nb_host.specs.Moments.{IsTimely, Passes}
-use Rattle.nb_page.specs.Quiet.{Quiet}
-use Rattle.nb_change.specs.Changes.{Changes, ChangedLeft, Only, Moved}
-use Rattle.nb_change.proofs.CallLaws.{still_alone, page_alone, bytes_alone}
-use Rattle.nb_change.proofs.ChangesLaws.{begun, rested, composed, weaker_has}
-use Rattle.nb_change.proofs.MomentLaws.{started, goes_on}
-use Rattle.nb_level.specs.Adding.{IsWhileAdding, AddsTwo}
+use Rattle.std.proofs.Common.{◌≡◌, ℕ, List, subst, Bool, IsTrue, Result}
+use Rattle.nb_gather.proofs.Common.{Files, World, IsStill, WritesPage, AppendsBytes, IsTimely, Passes, Quiet, Changes, ChangedLeft, Only, Moved, still_alone, page_alone, bytes_alone, begun, rested, composed, weaker_has, started, goes_on, IsWhileAdding, AddsTwo}
 use Rattle.nb_gather.specs.Touching.{Touches}
 use Rattle.nb_gather.proofs.AppendLaws.{two_others}
 

@@ -1,18 +1,10 @@
 -- A level file without its end, or with a torn one, is no level file, whatever of it was torn.
-use Rattle.std.proofs.Common.{◌≡◌, ◌≢◌, ◌⊎◌, inl, inr, ⊎_elim, ℕ, zero, suc, ◌+◌, ◌*◌, ◌/◌, ◌%◌, ◌<◌, ◌≤◌, List, [], ◌∷◌, ◌++◌, length, take, drop, refl, sym, ap, subst, ◌∙◌, arith, length-append, append_assoc}
-use Rattle.std.specs.Prelude.{Ok}
-use Rattle.std.proofs.lemmas.List.{append-nil, drop_at, take_all, drop-drop, length-take-le, length-drop, take-append-drop}
-use Rattle.std.proofs.Math.Nat.{suc-mul}
-use Rattle.nb_fields.specs.Bytes.{number_of, bytes_of, number_in}
+use Rattle.std.proofs.Common.{◌≡◌, ◌≢◌, ◌⊎◌, inl, inr, ⊎_elim, ℕ, zero, suc, ◌+◌, ◌*◌, ◌/◌, ◌%◌, ◌<◌, ◌≤◌, List, [], ◌∷◌, ◌++◌, length, take, drop, refl, sym, ap, subst, ◌∙◌, arith, length-append, Ok}
+use Rattle.nb_gather.proofs.Common.{append-nil, drop_at, take_all, drop-drop, length-take-le, length-drop, take-append-drop, suc-mul, number_of, bytes_of, number_in, most_pages, Numbered, Head, Stretch, run_bytes, end_bytes, end_mark, joined, read_runs, barred_after, length-joined, total, run_front, eight_bytes, err_ok}
 use Rattle.nb_fields.proofs.NumberLaws.{number_of-bytes_of, length-bytes_of}
-use Rattle.nb_fields.specs.Places.{most_pages}
-use Rattle.nb_model.specs.Image.{Numbered}
-use Rattle.nb_model.specs.Levels.{Head, Stretch, run_bytes, end_bytes, end_mark, joined, read_runs, barred_after}
 use Rattle.nb_model.specs.Sound.{IsOfSize}
-use Rattle.nb_model.proofs.ImageLaws.{length-joined}
-use Rattle.nb_model.proofs.GatherLaws.{total}
 use Rattle.nb_gather.proofs.TornLaws.{Torn, torn_take, torn_drop, torn_short, torn_number}
-use Rattle.nb_gather.proofs.ReadAgain.{no_value, run_facts, runs_are, end_facts}
+use Rattle.nb_gather.proofs.ReadAgain.{run_facts, runs_are, end_facts}
 
 -- a number of one byte is whole or zero
 pub small_torn : (w b : ℕ) (ts : List ℕ) → b < 256 → Torn (bytes_of (suc w) b) ts → (number_of ts ≡ b) ⊎ (number_of ts ≡ 0)
@@ -52,11 +44,6 @@ pub record IsFit (size : ℕ) (s : Stretch) : Type 0 where
 abbrev pub AreFit : ℕ → List Stretch → Type 0
 AreFit size [] = Unit {0}
 AreFit size (s ∷ ss) = IsFit size s × AreFit size ss
-
--- a run after its number and its count
-run_front : (s : Stretch) (ss : List Stretch) (e : List ℕ) → run_bytes (s ∷ ss) ++ e ≡ bytes_of 4 s.first ++ (bytes_of 4 (length s.pages) ++ (joined s.pages ++ (run_bytes ss ++ e)))
-unfolding run_bytes bytes_of
-run_front s ss e = ap (λ (x : List ℕ). bytes_of 4 s.first ++ (bytes_of 4 (length s.pages) ++ x)) (append_assoc (joined s.pages) (run_bytes ss) e)
 
 run_long : (size : ℕ) (s : Stretch) (ss : List Stretch) → IsFit size s → length (run_bytes (s ∷ ss)) ≡ 8 + length s.pages * size + length (run_bytes ss)
 unfolding run_bytes bytes_of
@@ -100,10 +87,6 @@ end_whole n rest low torn long mark count =
     (ap number_of (sym all) ∙ count ∙ sym (number_of-bytes_of 4 n low)) in
     sym (take-append-drop 4 rest) ∙ ap (λ (x : List ℕ). x ++ drop 4 rest) first ∙ ap (λ (x : List ℕ). bytes_of 4 end_mark ++ x) second
 
-eight_bytes : (n : ℕ) → length (end_bytes n) ≡ 8
-unfolding end_bytes bytes_of
-eight_bytes n = refl
-
 none_behind : (n : ℕ) → run_bytes [] ++ end_bytes n ≡ end_bytes n
 unfolding run_bytes
 none_behind n = refl
@@ -134,7 +117,7 @@ module _ (h : Head) (n : ℕ) (wide : 1024 ≤ h.size) (low : n < 4294967296) wh
   pub torn_runs : (ss : List Stretch) (fuel at count least barred : ℕ) (rest : List ℕ) (vs : List Numbered) → AreFit h.size ss → count + total ss ≡ n → Torn (run_bytes ss ++ end_bytes n) rest
       → read_runs fuel h at count least barred rest ≡ Ok vs → Whole ss rest
   unfolding read_runs
-  torn_runs ss zero at count least barred rest vs fit counted torn is = absurd (no_value at vs is)
+  torn_runs ss zero at count least barred rest vs fit counted torn is = absurd (err_ok at vs is)
   torn_runs [] (suc left) at count least barred rest vs fit counted torn is =
       ap (λ k. drop k rest) no_runs ∙ last_whole left at count least barred rest vs (omega (arith, counted)) (subst (λ (x : List ℕ). Torn x rest) (none_behind n) torn) is
   torn_runs (s ∷ ss) (suc left) at count least barred rest vs fit counted torn is =

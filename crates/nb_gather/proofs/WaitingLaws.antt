@@ -1,16 +1,6 @@
 -- The run that waits, as a page goes into it and as it is appended.
-use Rattle.std.proofs.Common.{◌≡◌, ◌≢◌, inl, inr, ℕ, ◌+◌, ◌*◌, ◌/◌, ◌<◌, ◌≤◌, List, [], ◌∷◌, ◌++◌, length, take, sym, ap, subst, ◌∙◌, arith, length-append}
-use Rattle.std.specs.Prelude.{◌&&◌, ◌==◌, nat_lt, Result}
-use Rattle.std.proofs.Math.Nat.{mul-div_cancel}
-use Rattle.std.proofs.lemmas.List.{append-nil, length-take-le}
-use Rattle.nb_fields.specs.Bytes.{bytes_of}
-use Rattle.nb_host.specs.World.{World}
-use Rattle.nb_level.specs.declared.head.LevelHead.{LevelHead}
-use Rattle.nb_level.specs.Adding.{AddsTwo}
-use Rattle.nb_model.specs.Image.{Numbered}
-use Rattle.nb_model.specs.Levels.{Stretch, joined, runs_of}
-use Rattle.nb_model.proofs.ImageLaws.{joined-append}
-use Rattle.nb_gather.specs.Gathering.{Waiting, Holds, HoldsAll, Reads, HasTaken, complete, incomplete, level_front}
+use Rattle.std.proofs.Common.{◌≡◌, ◌≢◌, inl, inr, ℕ, ◌+◌, ◌*◌, ◌/◌, ◌<◌, ◌≤◌, List, [], ◌∷◌, ◌++◌, length, take, sym, ap, subst, ◌∙◌, arith, length-append, ◌&&◌, ◌==◌, nat_lt, Result}
+use Rattle.nb_gather.proofs.Common.{mul-div_cancel, append-nil, length-take-le, bytes_of, World, LevelHead, AddsTwo, Numbered, Stretch, joined, runs_of, joined-append, Waiting, Holds, HoldsAll, Reads, HasTaken, complete, incomplete, level_front}
 use Rattle.nb_gather.proofs.RunLaws.{one_run, longer_run, goes_on, Grows, runs_added}
 use Rattle.nb_gather.proofs.FitLaws.{RunsFit, shape}
 

@@ -1,17 +1,14 @@
 -- The script of a number creates its database, where it is one that can be asked.
-use Rattle.std.proofs.Common.{◌≡◌, ℕ, ◌+◌, List, [], ◌∷◌, ◌++◌, length, refl, sym, ap, ◌∙◌, codes}
-use Rattle.std.specs.Prelude.{Bool, true, false, nat_lt, Option, Some, None, Result, Ok, Err, if◌then◌else◌}
-use Rattle.std.specs.Fmt.{decimal}
+use Rattle.std.proofs.Common.{◌≡◌, ℕ, ◌+◌, List, [], ◌∷◌, ◌++◌, length, refl, sym, ap, ◌∙◌, codes, Bool, true, false, nat_lt, Option, Some, None, Ok, Err, if◌then◌else◌}
+use Rattle.nb_gen.proofs.Common.{decimal, ended, generated, lines_from, IsScriptText, generated_first, err_ok, ok_equal}
 use Rattle.nb_host.specs.declared.refusals.Refusal.{Refusal}
 use Rattle.nb_host.specs.declared.refusals.Refusal.TheVariants.{BadScript, ScriptLong}
 use Rattle.nb_model.specs.declared.statement.Statement.{Statement}
-use Rattle.nb_model.specs.Generated.{ended, generated, lines_from}
 use Rattle.nb_script.specs.Words.{Bytes, after, number_at, within, named, name_at}
 use Rattle.nb_script.specs.Lines.{lines_of, numbered, left}
 use Rattle.nb_script.specs.FirstLine.{cache_at, page_size_at, sizes_at, create_at, database_at, first_at}
 use Rattle.nb_script.specs.Statements.{session_line, statement_at}
 use Rattle.nb_script.specs.Scripts.{Plan, Numbered, started, with_statement, or_bad, with_lines, order_in, with_order, of_lines, script_of}
-use Rattle.nb_gen.specs.Texts.{IsScriptText, generated_first}
 
 abbrev first_line : Bytes
 first_line = codes "1: create database 'gen.db' page_size 4096 raw 100"
@@ -36,16 +33,10 @@ first_read : first_at first_line ≡ Some (1, generated_first)
 unfolding first_at session_line database_at create_at sizes_at page_size_at cache_at name_at named after within number_at
 first_read = refl
 
-err_ok : (refusal : Refusal) (plan : Plan) → ◌≡◌ {A = Result Plan Refusal} (Err refusal) (Ok plan) → ⊥
-err_ok refusal plan h = cc
-
-ok_same : (p q : Plan) → ◌≡◌ {A = Result Plan Refusal} (Ok p) (Ok q) → p ≡ q
-ok_same p q h = cc
-
 -- further lines leave the first statement
 same_first : (taken : ℕ) (plan q : Plan) (lines : List Numbered) → with_lines taken plan lines ≡ Ok q → q.first ≡ plan.first
 unfolding with_lines
-same_first taken plan q [] is = ap (λ (p : Plan). p.first) (sym (ok_same plan q is))
+same_first taken plan q [] is = ap (λ (p : Plan). p.first) (sym (ok_equal {T = Plan} {E = Refusal} plan q is))
 same_first taken plan q (line ∷ lines) is = by (λ (p : Plan). same_first (taken + 1) p q lines) (if nat_lt taken 10000 then statement_at line.1 else None) is
   where
     by : ((p : Plan) → with_lines (taken + 1) p lines ≡ Ok q → q.first ≡ p.first) → (read : Option (ℕ × Statement)) → or_bad line read (λ r. with_lines (taken + 1) (with_statement plan r) lines) ≡ Ok q → q.first ≡ plan.first

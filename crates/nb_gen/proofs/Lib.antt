@@ -1,3 +1,4 @@
 pub mod LineLaws
 pub mod GeneratedScript
 pub mod WrittenLaws
+mod Common

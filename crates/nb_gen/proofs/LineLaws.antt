@@ -1,7 +1,7 @@
 -- Lines that numbers choose, one after the other.
 use Rattle.std.proofs.Common.{◌≡◌, ℕ, suc, ◌+◌, ◌-◌, ◌/◌, ◌^◌, ◌<◌, ◌≤◌, List, [], ◌∷◌, ◌++◌, ap, sym, ◌∙◌, append_assoc, arith}
+use Rattle.nb_gen.proofs.Common.{ended, line_of, backup_line, lines_from}
 use Rattle.std.proofs.lemmas.List.{append-nil}
-use Rattle.nb_model.specs.Generated.{ended, line_of, backup_line, lines_from}
 use Rattle.nb_model.specs.Seeds.{stepped}
 
 -- line i + 1 and its backup stand, and then the lines after them

@@ -1,12 +1,12 @@
 -- What is made of ASCII alone is text.
 use Rattle.std.proofs.Common.{◌≡◌, ℕ, ◌<◌, Bool, true, false, ◌&&◌, ◌||◌, nat_le, ◌==◌, List, length, slice_index, inl, inr, arith}
+use Rattle.nb_host.proofs.Common.{is_name, is_name_byte}
 use Rattle.std.specs.List.{list_all}
 use Rattle.std.specs.Str.{IsAscii, IsUtf8}
 use Rattle.std.proofs.lemmas.Bool.{and_parts, or_cases, leb-true, eqb-true, cases_Bool, cases_lt}
 use Rattle.std.proofs.lemmas.List.{get_or_past}
 use Rattle.std.proofs.lemmas.List.Sums.{AllPass-from_list_all}
 use Rattle.std.proofs.lemmas.Str.{IsUtf8-from_ascii}
-use Rattle.nb_host.specs.Names.{is_name, is_name_byte}
 
 -- A class of bytes is ASCII where each of its parts is: a range, one byte, or two classes.
 pub in_range : (b low high : ℕ) → high < 128 → (nat_le low b && nat_le b high) ≡ true → b < 128

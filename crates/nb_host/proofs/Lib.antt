@@ -1,2 +1,5 @@
 pub mod Ascii
 pub mod NameLaws
+pub mod FileLaws
+pub mod PlainLaws
+mod Common

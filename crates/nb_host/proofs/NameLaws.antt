@@ -1,8 +1,7 @@
 -- Names that are equal and others, and files under them.
-use Rattle.std.proofs.Common.{◌≡◌, ◌≢◌, ◌⊎◌, inl, inr, ℕ, Bool, true, false, List, refl, sym, ◌∙◌, ap, subst}
-use Rattle.std.specs.Prelude.{if◌then◌else◌, MatchBool}
+use Rattle.std.proofs.Common.{◌≡◌, ◌≢◌, ◌⊎◌, inl, inr, ℕ, Bool, true, false, List, refl, sym, ◌∙◌, ap, subst, if◌then◌else◌, MatchBool}
+use Rattle.nb_host.proofs.Common.{same_name}
 use Rattle.std.specs.Cmp.Lexicographic.{told_text, nat_list_eq_equiv}
-use Rattle.nb_host.specs.Names.{same_name}
 use Rattle.nb_host.specs.Files.{File, Files, with_file}
 use mathlib.Core.Path.{fun_ext}
 
@@ -74,3 +73,7 @@ with_file-keep files n = fun_ext (λ m. by_test m (same_name m n) refl)
     by_test : (m : List ℕ) (b : Bool) → b ≡ same_name m n → (if b then files n else files m) ≡ files m
     by_test m true is = ap files (sym (told_text m n true is))
     by_test m false is = refl
+
+-- the file under a name that was just given to it
+pub with_file-named : (old new : Files) (name : List ℕ) (file : File) → new ≡ with_file old name file → new name ≡ file
+with_file-named old new name file is = ap (λ (f : Files). f name) is ∙ with_file-same old name file

@@ -1,33 +1,7 @@
 -- What the tests of a standby and of a level file say of their merge, one after another.
-use Rattle.std.proofs.Common.{◌≡◌, ℕ, ◌-◌, List, [], ◌∷◌, drop, refl, sym, ap, ◌∙◌}
-use Rattle.std.specs.Prelude.{Bool, true, false, not, ◌||◌, ◌==◌, IsTrue, Some, None, Ok, Err}
-use Rattle.std.proofs.lemmas.Bool.{eqb-true}
-use Rattle.nb_fields.specs.Header.{state_of}
-use Rattle.nb_fields.specs.States.{applying_state}
-use Rattle.nb_host.specs.Files.{File, Files}
-use Rattle.nb_host.specs.Names.{same_name}
-use Rattle.nb_host.specs.declared.faults.Fault.{Fault}
-use Rattle.nb_host.specs.declared.faults.Fault.TheVariants.{Refused, Device, Memory}
-use Rattle.nb_host.specs.declared.refusals.Refusal.{Refusal}
-use Rattle.nb_host.specs.declared.refusals.Refusal.TheVariants.{NoFile, BadLevel, Unfinished, ChainGuid, ChainSize, ChainScn, Access}
-use Rattle.nb_page.specs.Header.{header_in}
-use Rattle.nb_page.specs.declared.header.Header.{Header}
-use Rattle.nb_model.specs.Causes.{Cause, first_cause, when}
-use Rattle.nb_model.specs.Image.{Page, image_in, is_read_only}
-use Rattle.nb_model.specs.InPlace.{written_since, other_pages, not_next, not_finishing, not_mergeable, not_standby, in_place}
-use Rattle.nb_model.specs.Levels.{Contents, with_head, read_level}
-use Rattle.nb_level.specs.Answers.{StartSays}
-use Rattle.nb_level.specs.Heads.{head_of}
-use Rattle.nb_level.specs.Reading.{Reading, still_to_come}
-use Rattle.nb_level.specs.declared.head.LevelHead.{LevelHead}
+use Rattle.std.proofs.Common.{◌≡◌, ℕ, ◌-◌, List, [], ◌∷◌, drop, refl, sym, ap, ◌∙◌, Bool, true, false, not, ◌||◌, ◌==◌, IsTrue, Some, None, Ok, Err}
+use Rattle.nb_inplace.proofs.Common.{eqb-true, state_of, applying_state, File, Files, same_name, Fault, Refused, Device, Memory, Refusal, NoFile, BadLevel, Unfinished, ChainGuid, ChainSize, ChainScn, Access, header_in, Header, Cause, first_cause, when, Page, image_in, is_read_only, written_since, other_pages, not_next, not_finishing, not_mergeable, not_standby, in_place, Contents, with_head, read_level, StartSays, head_of, Reading, still_to_come, LevelHead, with_head-is, Tested, AcceptSays, IsReaderOf, IsStandby, not_the_same, not_behind, head_cause, stamp_cause, Standby, some_none, some_same}
 use Rattle.nb_chain.specs.Level.{WholeSays, LevelRefused}
-use Rattle.nb_restore.proofs.AnswerLaws.{some_same}
-use Rattle.nb_level.proofs.ToldLaws.{with_head-is}
-use Rattle.nb_fixup.specs.Tests.{Tested}
-use Rattle.nb_inplace.specs.Accepted.{AcceptSays, IsReaderOf}
-use Rattle.nb_inplace.specs.Standby.{IsStandby}
-use Rattle.nb_inplace.specs.Tests.{not_the_same, not_behind, head_cause, stamp_cause}
-use Rattle.nb_inplace.specs.declared.standby.Standby.{Standby}
 use Rattle.nb_inplace.proofs.StandbyLaws.{not_there}
 use Rattle.nb_inplace.proofs.VerdictLaws.{by_state, mergeable_by, unfit, no_level, bad_level, answered, verdict_by}
 
@@ -37,9 +11,6 @@ firsts a b c d = first_cause (a ∷ b ∷ c ∷ d ∷ [])
 
 abbrev all_tests : (a b c d e : Cause) → Cause
 all_tests a b c d e = first_cause (a ∷ b ∷ c ∷ d ∷ e ∷ [])
-
-some_none : (r : Refusal) → Some r ≡ None → ⊥
-some_none r h = cc
 
 first_of : (a b c d e : Cause) (r : Refusal) → firsts a b c d ≡ Some r → all_tests a b c d e ≡ Some r
 unfolding first_cause

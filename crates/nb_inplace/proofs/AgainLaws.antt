@@ -1,34 +1,13 @@
 -- A merge that was stopped is finished by the same file again, and refused of every other.
-use Rattle.std.proofs.Common.{◌≡◌, ◌≢◌, ◌⊎◌, inl, inr, ℕ, List, [], ◌∷◌, refl, sym, ap, ◌∙◌, arith}
-use Rattle.std.specs.Prelude.{Bool, true, false, not, ◌||◌, ◌==◌, Some, None, Ok, Err}
-use Rattle.std.specs.Cmp.Lexicographic.{told_text}
-use Rattle.std.proofs.lemmas.Bool.{eq-eqb, or_from}
-use Rattle.nb_fields.specs.Header.{size_of, guid_of, pending_of}
-use Rattle.nb_host.specs.Files.{Files}
-use Rattle.nb_host.specs.Names.{same_name}
-use Rattle.nb_host.specs.declared.refusals.Refusal.{Refusal}
-use Rattle.nb_host.specs.declared.refusals.Refusal.TheVariants.{Unfinished, ChainSize}
-use Rattle.nb_model.specs.Causes.{Cause, first_cause, when}
-use Rattle.nb_model.specs.InPlace.{is_another, not_finishing, not_mergeable, not_standby, in_place}
-use Rattle.nb_model.specs.Levels.{Contents, read_level}
-use Rattle.nb_model.proofs.RunLaws.{same_self}
-use Rattle.nb_cases.specs.Events.{IsFileIn}
+use Rattle.std.proofs.Common.{◌≡◌, ◌≢◌, ◌⊎◌, inl, inr, ℕ, List, [], ◌∷◌, refl, sym, ap, ◌∙◌, arith, Bool, true, false, not, ◌||◌, ◌==◌, Some, None, Ok, Err}
+use Rattle.nb_inplace.proofs.Common.{eq-eqb, or_from, size_of, guid_of, pending_of, Files, same_name, Refusal, Unfinished, ChainSize, Cause, first_cause, when, is_another, not_finishing, not_mergeable, not_standby, in_place, Contents, read_level, IsFileIn, IsMergeable, IsHalf, same_other, same_self}
 use Rattle.nb_cases.specs.declared.events.Event.TheVariants.{Apply}
 use Rattle.nb_cases.proofs.EventLaws.{the_cases}
-use Rattle.nb_inplace.specs.Verdict.{IsMergeable}
-use Rattle.nb_inplace.specs.Half.{IsHalf}
 use Rattle.nb_inplace.proofs.VerdictLaws.{IsAccepted, accepted, answered, verdict_by}
 use Rattle.nb_inplace.proofs.HalfLaws.{half_state, half_pending, half_previous, half_size}
 
 same_texts : (a b : List ℕ) → a ≡ b → same_name a b ≡ true
 same_texts a b e = ap (same_name a) (sym e) ∙ same_self a
-
-pub other_texts : (a b : List ℕ) → a ≢ b → same_name a b ≡ false
-other_texts a b other = by (same_name a b) refl
-  where
-    by : (t : Bool) → t ≡ same_name a b → same_name a b ≡ false
-    by true is = absurd (other (told_text a b true is))
-    by false is = sym is
 
 -- what is asked of a standby in the applying state
 abbrev cause_of : (another sized : Bool) → Refusal → Cause
@@ -69,8 +48,8 @@ module _ (standby bytes : List ℕ) (is : IsFileIn 3 bytes) (files : Files) (nam
       second false b e = refl
 
       another : (pending_of bytes ≢ c.head.guid) ⊎ (guid_of bytes ≢ c.head.previous) → is_another bytes c ≡ true
-      another (inl pending) = ap (λ (t : Bool). not t || not (same_name (guid_of bytes) c.head.previous)) (other_texts (pending_of bytes) c.head.guid pending)
-      another (inr previous) = second (same_name (pending_of bytes) c.head.guid) (same_name (guid_of bytes) c.head.previous) (other_texts (guid_of bytes) c.head.previous previous)
+      another (inl pending) = ap (λ (t : Bool). not t || not (same_name (guid_of bytes) c.head.previous)) (same_other (pending_of bytes) c.head.guid pending)
+      another (inr previous) = second (same_name (pending_of bytes) c.head.guid) (same_name (guid_of bytes) c.head.previous) (same_other (guid_of bytes) c.head.previous previous)
 
 -- What a half of a mergeable standby is answered.
 module _ (old files : Files) (standby name bytes half : List ℕ) (c : Contents) (m : IsMergeable old standby name bytes c) (h : IsHalf bytes c half) (here : files standby ≡ Some half) where

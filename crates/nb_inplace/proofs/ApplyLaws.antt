@@ -1,57 +1,12 @@
 -- What a merge changes and leaves, from the tests on.
-use Rattle.std.proofs.Math.Nat.{mul-div_cancel}
-use Rattle.std.proofs.Common.{◌/◌, take, ◌≡◌, ◌≢◌, ◌⊎◌, inl, inr, ⊎_elim, ℕ, ◌*◌, ◌<◌, ◌≤◌, List, [], ◌∷◌, ◌++◌, length, refl, sym, ap, subst, ◌∙◌, arith}
-use Rattle.std.specs.Prelude.{true, Some, None, Result, Ok, Err, Contains}
-use Rattle.std.proofs.lemmas.Bool.{eqb-true}
-use Rattle.std.proofs.lemmas.List.{take-append-le}
-use Rattle.nb_fields.specs.Header.{is_header, state_of, size_of}
-use Rattle.nb_fields.proofs.SizeLaws.{size_facts}
-use Rattle.nb_host.specs.Files.{File, Files, bytes_of}
-use Rattle.nb_host.specs.World.{World}
-use Rattle.nb_host.specs.Crash.{Leaves, LeavesAll, IsDurable}
-use Rattle.nb_host.specs.declared.faults.Fault.{Fault}
-use Rattle.nb_host.specs.declared.faults.Fault.TheVariants.{Refused, Device, Memory}
-use Rattle.nb_host.specs.declared.refusals.Refusal.{Refusal}
-use Rattle.nb_change.specs.Changes.{Changes, Only, NoNames, Remade}
-use Rattle.nb_change.specs.Gave.{GaveNothing}
-use Rattle.nb_change.proofs.ChangesLaws.{rested, kept_then}
-use Rattle.nb_change.proofs.GaveLaws.{nothing_joined}
+use Rattle.std.proofs.Common.{◌/◌, take, ◌≡◌, ◌≢◌, ◌⊎◌, inl, inr, ⊎_elim, ℕ, ◌*◌, ◌<◌, ◌≤◌, List, [], ◌∷◌, ◌++◌, length, refl, sym, ap, subst, ◌∙◌, arith, true, Some, None, Result, Ok, Err, Contains}
+use Rattle.nb_inplace.proofs.Common.{mul-div_cancel, eqb-true, take-append-le, is_header, state_of, size_of, size_facts, File, Files, bytes_of, World, Leaves, LeavesAll, IsDurable, Fault, Refused, Device, Memory, Refusal, Changes, Only, NoNames, Remade, GaveNothing, rested, kept_then, nothing_joined, header_in, Header, Quiet, Page, Image, Numbered, first_page, image_size, image_in, trimmed, overwritten, in_place, Head, Contents, joined, read_level, HoldsMain, delta_name, main_page, IsOfSize, as_standby, merged, formed, no_cause, header-long, header-other, same-header, same-number, trimmed-append_zeros, trimmed-other, length-joined, IsLaid, laid, image_in-is, owner_main, header_no_level, trimmed_alike, trimmed_page, Reading, still_to_come, level-headed, Standby, IsFitFor, AcceptSays, base_with, IsHalfIn, ApplyLeft, ApplyAnswers, Applies, applying_page, IsBetween, IsHalf, IsDoneBy, IsHalfFile, merged_pages, IsHalfOr, KeepsMerged, IsPlan, ReadySays, IsWholeStandby, stamp_cause, IsMergeable, level_pages, some_same, err_not_ok}
 use Rattle.nb_change.proofs.MomentLaws.{left_before}
 use Rattle.nb_change.proofs.SettledLaws.{durable_is}
-use Rattle.nb_page.specs.Header.{header_in}
-use Rattle.nb_page.specs.declared.header.Header.{Header}
-use Rattle.nb_page.specs.Quiet.{Quiet}
-use Rattle.nb_model.specs.Image.{Page, Image, Numbered, first_page, image_size, image_in, trimmed, overwritten}
-use Rattle.nb_model.specs.InPlace.{in_place}
-use Rattle.nb_model.specs.Levels.{Head, Contents, joined, read_level}
-use Rattle.nb_model.specs.Main.{HoldsMain}
-use Rattle.nb_model.specs.Owner.{delta_name, main_page}
-use Rattle.nb_model.specs.Sound.{IsOfSize}
-use Rattle.nb_model.specs.Strokes.{as_standby, merged}
 use Rattle.nb_model.specs.Trail.{ShowsIn}
-use Rattle.nb_model.proofs.FormLaws.{formed, no_cause}
-use Rattle.nb_model.proofs.HeaderLaws.{header-long, header-other, same-header, same-number}
-use Rattle.nb_model.proofs.ImageLaws.{trimmed-append_zeros, trimmed-other, length-joined}
-use Rattle.nb_model.proofs.MainLaws.{IsLaid, laid, image_in-is, owner_main}
-use Rattle.nb_model.proofs.StandsLaws.{header_no_level}
-use Rattle.nb_model.proofs.TrimLaws.{trimmed_alike, trimmed_page}
-use Rattle.nb_level.specs.Reading.{Reading, still_to_come}
 use Rattle.nb_restore.specs.Sources.{AreHeaded}
-use Rattle.nb_restore.proofs.AnswerLaws.{some_same, err_ok}
-use Rattle.nb_restore.proofs.HeadLaws.{level-headed}
-use Rattle.nb_inplace.specs.declared.standby.Standby.{Standby}
-use Rattle.nb_inplace.specs.Accepted.{IsFitFor, AcceptSays}
-use Rattle.nb_inplace.specs.Apply.{base_with, IsHalfIn, ApplyLeft, ApplyAnswers, Applies}
-use Rattle.nb_inplace.specs.Half.{applying_page, IsBetween, IsHalf}
-use Rattle.nb_inplace.specs.Merging.{IsDoneBy, IsHalfFile, merged_pages, IsHalfOr, KeepsMerged}
-use Rattle.nb_inplace.specs.Plan.{IsPlan}
-use Rattle.nb_inplace.specs.Ready.{ReadySays}
-use Rattle.nb_inplace.specs.Standby.{IsWholeStandby}
-use Rattle.nb_inplace.specs.Tests.{stamp_cause}
-use Rattle.nb_inplace.specs.Verdict.{IsMergeable}
 use Rattle.nb_inplace.proofs.AcceptLaws.{head_clears}
 use Rattle.nb_inplace.proofs.ControlLaws.{applying-size, applying-header}
-use Rattle.nb_level.proofs.PagesLaws.{level_pages}
 use Rattle.nb_inplace.proofs.FirstLaws.{level_first}
 use Rattle.nb_inplace.proofs.HalfLaws.{front_size, itself_half}
 use Rattle.nb_inplace.proofs.PagesLaws.{over_alike}
@@ -282,7 +237,7 @@ module _ (old : World) (standby name : List ℕ) (s : Standby) (reader : Reading
         left = left_all left.left;
         reads = reads_all left;
         gave = nothing_joined old mid new (record { guids = quiet.guids; times = quiet.times }) gave;
-        refused = λ refusal is. absurd (err_ok refusal c (in_place files standby name) is m.accepted);
+        refused = λ refusal is. absurd (err_not_ok refusal c (in_place files standby name) is m.accepted);
       }
 
       -- The device failed,

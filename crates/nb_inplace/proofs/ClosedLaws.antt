@@ -1,27 +1,10 @@
 -- A standby that is half merged can't be opened, and its name can't be taken.
-use Rattle.std.proofs.Common.{◌≡◌, ◌≢◌, ℕ, List, refl, sym, ap, ◌∙◌}
-use Rattle.std.specs.Prelude.{Bool, true, false, ◌==◌, Some, Err, IsTrue}
-use Rattle.std.proofs.lemmas.Bool.{and_from, eq-eqb}
+use Rattle.std.proofs.Common.{◌≡◌, ◌≢◌, ℕ, List, refl, sym, ap, ◌∙◌, Bool, true, false, ◌==◌, Some, Err, IsTrue}
+use Rattle.nb_inplace.proofs.Common.{and_from, eq-eqb, is_header, state_of, applying_state, File, Files, Refusal, Unfinished, Plain, Contents, owner, owner_in, entry_of_files, nil, is_applying, formed, owner-formed, IsHalf, IsMergeable}
 use Rattle.nb_fields.specs.Free.{is_free_file}
-use Rattle.nb_fields.specs.Header.{is_header, state_of}
-use Rattle.nb_fields.specs.States.{applying_state}
-use Rattle.nb_host.specs.Files.{File, Files}
-use Rattle.nb_host.specs.declared.refusals.Refusal.{Refusal}
-use Rattle.nb_host.specs.declared.refusals.Refusal.TheVariants.{Unfinished}
-use Rattle.nb_model.specs.Account.{Plain}
-use Rattle.nb_model.specs.Levels.{Contents}
-use Rattle.nb_model.specs.Owner.{owner, owner_in, entry_of_files}
-use Rattle.nb_model.specs.Stands.{nil, is_applying}
-use Rattle.nb_model.proofs.FormLaws.{formed}
 use Rattle.nb_model.proofs.FreeLaws.{free_header}
-use Rattle.nb_model.proofs.MainLaws.{owner-formed}
-use Rattle.nb_inplace.specs.Half.{IsHalf}
-use Rattle.nb_inplace.specs.Verdict.{IsMergeable}
 use Rattle.nb_inplace.proofs.HalfLaws.{half_state, half_pending}
-
-applying_closed : (name bytes : List ℕ) (delta : File) → owner_in 3 name bytes delta ≡ Err Unfinished
-unfolding owner_in
-applying_closed name bytes delta = refl
+use Rattle.nb_model.proofs.OpeningLaws.{owner_applying}
 
 -- what can't be opened is a plain file
 pub closed_entry : (name bytes : List ℕ) (delta : File) (r : Refusal) → owner name (Some bytes) delta ≡ Err r → entry_of_files name (Some bytes) delta ≡ Plain bytes delta
@@ -40,7 +23,7 @@ module _ (files : Files) (standby name bytes : List ℕ) (c : Contents) (m : IsM
   half_applying = is_applying_so half half_header (half_state files standby name bytes c m half h)
 
   pub half_closed : (delta : File) → owner standby (Some half) delta ≡ Err Unfinished
-  half_closed delta = owner-formed standby half delta h.formed ∙ ap (λ (n : ℕ). owner_in n standby half delta) (half_state files standby name bytes c m half h) ∙ applying_closed standby half delta
+  half_closed delta = owner-formed standby half delta h.formed ∙ ap (λ (n : ℕ). owner_in n standby half delta) (half_state files standby name bytes c m half h) ∙ owner_applying standby half delta
 
   pub half_in_use : c.head.guid ≢ nil → is_free_file (Some half) ≡ false
   half_in_use some = by (is_free_file (Some half)) refl

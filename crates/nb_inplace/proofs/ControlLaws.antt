@@ -1,19 +1,9 @@
 -- Page 0 in the applying state, and page 0 of a standby: which fields change, and that no other does.
-use Rattle.std.proofs.Common.{◌≡◌, inl, inr, ℕ, ◌+◌, ◌/◌, ◌%◌, ◌≤◌, List, [], ◌∷◌, ◌++◌, length, take, drop, replicate, refl, sym, ap, ◌∙◌, arith}
-use Rattle.std.specs.Prelude.{true}
-use Rattle.std.proofs.lemmas.Bool.{and_parts, and_from}
-use Rattle.std.proofs.lemmas.List.{take-append-drop, drop-drop}
-use Rattle.nb_fields.specs.Bytes.{number_of, bytes_of, with_part, part, number_in, AreApart}
-use Rattle.nb_fields.specs.Header.{is_header, is_marked, is_sound, state_of, size_of, scn_of, guid_of, pending_of}
+use Rattle.std.proofs.Common.{◌≡◌, inl, inr, ℕ, ◌+◌, ◌/◌, ◌%◌, ◌≤◌, List, [], ◌∷◌, ◌++◌, length, take, drop, replicate, refl, sym, ap, ◌∙◌, arith, true}
+use Rattle.nb_inplace.proofs.Common.{and_parts, and_from, take-append-drop, drop-drop, number_of, with_part, part, number_in, AreApart, is_header, is_marked, is_sound, state_of, size_of, scn_of, guid_of, pending_of, length-part, length-with_part, part-with_part, part-with_part_other, number_in-with_part, number_in-with_part_other, normal_state, stalled_state, merge_state, applying_state, Header, Page, standby_page, header-long, form, header-size, header-scn, applying_page}
+use Rattle.nb_fields.specs.Bytes.{bytes_of}
 use Rattle.nb_fields.proofs.HeaderLaws.{is_header-long}
-use Rattle.nb_fields.proofs.PartLaws.{length-part, length-with_part, part-with_part, part-with_part_other, number_in-with_part, number_in-with_part_other}
-use Rattle.nb_fields.specs.States.{normal_state, stalled_state, merge_state, applying_state}
-use Rattle.nb_page.specs.declared.header.Header.{Header}
 use Rattle.nb_page.proofs.HeaderLaws.{is_sound-form}
-use Rattle.nb_model.specs.Image.{Page}
-use Rattle.nb_model.specs.Strokes.{standby_page}
-use Rattle.nb_model.proofs.HeaderLaws.{header-long, form, header-size, header-scn}
-use Rattle.nb_inplace.specs.Half.{applying_page}
 
 -- the state has two bytes
 two : (state : ℕ) → length (bytes_of 2 state) ≡ merge_state

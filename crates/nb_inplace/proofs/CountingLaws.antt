@@ -1,14 +1,6 @@
 -- Counting the pages of a standby's image from its file's end.
-use Rattle.std.proofs.Common.{◌≡◌, ℕ, zero, suc, ◌+◌, ◌-◌, ◌*◌, ◌<◌, ◌≤◌, List, [], ◌∷◌, length, drop, refl, sym, ap, ◌∙◌, arith, mul-le-mul_right, add-mul}
-use Rattle.std.specs.Prelude.{Bool, true, false, Some}
-use Rattle.nb_fields.specs.Bytes.{is_zeros}
-use Rattle.nb_host.specs.Files.{File, bytes_of}
-use Rattle.nb_host.specs.Calls.{ReadsPage}
-use Rattle.nb_model.specs.Image.{Page, Image, page_at, trimmed}
-use Rattle.nb_model.specs.Levels.{joined}
-use Rattle.nb_model.specs.Sound.{IsOfSize}
-use Rattle.nb_model.proofs.ImageLaws.{length-joined}
-use Rattle.nb_chain.specs.Overlay.{without_blank}
+use Rattle.std.proofs.Common.{◌≡◌, ℕ, zero, suc, ◌+◌, ◌-◌, ◌*◌, ◌<◌, ◌≤◌, List, [], ◌∷◌, length, drop, refl, sym, ap, ◌∙◌, arith, mul-le-mul_right, add-mul, Bool, true, false, Some}
+use Rattle.nb_inplace.proofs.Common.{is_zeros, File, bytes_of, ReadsPage, Page, Image, page_at, trimmed, joined, IsOfSize, length-joined, without_blank}
 use Rattle.nb_chain.proofs.CountLaws.{length_trimmed, found_filled, found_blank}
 use Rattle.nb_restore.proofs.PageLaws.{read_whole}
 

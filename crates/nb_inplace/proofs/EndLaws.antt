@@ -1,21 +1,6 @@
 -- Page 0 of a standby makes the file the database that the merge gives.
-use Rattle.std.proofs.Common.{◌≡◌, ℕ, ◌*◌, ◌≤◌, [], ◌∷◌, ◌++◌, length, sym, ap, subst, ◌∙◌, arith}
-use Rattle.std.specs.Prelude.{true, IsTrue, Some}
-use Rattle.nb_fields.specs.Header.{is_header, size_of}
-use Rattle.nb_fields.specs.Places.{is_page_size, most_pages}
-use Rattle.nb_fields.proofs.SizeLaws.{size_facts}
-use Rattle.nb_host.specs.Files.{File, put_at, with_page}
-use Rattle.nb_model.specs.Image.{Page, Image, trimmed}
-use Rattle.nb_model.specs.Levels.{joined}
-use Rattle.nb_model.specs.Main.{HoldsMain}
-use Rattle.nb_model.specs.Sound.{IsOfSize}
-use Rattle.nb_model.specs.Strokes.{standby_page, as_standby}
-use Rattle.nb_model.proofs.HeaderLaws.{header-other}
-use Rattle.nb_model.proofs.ImageLaws.{Trimming, trimming, trimmed-other, trimmed-before}
-use Rattle.nb_model.proofs.MainLaws.{main_laid}
-use Rattle.nb_model.proofs.PutLaws.{put-first}
-use Rattle.nb_restore.specs.Copied.{Holds}
-use Rattle.nb_restore.proofs.HeadLaws.{HasHead}
+use Rattle.std.proofs.Common.{◌≡◌, ℕ, ◌*◌, ◌≤◌, [], ◌∷◌, ◌++◌, length, sym, ap, subst, ◌∙◌, arith, true, IsTrue, Some}
+use Rattle.nb_inplace.proofs.Common.{is_header, size_of, is_page_size, most_pages, size_facts, File, put_at, with_page, Page, Image, trimmed, joined, HoldsMain, IsOfSize, standby_page, as_standby, header-other, Trimming, trimming, trimmed-other, trimmed-before, main_laid, put-first, Holds, HasHead}
 use Rattle.nb_inplace.proofs.ControlLaws.{standby-long, standby-state, standby-size, standby-header}
 
 whole : (size : ℕ) (p : Page) (ps : Image) → IsTrue (is_page_size size) → IsOfSize size (p ∷ ps) → is_header p ≡ true → size_of p ≡ size → 5 ≤ length (p ∷ ps) → length (p ∷ ps) ≤ most_pages
@@ -50,10 +35,7 @@ pub merged_whole : (size : ℕ) (start first : Page) (image : Image) (file : Fil
 merged_whole size start first image file is holds head last last_is = by image holds head
   where
     by : (i : Image) → Holds size start first i file → HasHead size 5 i → HoldsMain (as_standby (trimmed i)) (with_page file (0 * length last) last)
-    by [] h k = absurd (none h.some)
-      where
-        none : 1 ≤ 0 → ⊥
-        none j = omega arith
+    by [] h k = absurd (let few : 1 ≤ 0 = h.some in omega (arith, few))
     by (p ∷ ps) h k =
         let wide = (size_facts size is).at_least in
         let page : last ≡ standby_page p = last_is ∙ ap standby_page h.page_0 in

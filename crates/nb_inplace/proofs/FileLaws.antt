@@ -1,31 +1,8 @@
 -- The file of a standby, while pages of a level file are written into it.
-use Rattle.std.proofs.Common.{◌≡◌, ◌⊎◌, inl, inr, ℕ, zero, suc, ◌+◌, ◌*◌, ◌<◌, ◌≤◌, List, [], ◌∷◌, ◌++◌, length, drop, replicate, refl, sym, ap, subst, ◌∙◌, arith, length-append, mul-le-mul_right, add-mul, suc-mul, le_of_mul-le-mul_right}
-use Rattle.std.specs.Prelude.{true, Some, Contains}
-use Rattle.nb_fields.specs.Bytes.{is_zeros}
-use Rattle.nb_fields.specs.Places.{most_pages}
-use Rattle.std.proofs.lemmas.Bool.{cases_eq}
-use Rattle.std.proofs.lemmas.List.{length-replicate}
-use Rattle.nb_host.specs.Files.{File, bytes_of as file_bytes, put_at, with_page}
-use Rattle.nb_host.specs.Crash.{PageLeft}
-use Rattle.nb_model.specs.Image.{Page, Image, Numbered, first_page, written_at}
-use Rattle.nb_model.specs.Levels.{joined}
-use Rattle.nb_model.specs.Owner.{main_page}
-use Rattle.nb_model.specs.Sound.{IsOfSize}
-use Rattle.nb_model.proofs.ImageLaws.{all-append, all-replicate, zeros-are, joined-append, length-joined, joined-zeros}
-use Rattle.nb_model.proofs.OwnerLaws.{other_page}
-use Rattle.nb_model.proofs.PutLaws.{put-first}
-use Rattle.nb_model.proofs.TrimLaws.{main_tail, zeros_behind}
-use Rattle.nb_chain.proofs.ImageLaws.{length-written}
-use Rattle.nb_restore.proofs.AnswerLaws.{some_same}
-use Rattle.nb_restore.proofs.CopiedLaws.{put-written, written-sizes, first-written}
-use Rattle.nb_inplace.specs.Half.{IsBetween}
-use Rattle.nb_inplace.specs.Merging.{IsHalfFile, KeepsHalf}
+use Rattle.std.proofs.Common.{◌≡◌, ◌⊎◌, inl, inr, ℕ, zero, suc, ◌+◌, ◌*◌, ◌<◌, ◌≤◌, List, [], ◌∷◌, ◌++◌, length, drop, replicate, refl, sym, ap, subst, ◌∙◌, arith, length-append, mul-le-mul_right, add-mul, suc-mul, le_of_mul-le-mul_right, true, Some, Contains}
+use Rattle.nb_inplace.proofs.Common.{is_zeros, most_pages, cases_eq, length-replicate, File, put_at, with_page, PageLeft, Page, Image, Numbered, first_page, written_at, joined, main_page, IsOfSize, all-append, all-replicate, zeros-are, joined-append, length-joined, joined-zeros, other_page, put-first, main_tail, zeros_behind, length-written, put-written, written-sizes, first-written, IsBetween, IsHalfFile, KeepsHalf, some_same, first_and_rest}
+use Rattle.nb_host.specs.Files.{bytes_of as file_bytes}
 use Rattle.nb_inplace.proofs.PagesLaws.{written_page}
-
--- a list of pages is its first, and the others
-first_and_rest : (xs : Image) → 1 ≤ length xs → xs ≡ first_page xs ∷ drop 1 xs
-first_and_rest [] some = absurd (omega (arith, some))
-first_and_rest (x ∷ xs) some = refl
 
 module _ (size : ℕ) (records : List Numbered) (before : Image) (first : Page) where
   -- such a list, whatever it is called

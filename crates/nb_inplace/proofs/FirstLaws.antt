@@ -1,10 +1,7 @@
 -- Each level file has page 0.
-use Rattle.std.proofs.Common.{◌≡◌, ℕ, List, [], ◌∷◌, ap, arith}
-use Rattle.std.specs.Prelude.{Ok, Contains}
-use Rattle.nb_model.specs.Image.{Page, Numbered}
-use Rattle.nb_model.specs.Levels.{Head, Contents, read_level}
+use Rattle.std.proofs.Common.{◌≡◌, ℕ, List, [], ◌∷◌, ap, arith, Ok, Contains}
+use Rattle.nb_inplace.proofs.Common.{Page, Numbered, Head, Contents, read_level, level_pages}
 use Rattle.nb_model.proofs.LevelWalk.{FirstIsZero}
-use Rattle.nb_level.proofs.PagesLaws.{level_pages}
 
 -- there is a page 0 among these
 abbrev pub HasFirst : List Numbered → Type 0

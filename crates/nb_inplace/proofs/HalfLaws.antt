@@ -1,24 +1,8 @@
 -- A standby that is half merged: the same file gives the same image over it, and goes on with it, and so does no other file.
-use Rattle.std.proofs.Common.{◌≡◌, ◌⊎◌, inl, inr, ℕ, zero, suc, ◌+◌, ◌≤◌, List, length, take, refl, sym, ap, subst, ◌∙◌, arith}
-use Rattle.std.specs.Prelude.{None, Contains}
-use Rattle.nb_fields.specs.Bytes.{part}
-use Rattle.nb_fields.specs.Header.{state_of, size_of, guid_of, pending_of}
-use Rattle.nb_fields.proofs.PartLaws.{part-take}
-use Rattle.nb_fields.specs.States.{applying_state}
-use Rattle.nb_host.specs.Files.{Files}
-use Rattle.nb_model.specs.Causes.{not_database}
-use Rattle.nb_model.specs.Image.{Page, Image, Numbered, first_page, image_size, image_in, trimmed, overwritten}
-use Rattle.nb_model.specs.Levels.{Contents}
-use Rattle.nb_model.specs.Owner.{main_page}
-use Rattle.nb_model.specs.Strokes.{as_standby, merged}
-use Rattle.nb_model.proofs.HeaderLaws.{header-long, same-number}
-use Rattle.nb_model.proofs.MainLaws.{IsLaid, laid, laid-front}
-use Rattle.nb_model.proofs.TrimLaws.{trimmed_alike}
-use Rattle.nb_inplace.specs.Verdict.{IsMergeable}
-use Rattle.nb_inplace.specs.Half.{applying_page, IsBetween, IsHalf}
+use Rattle.std.proofs.Common.{◌≡◌, ◌⊎◌, inl, inr, ℕ, zero, suc, ◌+◌, ◌≤◌, List, length, take, refl, sym, ap, subst, ◌∙◌, arith, None, Contains}
+use Rattle.nb_inplace.proofs.Common.{part, state_of, size_of, guid_of, pending_of, part-take, applying_state, Files, not_database, Page, Image, Numbered, first_page, image_size, image_in, trimmed, overwritten, Contents, main_page, as_standby, merged, header-long, same-number, IsLaid, laid, laid-front, trimmed_alike, IsMergeable, applying_page, IsBetween, IsHalf, level_pages}
 use Rattle.nb_inplace.proofs.PagesLaws.{over_alike}
 use Rattle.nb_inplace.proofs.VerdictLaws.{IsAccepted, IsFor, as_it_stands, begun, accepted}
-use Rattle.nb_level.proofs.PagesLaws.{level_pages}
 use Rattle.nb_inplace.proofs.FirstLaws.{HasFirst, level_first}
 use Rattle.nb_inplace.proofs.ControlLaws.{applying-size, applying-state, applying-pending, applying-guid, applying_same, applying_twice}
 

@@ -1,23 +1,12 @@
 -- A level file whose record is kept: which record it goes on from, and what it holds.
-use Rattle.std.proofs.Common.{◌≡◌, ◌≢◌, ◌⊎◌, inl, inr, ℕ, ◌≤◌, List, [], ◌∷◌, length, refl, sym, ap, subst, ◌∙◌}
-use Rattle.std.specs.Prelude.{false, nat_le, Some, None, Ok, Contains}
-use Rattle.std.proofs.lemmas.Bool.{and_parts, true≢false}
+use Rattle.std.proofs.Common.{◌≡◌, ◌≢◌, ◌⊎◌, inl, inr, ℕ, ◌≤◌, List, [], ◌∷◌, length, refl, sym, ap, subst, ◌∙◌, false, nat_le, Some, None, Ok, Contains}
+use Rattle.nb_inplace.proofs.Common.{and_parts, true≢false, Files, is_delta, Ask, Kept, Account, image_size, Head, Contents, taken, head_in, head_for, level_bytes, read_level, Link, level_link, next_link, next_links, IsSoundImage, nil, to_record, IsKeptAs, IsBegun, IsLineTo, IsAncestor, IsSpan, Stands, level_told, some_same, ok_same, head_same}
 use Rattle.std.proofs.lemmas.Bool.Decides.{leb_tells}
-use Rattle.nb_host.specs.Files.{Files}
-use Rattle.nb_host.specs.Names.{is_delta}
-use Rattle.nb_model.specs.Account.{Ask, Kept, Account}
-use Rattle.nb_model.specs.Image.{image_size}
-use Rattle.nb_model.specs.Levels.{Head, Contents, taken, head_in, head_for, level_bytes, read_level}
-use Rattle.nb_model.specs.Restoring.{Link, level_link, next_link, next_links}
-use Rattle.nb_model.specs.Sound.{IsSoundImage}
-use Rattle.nb_model.specs.Stands.{nil, to_record, IsKeptAs, IsBegun, IsLineTo, IsAncestor, IsSpan, Stands}
 use Rattle.nb_model.proofs.ChainLaws.{kept_accepted}
-use Rattle.nb_restore.proofs.AnswerLaws.{ok_same, some_same}
 use Rattle.nb_restore.proofs.AskLaws.{with_ask, guid_long}
 use Rattle.nb_restore.proofs.ChainLaws.{split_next}
 use Rattle.nb_restore.proofs.KeptNext.{HoldsKeptNext, kept_next, file_level, own_file}
 use Rattle.nb_restore.proofs.ParentLaws.{LeadsTo, AsksFrom, own_asks, span_asks}
-use Rattle.nb_level.proofs.ToldLaws.{level_told}
 use Rattle.nb_restore.proofs.ReadLaws.{reads_previous}
 
 -- an ancestor is kept
@@ -123,7 +112,7 @@ module _ (files : Files) (account : Account) (stands : Stands files account) (na
   of_record =
       let split = split_next files c.head.level base name [] (link ∷ []) (one_next files c.head.level base name level link there accepted) in
       let contents : split.level.contents ≡ c = ok_same split.level.contents c (read_level level) (ap read_level (some_same level split.bytes (sym there ∙ split.there)) ∙ split.level.read) read in
-      let first : link ≡ split.link = first_same link split.link [] split.rest split.all in
+      let first : link ≡ split.link = head_same link split.link [] split.rest split.all in
       let link_is : link ≡ level_link c = first ∙ split.level.is ∙ ap level_link contents in
       record {
         from = from;
@@ -136,6 +125,3 @@ module _ (files : Files) (account : Account) (stands : Stands files account) (na
         size = sym (ap (λ (l : Link). l.size) link_is);
         pages = sym (ap (λ (l : Link). l.pages) link_is);
       }
-    where
-      first_same : (a b : Link) (ls ms : List Link) → a ∷ ls ≡ b ∷ ms → a ≡ b
-      first_same a b ls ms e = cc

@@ -1,22 +1,6 @@
 -- A merge of a kept backup: it gives the image that the begin of the backup kept, and what is half merged can be gone on with.
-use Rattle.std.proofs.Common.{◌≡◌, ◌≢◌, inr, ℕ, ◌<◌, ◌≤◌, List, length, refl, sym, ap, subst, ◌∙◌, arith}
-use Rattle.std.specs.Prelude.{Some, Ok, Contains}
-use Rattle.nb_fields.specs.Page.{stamp_of}
-use Rattle.nb_fields.specs.Header.{state_of, size_of, guid_of, pending_of}
-use Rattle.nb_fields.specs.States.{normal_state, applying_state}
-use Rattle.nb_host.specs.Files.{File, Files}
-use Rattle.nb_model.specs.Account.{Kept, Base, base_of, Plain, IsBase, Account, with_entry}
-use Rattle.nb_model.specs.Image.{Image, Numbered, first_page, image_guid, image_in, trimmed, overwritten}
-use Rattle.nb_model.specs.InPlace.{written_since, other_pages}
-use Rattle.nb_model.specs.Levels.{Contents}
-use Rattle.nb_model.specs.Owner.{delta_name, owner, entry_of_files}
-use Rattle.nb_model.specs.Sound.{IsSoundImage}
-use Rattle.nb_model.specs.Stands.{nil, IsKeptAs, to_base, to_record, IsBegun, GoesOn, NamesItsPast, HoldsItsRecord, IsStopped, Stands}
-use Rattle.nb_model.specs.Strokes.{as_standby, merged}
-use Rattle.nb_model.proofs.MainLaws.{owner_main}
-use Rattle.nb_model.proofs.StandsLaws.{header_no_level, opened_entry, StandsUnder, stands_with_both}
-use Rattle.nb_restore.proofs.AnswerLaws.{some_same}
-use Rattle.nb_inplace.specs.Half.{IsBetween, IsHalf}
+use Rattle.std.proofs.Common.{◌≡◌, ◌≢◌, inr, ℕ, ◌<◌, ◌≤◌, List, length, refl, sym, ap, subst, ◌∙◌, arith, Some, Ok, Contains}
+use Rattle.nb_inplace.proofs.Common.{stamp_of, state_of, size_of, guid_of, pending_of, normal_state, applying_state, File, Files, Kept, base_of, Plain, IsBase, Account, with_entry, Image, Numbered, first_page, image_guid, image_in, trimmed, overwritten, written_since, other_pages, Contents, delta_name, owner, entry_of_files, IsSoundImage, nil, IsKeptAs, to_base, to_record, IsBegun, GoesOn, NamesItsPast, HoldsItsRecord, IsStopped, Stands, as_standby, merged, owner_main, header_no_level, opened_entry, StandsUnder, stands_with_both, IsBetween, IsHalf, formed, some_same, plain_base}
 use Rattle.nb_inplace.specs.Kept.{MergesBackup}
 use Rattle.nb_inplace.proofs.ClosedLaws.{closed_entry, is_applying_so, half_header, half_applying, half_closed}
 use Rattle.nb_inplace.proofs.HalfLaws.{front_size, front_guid, half_state, half_pending, half_size, half_previous}
@@ -24,7 +8,6 @@ use Rattle.nb_inplace.proofs.KeptLaws.{IsOfRecord, of_record, ancestor_there}
 use Rattle.nb_inplace.proofs.SeenLaws.{image_seen, none_seen, none_there}
 use Rattle.nb_inplace.proofs.VerdictLaws.{GoesOnFrom, IsTheSame, IsFor, as_it_stands, begun, IsAccepted, accepted}
 use Rattle.nb_inplace.proofs.WayLaws.{IsOnTheWay, way_gives, way_on, way_begins}
-use Rattle.nb_model.proofs.FormLaws.{formed}
 
 module _ (files : Files) (account : Account) (stands : Stands files account) (standby name bytes : List ℕ) (c : Contents) (merges : MergesBackup files standby name bytes c) where
   abbrev its : IsAccepted files name bytes c
@@ -136,9 +119,6 @@ module _ (files : Files) (account : Account) (stands : Stands files account) (st
     abbrev beside : File
     beside = new (delta_name standby)
 
-    no_base : (b : Base) → Plain half beside ≡ IsBase b → ⊥
-    no_base b e = cc
-
     is_it : (x : List ℕ) → new standby ≡ Some x → half ≡ x
     is_it x there = some_same half x (sym here ∙ there)
 
@@ -156,10 +136,10 @@ module _ (files : Files) (account : Account) (stands : Stands files account) (st
     half_under : StandsUnder new then.kept standby (Plain half beside)
     half_under = record {
       same = sym (ap (λ (f : File). entry_of_files standby f beside) here ∙ closed_entry standby half beside _ (half_closed files standby name bytes c merges.mergeable half h beside));
-      frozen = λ b e stalled. absurd (no_base b e);
-      sound = λ b e. absurd (no_base b e);
-      stalled = λ b e stalled. absurd (no_base b e);
-      past = λ b e. absurd (no_base b e);
+      frozen = λ b e stalled. absurd (plain_base half beside b e);
+      sound = λ b e. absurd (plain_base half beside b e);
+      stalled = λ b e stalled. absurd (plain_base half beside b e);
+      past = λ b e. absurd (plain_base half beside b e);
       holds = λ x there. subst (HoldsItsRecord then.kept) (is_it x there) holds_none;
       no_stray = λ some. inr (half, here, half_applying files standby name bytes c merges.mergeable half h);
       standby = λ x r there applying named. subst (λ (y : List ℕ). IsKeptAs then.kept (pending_of y) r → IsStopped then.kept y r) (is_it x there) (waits r) named;

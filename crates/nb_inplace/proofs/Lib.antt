@@ -19,3 +19,4 @@ pub mod WayLaws
 pub mod ClosedLaws
 pub mod KeptWay
 pub mod StandbyWell
+mod Common

@@ -1,35 +1,6 @@
 -- A merge from its plan on: it is begun, records are written, pages are counted, and page 0 comes last.
-use Rattle.std.proofs.Common.{◌≡◌, ◌⊎◌, inl, inr, ⊎_elim, ℕ, zero, suc, ◌*◌, ◌≤◌, List, [], ◌∷◌, length, drop, refl, sym, ap, subst, ◌∙◌, arith, length-drop}
-use Rattle.std.specs.Prelude.{Bool, true, false, Some, Ok, IsTrue, Contains}
-use Rattle.nb_fields.specs.Bytes.{is_zeros}
-use Rattle.nb_fields.specs.Header.{is_header, size_of}
-use Rattle.nb_fields.specs.Places.{is_page_size, most_pages}
-use Rattle.nb_fields.proofs.SizeLaws.{size_facts}
-use Rattle.nb_host.specs.Files.{File, Files, bytes_of, with_page}
-use Rattle.nb_host.specs.World.{World}
-use Rattle.nb_host.specs.Crash.{Leaves, LeavesAll, PageLeft}
-use Rattle.nb_change.specs.Changes.{Changes, Only, NoNames, Moved, Remade}
-use Rattle.nb_change.proofs.ChangesLaws.{rested, weaker_has, composed, kept_on, remade_on}
-use Rattle.nb_change.proofs.MovedLaws.{moved_from, remade_weaker}
-use Rattle.nb_page.specs.Quiet.{Quiet}
-use Rattle.nb_model.specs.Image.{Page, Image, Numbered, page_at, first_page, trimmed, written_at, overwritten}
-use Rattle.nb_model.specs.Levels.{joined}
-use Rattle.nb_model.specs.Main.{HoldsMain}
-use Rattle.nb_model.specs.Owner.{main_page}
-use Rattle.nb_model.specs.Restoring.{Link}
-use Rattle.nb_model.specs.Sound.{IsOfSize}
-use Rattle.nb_model.specs.Strokes.{standby_page, as_standby}
-use Rattle.nb_model.proofs.HeaderLaws.{header-long, header-other}
-use Rattle.nb_model.proofs.ImageLaws.{all-drop}
-use Rattle.nb_model.proofs.TrimLaws.{main_tail, trimmed_alike}
-use Rattle.nb_level.specs.Reading.{Reading, still_to_come}
-use Rattle.nb_chain.proofs.ImageLaws.{length-written}
-use Rattle.nb_restore.specs.Copied.{Holds, Overwrites}
-use Rattle.nb_restore.specs.Target.{IsKept}
-use Rattle.nb_restore.proofs.CopiedLaws.{all_over-one}
-use Rattle.nb_restore.proofs.HeadLaws.{HasHead, head_all}
-use Rattle.nb_inplace.specs.Merging.{IsHalfFile, KeepsHalf, merged_pages, IsHalfOr, KeepsMerged, begun_file, pages_with}
-use Rattle.nb_inplace.specs.Plan.{IsPlan}
+use Rattle.std.proofs.Common.{◌≡◌, ◌⊎◌, inl, inr, ⊎_elim, ℕ, zero, suc, ◌*◌, ◌≤◌, List, [], ◌∷◌, length, drop, refl, sym, ap, subst, ◌∙◌, arith, length-drop, Bool, true, false, Some, Ok, IsTrue, Contains}
+use Rattle.nb_inplace.proofs.Common.{is_zeros, is_header, size_of, is_page_size, most_pages, size_facts, File, Files, bytes_of, with_page, World, Leaves, LeavesAll, PageLeft, Changes, Only, NoNames, Moved, Remade, rested, weaker_has, composed, kept_on, remade_on, moved_from, remade_weaker, Quiet, Page, Image, Numbered, page_at, first_page, trimmed, written_at, overwritten, joined, HoldsMain, main_page, Link, IsOfSize, standby_page, as_standby, header-long, header-other, all-drop, main_tail, trimmed_alike, Reading, still_to_come, length-written, Holds, Overwrites, IsKept, all_over-one, HasHead, head_all, IsHalfFile, KeepsHalf, merged_pages, IsHalfOr, KeepsMerged, begun_file, pages_with, IsPlan, first_and_rest}
 use Rattle.nb_inplace.proofs.ControlLaws.{applying-long, applying-size, applying-header, standby-long}
 use Rattle.nb_inplace.proofs.EndLaws.{merged_whole}
 use Rattle.nb_inplace.proofs.FileLaws.{first_put, half_begun, begun_left, ended_left}
@@ -84,11 +55,7 @@ module _ (old : World) (standby : List ℕ) (size count : ℕ) (is_begun : Bool)
   begun_is file there = by is_begun plan.begun
     where
       by : (t : Bool) → (t ≡ true → first ≡ first_page ps) → begun_file t file first ≡ Some (joined begun_pages)
-      by true same = there ∙ ap (λ (x : Image). Some (joined x)) (parts ps (omega (arith, least)) ∙ ap (λ (p : Page). p ∷ drop 1 ps) (sym (same refl)))
-        where
-          parts : (xs : List Page) → 1 ≤ length xs → xs ≡ first_page xs ∷ drop 1 xs
-          parts [] some = absurd (omega (arith, some))
-          parts (x ∷ xs) some = refl
+      by true same = there ∙ ap (λ (x : Image). Some (joined x)) (first_and_rest ps (omega (arith, least)) ∙ ap (λ (p : Page). p ∷ drop 1 ps) (sym (same refl)))
       by false same = ap (λ (f : File). with_page f (0 * length first) first) there ∙ first_put size records (omega (arith, wide)) first ps plan.whole.sizes (omega (arith, least)) first_long
 
   begun_sizes : IsOfSize size begun_pages

@@ -1,12 +1,6 @@
 -- Lists of pages, after whose ends zeros are seen: which pages are the same once records are written over.
-use Rattle.std.proofs.Common.{◌≡◌, ◌≢◌, ◌⊎◌, inl, inr, ℕ, zero, suc, ◌-◌, List, [], ◌∷◌, ◌++◌, length, replicate, refl, sym, ap, ◌∙◌, arith}
-use Rattle.std.specs.Prelude.{Contains}
-use Rattle.std.proofs.lemmas.Bool.{cases_eq, cases_lt}
-use Rattle.std.proofs.lemmas.List.{get_or-append_right, get_or-set_same}
-use Rattle.nb_model.specs.Image.{Page, Image, Numbered, page_at, written_at, overwritten}
-use Rattle.nb_model.specs.Owner.{main_page}
-use Rattle.nb_model.proofs.OwnerLaws.{main_here, other_page}
-use Rattle.nb_chain.proofs.ImageLaws.{written-inside, written-past, length-written}
+use Rattle.std.proofs.Common.{◌≡◌, ◌≢◌, ◌⊎◌, inl, inr, ℕ, zero, suc, ◌-◌, List, [], ◌∷◌, ◌++◌, length, replicate, refl, sym, ap, ◌∙◌, arith, Contains}
+use Rattle.nb_inplace.proofs.Common.{cases_eq, cases_lt, get_or-append_right, get_or-set_same, Page, Image, Numbered, page_at, written_at, overwritten, main_page, main_here, other_page, written-inside, written-past, length-written}
 
 -- the page that is written
 behind_zeros : (k : ℕ) (z page : Page) → page_at (replicate k z ++ page ∷ []) k ≡ page

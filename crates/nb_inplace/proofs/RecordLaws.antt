@@ -1,29 +1,11 @@
 -- The records of a level file are written, one after another.
-use Rattle.std.proofs.Common.{◌≡◌, ℕ, suc, ◌+◌, ◌*◌, ◌<◌, ◌≤◌, List, [], ◌∷◌, ◌++◌, length, refl, sym, ap, subst, ◌∙◌, arith, append_assoc}
-use Rattle.std.specs.Prelude.{Bool, IsTrue, Ok, Err, Result, max, Contains}
-use Rattle.std.proofs.lemmas.List.{append-nil}
-use Rattle.nb_fields.specs.Places.{most_pages}
-use Rattle.nb_host.specs.Files.{File, bytes_of}
-use Rattle.nb_host.specs.World.{World}
-use Rattle.nb_host.specs.Calls.{IsStill, WritesPage}
+use Rattle.std.proofs.Common.{◌≡◌, ℕ, suc, ◌+◌, ◌*◌, ◌<◌, ◌≤◌, List, [], ◌∷◌, ◌++◌, length, refl, sym, ap, subst, ◌∙◌, arith, append_assoc, Bool, IsTrue, Ok, Err, Result, max, Contains}
+use Rattle.nb_inplace.proofs.Common.{append-nil, most_pages, File, bytes_of, World, IsStill, WritesPage, Fault, Refused, Device, Memory, BadLevel, Changes, Only, Moved, moved_begun, moved_still, moved_joined, Page, Numbered, behind, NextSays, Rises, Reading, still_to_come, Overwrites, overwrites_none, overwrites_joined, IsDoneBy, KeepsHalf, pages_with, ok_same, err_not_ok}
 use Rattle.nb_host.specs.Moments.{IsTimely, Passes}
-use Rattle.nb_host.specs.declared.faults.Fault.{Fault}
-use Rattle.nb_host.specs.declared.faults.Fault.TheVariants.{Refused, Device, Memory}
-use Rattle.nb_host.specs.declared.refusals.Refusal.TheVariants.{BadLevel}
-use Rattle.nb_change.specs.Changes.{Changes, Only, Moved}
 use Rattle.nb_change.proofs.CallLaws.{page_alone}
-use Rattle.nb_change.proofs.MovedLaws.{moved_begun, moved_still, moved_joined}
-use Rattle.nb_model.specs.Image.{Page, Numbered}
-use Rattle.nb_model.specs.Levels.{behind}
-use Rattle.nb_level.specs.Answers.{NextSays, Rises}
-use Rattle.nb_level.specs.Reading.{Reading, still_to_come}
 use Rattle.nb_level.specs.declared.item.Item.{Item}
 use Rattle.nb_level.specs.declared.item.Item.TheVariants.{PageAt, End}
 use Rattle.nb_chain.proofs.PageLaws.{gives_there}
-use Rattle.nb_restore.specs.Copied.{Overwrites}
-use Rattle.nb_restore.proofs.AnswerLaws.{ok_same, err_ok}
-use Rattle.nb_restore.proofs.CopiedLaws.{overwrites_none, overwrites_joined}
-use Rattle.nb_inplace.specs.Merging.{IsDoneBy, KeepsHalf, pages_with}
 use Rattle.nb_inplace.proofs.FileLaws.{keeps_record}
 
 module _ (name : List ℕ) (size : ℕ) (records : List Numbered) where
@@ -57,7 +39,7 @@ pages_more (q ∷ rs) r count = pages_more rs r (max count (q.0 + 1))
 -- a page, and what is still to come after it
 behind_ok : (r : Numbered) (rest : List Numbered) (more : Result (List Numbered) ℕ) → behind (r ∷ []) more ≡ Ok rest → (others : List Numbered) × (more ≡ Ok others) × (rest ≡ r ∷ others)
 behind_ok r rest (Ok more) e = (more, refl, sym (ok_same (r ∷ more) rest (Ok (r ∷ more)) refl e))
-behind_ok r rest (Err at) e = absurd (err_ok at rest (Err at) refl e)
+behind_ok r rest (Err at) e = absurd (err_not_ok at rest (Err at) refl e)
 
 within : (done more : List Numbered) (r : Numbered) → Contains (done ++ r ∷ more) r
 within [] more r = (0, omega arith, refl)
@@ -110,7 +92,7 @@ module _ (size : ℕ) (reader : Reading) (records : List Numbered) (tells : Bool
   -- A reader that fails met a fault of the device.
   pub reader_stops : (T : Type 0) (P : T → Type 0) (next : Reading) (page : Page) (fault : Fault) → NextSays tells now reader next page (Err fault) → IsDoneBy (Err fault) P
   reader_stops T P next page (Refused (BadLevel name at)) says =
-      absurd (err_ok at so_far.rest (still_to_come (bytes_of file) reader) (subst (λ (f : File). still_to_come (bytes_of f) reader ≡ Err at) there (says.2 told)) so_far.coming)
+      absurd (err_not_ok at so_far.rest (still_to_come (bytes_of file) reader) (subst (λ (f : File). still_to_come (bytes_of f) reader ≡ Err at) there (says.2 told)) so_far.coming)
   reader_stops T P next page (Refused other) says = absurd says
   reader_stops T P next page Device says = tt
   reader_stops T P next page Memory says = absurd says

@@ -1,34 +1,11 @@
 -- What the bytes of a database are seen as, page by page: after their end zeros are seen.
-use Rattle.std.proofs.Common.{◌≡◌, inl, inr, ℕ, ◌+◌, ◌-◌, ◌*◌, ◌<◌, ◌≤◌, List, [], ◌∷◌, ◌++◌, length, take, drop, replicate, refl, sym, ap, subst, ◌∙◌, arith, length-drop, add-mul, mul-le-mul_right, take_all}
-use Rattle.std.specs.Prelude.{true, None, IsTrue, ◌==◌}
+use Rattle.std.proofs.Common.{◌≡◌, inl, inr, ℕ, ◌+◌, ◌-◌, ◌*◌, ◌<◌, ◌≤◌, List, [], ◌++◌, length, take, drop, replicate, sym, ap, subst, ◌∙◌, arith, length-drop, add-mul, mul-le-mul_right, take_all, true, None, IsTrue}
+use Rattle.nb_inplace.proofs.Common.{cases_lt, take-append-le, length-replicate, get_or-drop, drop-replicate, take-replicate, replicate-append-replicate, is_zeros, size_of, not_database, Page, Image, page_at, image_in, joined, main_page, IsOfSize, all_zeros, length-joined, drop-joined, page-joined, zeros-are, all-right, IsLaid, laid, main_here, main_past, all_from, zeros_behind}
 use Rattle.std.proofs.Math.Seq.{drop-drop}
 use Rattle.std.proofs.Math.ListN.{drop_of_length-le}
-use Rattle.std.proofs.lemmas.Bool.{cases_lt, and_parts, and_from}
-use Rattle.std.proofs.lemmas.List.{take-append-le, length-replicate, get_or-drop, drop-replicate, take-replicate, replicate-append-replicate}
-use Rattle.nb_fields.specs.Bytes.{is_zeros}
-use Rattle.nb_fields.specs.Header.{size_of}
 use Rattle.nb_fields.specs.Table.{page_in}
-use Rattle.nb_model.specs.Causes.{not_database}
-use Rattle.nb_model.specs.Image.{Page, Image, page_at, image_in}
-use Rattle.nb_model.specs.Levels.{joined}
-use Rattle.nb_model.specs.Owner.{main_page}
-use Rattle.nb_model.specs.Sound.{IsOfSize}
-use Rattle.nb_model.proofs.HeadSound.{all_zeros}
-use Rattle.nb_model.proofs.ImageLaws.{AreZeros, length-joined, drop-joined, page-joined, zeros-are, all-right}
-use Rattle.nb_model.proofs.MainLaws.{IsLaid, laid}
-use Rattle.nb_model.proofs.OwnerLaws.{main_here, main_past}
-use Rattle.nb_model.proofs.SoundLaws.{all_from}
-use Rattle.nb_model.proofs.TrimLaws.{zeros_behind}
 use Rattle.nb_inplace.proofs.HalfLaws.{front_size}
-
--- zeros after zeros
-zeros_join : (xs ys : List ℕ) → is_zeros xs ≡ true → is_zeros ys ≡ true → is_zeros (xs ++ ys) ≡ true
-zeros_join [] ys h k = k
-zeros_join (x ∷ xs) ys h k = let parts = and_parts (x == 0) (is_zeros xs) h in and_from (x == 0) (is_zeros (xs ++ ys)) parts.0 (zeros_join xs ys parts.1 k)
-
-pages_zeros : (zs : List Page) → AreZeros zs → is_zeros (joined zs) ≡ true
-pages_zeros [] h = refl
-pages_zeros (z ∷ zs) h = zeros_join z (joined zs) h.0 (pages_zeros zs h.1)
+use Rattle.nb_model.proofs.OpenedLaws.{pages_zeros}
 
 module _ (size : ℕ) where
   drop_all : (n : ℕ) (ps : List Page) → IsOfSize size ps → length ps ≤ n → drop (n * size) (joined ps) ≡ []

@@ -1,31 +1,7 @@
 -- Stamps above an SCN, one piece of pages after another.
-use Rattle.std.proofs.Common.{◌≡◌, inl, inr, ℕ, zero, suc, ◌+◌, ◌-◌, ◌*◌, ◌/◌, ◌<◌, ◌≤◌, List, [], ◌∷◌, ◌++◌, length, take, drop, replicate, refl, sym, ap, ◌∙◌, arith, length-drop, mul-le-mul_right, div-add-mod'}
-use Rattle.std.specs.Prelude.{true, false, Some, None, Err}
-use Rattle.std.proofs.lemmas.Bool.{cases_lt}
-use Rattle.std.proofs.lemmas.List.{take-append-le, take-replicate, drop-replicate, length-replicate, drop-drop, drop_all, take-append-drop, take_all}
-use Rattle.std.proofs.Math.Nat.{mul-div_cancel}
-use Rattle.nb_fields.specs.Bytes.{number_of, number_in, is_zeros}
-use Rattle.nb_fields.specs.Header.{is_header, size_of}
-use Rattle.nb_fields.specs.Page.{stamp_of}
-use Rattle.nb_fields.proofs.PartLaws.{number_in-take}
-use Rattle.nb_fields.proofs.SizeLaws.{size_facts}
-use Rattle.nb_host.specs.declared.faults.Fault.{Fault}
-use Rattle.nb_host.specs.declared.faults.Fault.TheVariants.{Refused, Device, Memory}
-use Rattle.nb_host.specs.declared.refusals.Refusal.{Refusal}
-use Rattle.nb_host.specs.declared.refusals.Refusal.TheVariants.{ChainScn}
-use Rattle.nb_model.specs.Causes.{Cause, not_database}
-use Rattle.nb_model.specs.Image.{Page, Image, page_at, image_in, trimmed}
-use Rattle.nb_model.specs.InPlace.{written_since, other_pages}
-use Rattle.nb_model.specs.Levels.{joined}
-use Rattle.nb_model.specs.Sound.{IsOfSize}
-use Rattle.nb_model.proofs.FormLaws.{Formed, formed}
-use Rattle.nb_model.proofs.HeadSound.{all_zeros}
-use Rattle.nb_model.proofs.HeaderLaws.{header-long, header-other, same-header}
-use Rattle.nb_model.proofs.MainLaws.{image_in-is}
-use Rattle.nb_model.proofs.ImageLaws.{AreZeros, trimming, trimmed-other, all-drop, length-joined, drop-joined, take-joined, page-joined}
-use Rattle.nb_model.proofs.ReadLaws.{lt_no, lt_yes}
-use Rattle.nb_restore.specs.Copied.{IsDone}
-use Rattle.nb_fixup.specs.Tests.{Tested}
+use Rattle.std.proofs.Common.{◌≡◌, inl, inr, ℕ, zero, suc, ◌+◌, ◌-◌, ◌*◌, ◌/◌, ◌<◌, ◌≤◌, List, [], ◌∷◌, ◌++◌, length, take, drop, replicate, refl, sym, ap, ◌∙◌, arith, length-drop, mul-le-mul_right, div-add-mod', true, false, Some, None, Err}
+use Rattle.nb_inplace.proofs.Common.{cases_lt, take-append-le, take-replicate, drop-replicate, length-replicate, drop-drop, drop_all, take-append-drop, take_all, mul-div_cancel, number_of, number_in, is_zeros, is_header, size_of, stamp_of, number_in-take, size_facts, Fault, Refused, Device, Memory, Refusal, ChainScn, Cause, not_database, Page, Image, page_at, image_in, trimmed, written_since, other_pages, joined, IsOfSize, Formed, formed, all_zeros, header-long, header-other, same-header, image_in-is, AreZeros, trimming, trimmed-other, all-drop, length-joined, drop-joined, take-joined, page-joined, lt_no, lt_yes, IsDone, Tested, none_some, some_none}
+use Rattle.nb_fields.proofs.NumberLaws.{number_of-zeros}
 
 module _ (name : List ℕ) (scn : ℕ) where
   none_since : written_since name scn [] ≡ None
@@ -44,18 +20,12 @@ module _ (name : List ℕ) (scn : ℕ) where
   since_on : (xs ys : List Page) → written_since name scn xs ≡ None → written_since name scn (xs ++ ys) ≡ written_since name scn ys
   since_on [] ys e = refl
   since_on (x ∷ xs) ys e = elim (cases_lt scn (stamp_of x)) [
-    | inl late ↦ absurd (some_none (sym (since_first x xs late) ∙ e))
+    | inl late ↦ absurd (some_none (ChainScn name (stamp_of x) scn) (sym (since_first x xs late) ∙ e))
     | inr early ↦ since_behind x (xs ++ ys) early ∙ since_on xs ys (sym (since_behind x xs early) ∙ e)
   ]
-    where
-      some_none : Some (ChainScn name (stamp_of x) scn) ≡ None → ⊥
-      some_none h = cc
 
   since_found : (xs ys : List Page) (r : Refusal) → written_since name scn xs ≡ Some r → written_since name scn (xs ++ ys) ≡ Some r
-  since_found [] ys r e = absurd (none_some (sym none_since ∙ e))
-    where
-      none_some : None ≡ Some r → ⊥
-      none_some h = cc
+  since_found [] ys r e = absurd (none_some r (sym none_since ∙ e))
   since_found (x ∷ xs) ys r e = elim (cases_lt scn (stamp_of x)) [
     | inl late ↦ since_first x (xs ++ ys) late ∙ sym (since_first x xs late) ∙ e
     | inr early ↦ since_behind x (xs ++ ys) early ∙ since_found xs ys r (sym (since_behind x xs early) ∙ e)
@@ -131,12 +101,6 @@ done_tested S T P cause Memory says = absurd says
 pub room_for : (len size count : ℕ) → count ≤ len / size → count * size ≤ len
 room_for len size count low = let all : count * size ≤ (len / size) * size = mul-le-mul_right size low in omega (arith, all, div-add-mod' len size)
 
--- a page of zeros has the stamp 0
-number_zeros : (n : ℕ) → number_of (replicate n 0) ≡ 0
-unfolding number_of
-number_zeros zero = refl
-number_zeros (suc n) = let rest = number_zeros n in omega (arith, rest)
-
 stamp_zeros : (p : Page) → is_zeros p ≡ true → stamp_of p ≡ 0
 unfolding number_in
 stamp_zeros p zeros =
@@ -144,8 +108,8 @@ stamp_zeros p zeros =
   where
     front : (n : ℕ) → number_of (take 4 (replicate n 0)) ≡ 0
     front n = elim (cases_lt n 4) [
-      | inl low ↦ ap number_of (take_all 4 (replicate n 0) (omega (arith, low, length-replicate {A = ℕ} n 0))) ∙ number_zeros n
-      | inr long ↦ ap number_of (take-replicate 4 n 0 long) ∙ number_zeros 4
+      | inl low ↦ ap number_of (take_all 4 (replicate n 0) (omega (arith, low, length-replicate {A = ℕ} n 0))) ∙ number_of-zeros n
+      | inr long ↦ ap number_of (take-replicate 4 n 0 long) ∙ number_of-zeros 4
     ]
 
 since_zeros : (name : List ℕ) (scn : ℕ) (zs : List Page) → AreZeros zs → written_since name scn zs ≡ None

@@ -1,39 +1,14 @@
 -- What the first bytes of a standby tell, and its length.
-use Rattle.std.proofs.Common.{◌≡◌, ◌≢◌, inl, inr, ℕ, ◌+◌, ◌<◌, ◌≤◌, List, [], ◌∷◌, ◌++◌, length, take, refl, sym, ap, ◌∙◌, arith}
-use Rattle.std.specs.Prelude.{Bool, true, false, not, ◌||◌, ◌==◌, nat_eq, Option, option_map, Some, None}
-use Rattle.std.proofs.lemmas.Bool.{true≢false}
-use Rattle.std.proofs.lemmas.List.{take-take, take_at, length-take}
-use Rattle.nb_fields.specs.Bytes.{number_in}
-use Rattle.nb_fields.specs.Header.{is_header, state_of, size_of, guid_of}
-use Rattle.nb_fields.proofs.PartLaws.{number_in-take}
-use Rattle.nb_fields.proofs.SizeLaws.{size_facts}
-use Rattle.nb_fields.specs.States.{normal_state, applying_state}
-use Rattle.nb_host.specs.Files.{File}
-use Rattle.nb_host.specs.Names.{same_name}
-use Rattle.nb_host.specs.declared.refusals.Refusal.{Refusal}
-use Rattle.nb_host.specs.declared.refusals.Refusal.TheVariants.{NoFile, NotDatabase, Unfinished, ChainGuid}
-use Rattle.nb_page.specs.Header.{header_in}
-use Rattle.nb_model.specs.Causes.{Cause, first_cause, when, not_database}
-use Rattle.nb_model.specs.Image.{Page, Image, first_page, image_size, image_in, is_read_only}
-use Rattle.nb_model.specs.InPlace.{is_another, not_finishing, not_mergeable, not_next, not_standby}
-use Rattle.nb_model.specs.Levels.{Contents, joined}
-use Rattle.nb_model.proofs.HeaderLaws.{header-size, same-header}
-use Rattle.nb_model.proofs.MainLaws.{IsLaid, laid, laid-wide, some_page}
-use Rattle.nb_cases.specs.Events.{IsFileIn, OnApply}
+use Rattle.std.proofs.Common.{◌≡◌, ◌≢◌, inl, inr, ℕ, ◌+◌, ◌<◌, ◌≤◌, List, [], ◌∷◌, ◌++◌, length, take, refl, sym, ap, ◌∙◌, arith, Bool, true, false, not, ◌==◌, nat_eq, Option, option_map, Some, None}
+use Rattle.nb_inplace.proofs.Common.{true≢false, take-take, take_at, length-take, number_in, is_header, state_of, size_of, guid_of, number_in-take, size_facts, normal_state, applying_state, File, same_name, Refusal, NoFile, NotDatabase, Unfinished, ChainGuid, header_in, Cause, first_cause, when, not_database, Page, Image, first_page, image_size, image_in, is_read_only, is_another, not_finishing, not_mergeable, not_next, not_standby, Contents, joined, header-size, same-header, IsLaid, laid, laid-wide, some_page, IsFileIn, OnApply, header_same, no_page, same_other, unheaded, or_right}
 use Rattle.nb_cases.specs.declared.events.Case.{Case}
 use Rattle.nb_cases.specs.declared.events.Case.TheVariants.{NoCall, Go, WrongState as refused, Unfinished as unfinished, Main, Delta, BothOrMain, GoWithDelta, GoWithoutDelta, GoOrUnfinished}
-use Rattle.nb_chain.proofs.StartLaws.{header_same}
-use Rattle.nb_fixup.proofs.CauseLaws.{unheaded, no_page}
 use Rattle.nb_inplace.proofs.VerdictLaws.{by_state, mergeable_by, standby_state}
-use Rattle.nb_inplace.proofs.AgainLaws.{other_texts}
 
 -- page 0 of the image is what the file begins with
 module _ (bytes : List ℕ) (none : not_database bytes ≡ None) where
   its_first : (image : Image) → IsLaid image bytes → take (image_size image) bytes ≡ first_page image
-  its_first [] l = absurd (empty (some_page [] l.header))
-    where
-      empty : 1 ≤ 0 → ⊥
-      empty k = omega arith
+  its_first [] l = absurd (let few : 1 ≤ 0 = some_page [] l.header in omega (arith, few))
   its_first (p ∷ ps) l = ap (take (image_size (p ∷ ps))) l.is ∙ take_at p (joined (ps ++ l.rest)) (image_size (p ∷ ps)) l.sizes.0
 
   pub first_field : (at w : ℕ) → at + w ≤ 1024 → number_in at w (first_page (image_in bytes)) ≡ number_in at w bytes
@@ -79,12 +54,8 @@ another bytes = record { version = 0; head = record { level = 0; guid = []; prev
 longer : (xs : List ℕ) → (0 ∷ xs) ≢ xs
 longer xs e = let more = ap length e in absurd (omega (arith, more))
 
-right : (a b : Bool) → b ≡ true → (a || b) ≡ true
-right true b e = refl
-right false b e = e
-
 another_is : (bytes : List ℕ) → is_another bytes (another bytes) ≡ true
-another_is bytes = right _ _ (ap not (other_texts (guid_of bytes) (0 ∷ guid_of bytes) (λ e. longer (guid_of bytes) (sym e))))
+another_is bytes = or_right _ _ (ap not (same_other (guid_of bytes) (0 ∷ guid_of bytes) (λ e. longer (guid_of bytes) (sym e))))
 
 first_fails : (t : Bool) (r : Refusal) (cs : List Cause) → t ≡ false → first_cause (when (not t) r ∷ cs) ≡ Some r
 unfolding first_cause
@@ -93,7 +64,7 @@ first_fails true r cs e = absurd (true≢false e)
 
 another_next : (name bytes : List ℕ) → not_next name bytes (another bytes) ≡ Some (ChainGuid name (0 ∷ guid_of bytes) (guid_of bytes))
 unfolding not_next
-another_next name bytes = first_fails (same_name (0 ∷ guid_of bytes) (guid_of bytes)) (ChainGuid name (0 ∷ guid_of bytes) (guid_of bytes)) _ (other_texts (0 ∷ guid_of bytes) (guid_of bytes) (longer (guid_of bytes)))
+another_next name bytes = first_fails (same_name (0 ∷ guid_of bytes) (guid_of bytes)) (ChainGuid name (0 ∷ guid_of bytes) (guid_of bytes)) _ (same_other (0 ∷ guid_of bytes) (guid_of bytes) (longer (guid_of bytes)))
 
 another_finishing : (name bytes : List ℕ) → not_finishing name bytes (another bytes) ≡ Some Unfinished
 unfolding not_finishing first_cause

@@ -1,16 +1,7 @@
 -- The image of a kept backup, read-only and in the normal state, is well.
-use Rattle.std.proofs.Common.{◌≡◌, inr, ◌≤◌, List, [], ◌∷◌, length, refl, subst, arith}
-use Rattle.std.specs.Prelude.{Contains}
-use Rattle.nb_fields.proofs.SizeLaws.{size_facts}
-use Rattle.nb_host.specs.Files.{Files}
-use Rattle.nb_model.specs.Account.{Kept, Base, base_of, Account}
-use Rattle.nb_model.specs.Image.{Page, Image, first_page, image_size}
-use Rattle.nb_model.specs.Sound.{HasHeader, IsSoundImage}
-use Rattle.nb_model.specs.Stands.{to_record, IsBegun, GoesOn, NamesPast, Stands}
-use Rattle.nb_model.specs.Strokes.{standby_page, as_standby}
+use Rattle.std.proofs.Common.{◌≡◌, inr, ◌≤◌, List, [], ◌∷◌, length, refl, subst, arith, Contains}
+use Rattle.nb_inplace.proofs.Common.{size_facts, Files, Kept, Base, base_of, Account, Page, Image, first_page, image_size, HasHeader, IsSoundImage, to_record, IsBegun, GoesOn, NamesPast, Stands, standby_page, as_standby, header-room, header-size, all_at}
 use Rattle.nb_model.specs.Well.{IsWell, IsWellBase, IsWellBaseIn}
-use Rattle.nb_model.proofs.HeaderLaws.{header-room, header-size}
-use Rattle.nb_model.proofs.SoundLaws.{all_at}
 use Rattle.nb_model.proofs.WellTrailLaws.{well_normal}
 use Rattle.nb_model.proofs.FirstPageLaws.{with_first}
 use Rattle.nb_restore.proofs.FirstWell.{IsLikeFirst, first_well}

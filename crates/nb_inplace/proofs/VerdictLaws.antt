@@ -1,23 +1,9 @@
 -- What an accepted merge is: a standby in the normal or the applying state, and the level file that goes on from it.
-use Rattle.std.proofs.Common.{◌≡◌, ◌⊎◌, inl, inr, ℕ, zero, suc, ◌-◌, ◌≤◌, List, refl, sym, ap, ◌∙◌, arith}
-use Rattle.std.specs.Prelude.{Bool, true, false, not, ◌==◌, Some, None, Result, Ok, Err}
+use Rattle.std.proofs.Common.{◌≡◌, ◌⊎◌, inl, inr, ℕ, zero, suc, ◌-◌, ◌≤◌, List, refl, sym, ap, ◌∙◌, arith, Bool, true, false, not, ◌==◌, Some, None, Result, Ok, Err}
+use Rattle.nb_inplace.proofs.Common.{eqb-true, eqb-false, or_parts, state_of, size_of, scn_of, guid_of, pending_of, normal_state, stalled_state, merge_state, applying_state, File, Files, same_name, Refusal, NoFile, WrongState, BadLevel, Unfinished, ChainGuid, ChainSize, ChainScn, Access, Cause, not_database, image_in, is_read_only, written_since, other_pages, not_next, not_finishing, not_mergeable, in_place_of, not_standby, bytes_in, in_place, Contents, read_level, formed, header-state, IsMergeable, not_false, ok_same, err_not_ok}
 use Rattle.std.specs.Cmp.Lexicographic.{told_text}
-use Rattle.std.proofs.lemmas.Bool.{eqb-true, eqb-false, or_parts}
-use Rattle.nb_fields.specs.Header.{state_of, size_of, scn_of, guid_of, pending_of}
-use Rattle.nb_fields.specs.States.{normal_state, stalled_state, merge_state, applying_state}
-use Rattle.nb_host.specs.Files.{File, Files}
-use Rattle.nb_host.specs.Names.{same_name}
-use Rattle.nb_host.specs.declared.refusals.Refusal.{Refusal}
-use Rattle.nb_host.specs.declared.refusals.Refusal.TheVariants.{NoFile, WrongState, BadLevel, Unfinished, ChainGuid, ChainSize, ChainScn, Access}
-use Rattle.nb_model.specs.Causes.{Cause, not_database}
-use Rattle.nb_model.specs.Image.{image_in, is_read_only}
-use Rattle.nb_model.specs.InPlace.{written_since, other_pages, not_next, not_finishing, not_mergeable, in_place_of, not_standby, bytes_in, in_place}
-use Rattle.nb_model.specs.Levels.{Contents, read_level}
-use Rattle.nb_model.proofs.FormLaws.{formed}
-use Rattle.nb_model.proofs.HeaderLaws.{header-state}
-use Rattle.nb_restore.proofs.AnswerLaws.{ok_same, err_ok}
-use Rattle.nb_restore.proofs.ChainLaws.{clear_head, not_false, test_passed, when_clear}
-use Rattle.nb_inplace.specs.Verdict.{IsMergeable}
+use Rattle.nb_model.proofs.PutSound.{no_first, not_when}
+use Rattle.nb_model.proofs.TurnCases.{is_so}
 
 same_text : (a b : List ℕ) → same_name a b ≡ true → a ≡ b
 same_text a b e = told_text a b true (sym e)
@@ -33,16 +19,16 @@ pub record GoesOnFrom (name bytes : List ℕ) (c : Contents) : Type 0 where
 goes_on : (name bytes : List ℕ) (c : Contents) → not_next name bytes c ≡ None → GoesOnFrom name bytes c
 unfolding not_next
 goes_on name bytes c none =
-    let guid = clear_head _ _ none in
-    let size = clear_head _ _ guid.1 in
-    let scn = clear_head _ _ size.1 in
-    let access = clear_head _ _ scn.1 in
-    let stamps = clear_head _ _ access.1 in
+    let guid = no_first _ _ none in
+    let size = no_first _ _ guid.1 in
+    let scn = no_first _ _ size.1 in
+    let access = no_first _ _ scn.1 in
+    let stamps = no_first _ _ access.1 in
     record {
-      previous = same_text c.head.previous (guid_of bytes) (test_passed (same_name c.head.previous (guid_of bytes)) (ChainGuid name c.head.previous (guid_of bytes)) guid.0);
-      size = eqb-true c.head.size (size_of bytes) (test_passed (c.head.size == size_of bytes) (ChainSize name c.head.size (size_of bytes)) size.0);
-      previous_scn = eqb-true c.head.previous_scn (scn_of bytes - 1) (test_passed (c.head.previous_scn == scn_of bytes - 1) (ChainScn name c.head.previous_scn (scn_of bytes - 1)) scn.0);
-      read_only = test_passed (is_read_only (image_in bytes)) (Access 0) access.0;
+      previous = same_text c.head.previous (guid_of bytes) (is_so (same_name c.head.previous (guid_of bytes)) (ChainGuid name c.head.previous (guid_of bytes)) guid.0);
+      size = eqb-true c.head.size (size_of bytes) (is_so (c.head.size == size_of bytes) (ChainSize name c.head.size (size_of bytes)) size.0);
+      previous_scn = eqb-true c.head.previous_scn (scn_of bytes - 1) (is_so (c.head.previous_scn == scn_of bytes - 1) (ChainScn name c.head.previous_scn (scn_of bytes - 1)) scn.0);
+      read_only = is_so (is_read_only (image_in bytes)) (Access 0) access.0;
       unwritten = stamps.0;
     }
 
@@ -70,9 +56,9 @@ pub record IsAccepted (files : Files) (name bytes : List ℕ) (c : Contents) : T
 pub standby_state : (name bytes : List ℕ) → not_standby name (Some bytes) ≡ None → (not_database bytes ≡ None) × ((state_of bytes ≡ normal_state) ⊎ (state_of bytes ≡ applying_state))
 unfolding not_standby
 standby_state name bytes none =
-    let form = clear_head _ _ none in
-    let state = clear_head _ _ form.1 in
-    let other = or_parts (state_of bytes == stalled_state) (state_of bytes == merge_state) (when_clear _ (WrongState (state_of bytes)) state.0) in
+    let form = no_first _ _ none in
+    let state = no_first _ _ form.1 in
+    let other = or_parts (state_of bytes == stalled_state) (state_of bytes == merge_state) (not_when _ (WrongState (state_of bytes)) state.0) in
     (form.0, by (state_of bytes) (header-state bytes (formed bytes form.0).header) (eqb-false (state_of bytes) 1 other.0) (eqb-false (state_of bytes) 2 other.1))
   where
     by : (n : ℕ) → n ≤ 3 → (n ≡ 1 → ⊥) → (n ≡ 2 → ⊥) → (n ≡ 0) ⊎ (n ≡ 3)
@@ -86,13 +72,13 @@ standby_state name bytes none =
 the_same : (name bytes : List ℕ) (c : Contents) → not_finishing name bytes c ≡ None → IsTheSame bytes c
 unfolding not_finishing
 the_same name bytes c none =
-    let guids = clear_head _ _ none in
-    let size = clear_head _ _ guids.1 in
-    let parts = or_parts (not (same_name (pending_of bytes) c.head.guid)) (not (same_name (guid_of bytes) c.head.previous)) (when_clear _ Unfinished guids.0) in
+    let guids = no_first _ _ none in
+    let size = no_first _ _ guids.1 in
+    let parts = or_parts (not (same_name (pending_of bytes) c.head.guid)) (not (same_name (guid_of bytes) c.head.previous)) (not_when _ Unfinished guids.0) in
     record {
       pending = same_text (pending_of bytes) c.head.guid (not_false _ parts.0);
       previous = same_text (guid_of bytes) c.head.previous (not_false _ parts.1);
-      size = eqb-true c.head.size (size_of bytes) (test_passed (c.head.size == size_of bytes) (ChainSize name c.head.size (size_of bytes)) size.0);
+      size = eqb-true c.head.size (size_of bytes) (is_so (c.head.size == size_of bytes) (ChainSize name c.head.size (size_of bytes)) size.0);
     }
 
 -- the tests by the state
@@ -114,7 +100,7 @@ in_place_parts bytes name level c e = by (read_level level) refl e
   where
     clear : (d : Contents) → read_level level ≡ Ok d → (cause : Cause) → not_mergeable bytes name d ≡ cause
         → elim cause as (λ x. Result Contents Refusal) [ Some refusal ↦ Err refusal | None ↦ Ok d ] ≡ Ok c → (read_level level ≡ Ok c) × (not_mergeable bytes name c ≡ None)
-    clear d is (Some r) found h = absurd (err_ok r c (Err r) refl h)
+    clear d is (Some r) found h = absurd (err_not_ok r c (Err r) refl h)
     clear d is None found h = let same : d ≡ c = ok_same d c (Ok d) refl h in (is ∙ ap Ok same, ap (not_mergeable bytes name) (sym same) ∙ found)
 
     by : (r : Result Contents ℕ) → read_level level ≡ r
@@ -122,7 +108,7 @@ in_place_parts bytes name level c e = by (read_level level) refl e
           | Err at ↦ Err (BadLevel name at)
           | Ok d ↦ elim (not_mergeable bytes name d) as (λ x. Result Contents Refusal) [ Some refusal ↦ Err refusal | None ↦ Ok d ]
         ] ≡ Ok c → (read_level level ≡ Ok c) × (not_mergeable bytes name c ≡ None)
-    by (Err at) is h = absurd (err_ok (BadLevel name at) c (Err (BadLevel name at)) refl h)
+    by (Err at) is h = absurd (err_not_ok (BadLevel name at) c (Err (BadLevel name at)) refl h)
     by (Ok d) is h = clear d is (not_mergeable bytes name d) refl h
 
 -- of the model's verdict
@@ -141,8 +127,8 @@ in_place_is files standby name bytes c there e = by (not_standby standby (files 
           | Some refusal ↦ Err refusal
           | None ↦ elim level as (λ x. Result Contents Refusal) [ None ↦ Err (NoFile name) | Some bytes ↦ in_place_of (bytes_in (files standby)) name bytes ]
         ] ≡ Ok c → IsInPlace files standby name bytes c
-    by (Some r) is level found h = absurd (err_ok r c (Err r) refl h)
-    by None is None found h = absurd (err_ok (NoFile name) c (Err (NoFile name)) refl h)
+    by (Some r) is level found h = absurd (err_not_ok r c (Err r) refl h)
+    by None is None found h = absurd (err_not_ok (NoFile name) c (Err (NoFile name)) refl h)
     by None is (Some level) found h = record {
       stands = ap (not_standby standby) (sym there) ∙ is;
       level = level;

@@ -1,21 +1,8 @@
 -- Images on their way to that of a record: a merge gives it, and what a crash leaves half merged is on the way still.
-use Rattle.std.proofs.Common.{◌≡◌, ◌⊎◌, inl, inr, ℕ, zero, suc, ◌+◌, ◌<◌, ◌≤◌, List, [], ◌∷◌, length, replicate, refl, sym, ap, subst, ◌∙◌, arith}
-use Rattle.std.specs.Prelude.{None, Some, Contains}
-use Rattle.std.proofs.lemmas.Bool.{cases_lt}
-use Rattle.nb_fields.specs.Page.{stamp_of}
+use Rattle.std.proofs.Common.{◌≡◌, ◌⊎◌, inl, inr, ℕ, zero, suc, ◌+◌, ◌<◌, ◌≤◌, List, [], ◌∷◌, length, replicate, refl, sym, ap, subst, ◌∙◌, arith, None, Contains}
+use Rattle.nb_inplace.proofs.Common.{cases_lt, stamp_of, Page, Image, Numbered, page_at, first_page, trimmed, overwritten, written_since, other_pages, taken_from, taken, main_page, HasNoZeros, ChainScn, trimmed-no_zeros, main_here, main_past, lt_no, lt_yes, trimmed_alike, IsBetween, some_none}
 use Rattle.nb_model.specs.Follows.{Follows}
-use Rattle.nb_model.specs.Image.{Page, Image, Numbered, page_at, first_page, trimmed, overwritten}
-use Rattle.nb_model.specs.InPlace.{written_since, other_pages}
-use Rattle.nb_model.specs.Levels.{taken_from, taken}
-use Rattle.nb_model.specs.Owner.{main_page}
-use Rattle.nb_model.specs.Sound.{HasNoZeros}
-use Rattle.nb_host.specs.declared.refusals.Refusal.TheVariants.{ChainScn}
 use Rattle.nb_model.proofs.FollowsLaws.{follows_overwritten}
-use Rattle.nb_model.proofs.ImageLaws.{trimmed-no_zeros}
-use Rattle.nb_model.proofs.OwnerLaws.{main_here, main_past}
-use Rattle.nb_model.proofs.ReadLaws.{lt_no, lt_yes}
-use Rattle.nb_model.proofs.TrimLaws.{trimmed_alike}
-use Rattle.nb_inplace.specs.Half.{IsBetween}
 use Rattle.nb_inplace.proofs.PagesLaws.{over_alike}
 use Rattle.nb_inplace.proofs.StampLaws.{since_first, since_behind}
 
@@ -124,13 +111,10 @@ module _ (size s : ℕ) (image now : Image) (way : IsOnTheWay size s image now) 
 none_since : (name : List ℕ) (s : ℕ) (ps : List Page) → written_since name s ps ≡ None → (k : ℕ) → k < length ps → stamp_of (page_at ps k) ≤ s
 none_since name s [] e k low = absurd (omega (arith, low))
 none_since name s (p ∷ ps) e k low = elim (cases_lt s (stamp_of p)) [
-  | inl late ↦ absurd (some_none (sym (since_first name s p ps late) ∙ e))
+  | inl late ↦ absurd (some_none (ChainScn name (stamp_of p) s) (sym (since_first name s p ps late) ∙ e))
   | inr early ↦ by k low early (λ j below. none_since name s ps (sym (since_behind name s p ps early) ∙ e) j below)
 ]
   where
-    some_none : Some (ChainScn name (stamp_of p) s) ≡ None → ⊥
-    some_none h = cc
-
     by : (k : ℕ) → k < length (p ∷ ps) → stamp_of p ≤ s → ((j : ℕ) → j < length ps → stamp_of (page_at ps j) ≤ s) → stamp_of (page_at (p ∷ ps) k) ≤ s
     by zero low early rest = early
     by (suc k) low early rest = rest k (omega (arith, low))

@@ -1,9 +1,7 @@
 -- Two calls that append, as one.
 use Rattle.std.proofs.Common.{◌≡◌, inl, inr, ⊎_elim, ℕ, ◌+◌, min, Bool, List, ◌++◌, length, take, Some, Result, Ok, Err, IsTrue, refl, sym, ap, ◌∙◌, subst, arith, append_assoc, length-append}
+use Rattle.nb_level.proofs.Common.{cases_lt, take_at, take_all, take-append-le, File, Files, bytes_of, with_file, with_bytes}
 use Rattle.std.proofs.Math.Seq.{take-append-add}
-use Rattle.std.proofs.lemmas.Bool.{cases_lt}
-use Rattle.std.proofs.lemmas.List.{take_at, take_all, take-append-le}
-use Rattle.nb_host.specs.Files.{File, Files, bytes_of, with_file, with_bytes}
 use Rattle.nb_host.specs.World.{World}
 use Rattle.nb_host.specs.Crash.{AppendLeft}
 use Rattle.nb_host.specs.Calls.{AppendsBytes, IsSilent, Steps}

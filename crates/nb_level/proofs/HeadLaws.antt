@@ -1,9 +1,7 @@
 -- The bytes of a head, field by field.
 use Rattle.std.proofs.Common.{◌≡◌, ℕ, ◌+◌, ◌≤◌, List, [], ◌++◌, length, take, refl, sym, ap, ◌∙◌, arith, append_assoc}
-use Rattle.std.proofs.lemmas.List.{append-nil, take_all}
-use Rattle.nb_fields.specs.Bytes.{bytes_of, with_part}
-use Rattle.nb_fields.proofs.PartLaws.{take-with_part}
-use Rattle.nb_model.specs.Levels.{head_then}
+use Rattle.nb_level.proofs.Common.{append-nil, take_all, with_part, take-with_part, head_then}
+use Rattle.nb_fields.specs.Bytes.{bytes_of}
 
 -- the front is written up to the end of a field
 front : (at end : ℕ) (bytes page new : List ℕ) → at ≤ length page → end ≡ at + length bytes → new ≡ with_part at bytes page → take end new ≡ take at page ++ bytes

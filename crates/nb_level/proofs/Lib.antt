@@ -5,3 +5,4 @@ pub mod PagesLaws
 pub mod ReadingLaws
 pub mod StartLaws
 pub mod ToldLaws
+mod Common

@@ -1,14 +1,6 @@
 -- What the next read of a reader says of what was still to come.
-use Rattle.std.proofs.Common.{◌≡◌, inl, inr, ℕ, suc, ◌+◌, ◌-◌, ◌<◌, ◌≤◌, List, [], ◌∷◌, ◌++◌, length, take, drop, sym, ap, ◌∙◌, arith, length-drop, Some, None, Result, Ok, Err}
-use Rattle.std.specs.Prelude.{Bool, true, false, ◌==◌}
-use Rattle.std.proofs.lemmas.Bool.{cases_lt}
-use Rattle.std.proofs.lemmas.List.{drop-drop, take_all, take_at, length-take-le}
-use Rattle.nb_fields.specs.Bytes.{part}
-use Rattle.nb_fields.proofs.PartLaws.{part-take}
-use Rattle.nb_model.specs.Image.{Numbered}
-use Rattle.nb_model.specs.Levels.{Head, behind, read_singles, barred_after}
-use Rattle.nb_level.specs.Heads.{head_of}
-use Rattle.nb_level.specs.Reading.{Reading, Step, single_step, run_step, read_rest, still_to_come}
+use Rattle.std.proofs.Common.{◌≡◌, inl, inr, ℕ, suc, ◌+◌, ◌-◌, ◌<◌, ◌≤◌, List, [], ◌∷◌, ◌++◌, length, take, drop, sym, ap, ◌∙◌, arith, length-drop, Some, None, Result, Ok, Err, Bool, true, false, ◌==◌}
+use Rattle.nb_level.proofs.Common.{cases_lt, drop-drop, take_all, take_at, length-take-le, part, part-take, Numbered, Head, behind, read_singles, barred_after, head_of, Reading, Step, single_step, run_step, read_rest, still_to_come}
 use Rattle.nb_level.proofs.ReadingLaws.{after_single, after_run, singles-step, single-window, singles-fuel, runs-step, run-window, runs-fuel, rest-none, rest-more, rest-cut}
 
 -- what was read, where the file ended before

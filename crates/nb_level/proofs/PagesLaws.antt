@@ -1,14 +1,6 @@
 -- What is read of a level file: its pages rise and have the size that its head names, the first is page 0, and its head is of the form.
-use Rattle.std.proofs.Common.{◌≡◌, ◌≢◌, ℕ, zero, suc, ◌+◌, ◌*◌, ◌<◌, ◌≤◌, List, [], ◌∷◌, ◌++◌, length, take, drop, refl, sym, ap, subst, ◌∙◌, arith, length-drop}
-use Rattle.std.specs.Prelude.{Bool, true, false, ◌&&◌, ◌||◌, ◌==◌, nat_lt, nat_le, Option, Some, None, Result, Ok, Err}
-use Rattle.std.proofs.lemmas.Bool.{or_parts}
-use Rattle.std.proofs.lemmas.List.{length-take-le}
-use Rattle.nb_fields.specs.Bytes.{number_in, part}
-use Rattle.nb_fields.specs.Places.{is_page_size, most_pages}
-use Rattle.nb_model.specs.Image.{Numbered}
-use Rattle.nb_model.specs.Levels.{Head, Contents, AreRising, AreOfSize, first_fault, head_in, end_mark, read_level, read_pages, read_end, read_singles, read_runs, pages_in, is_bad_number, is_first_page}
-use Rattle.nb_model.proofs.LevelWalk.{FirstIsZero, none_clear, not_long, not_same, zero_tells, good, ok_is, no_pages, singles_are, runs_are}
-use Rattle.nb_model.proofs.ReadLaws.{AreClear, single_tests, run_tests, end_tests}
+use Rattle.std.proofs.Common.{◌≡◌, ◌≢◌, ℕ, zero, suc, ◌+◌, ◌*◌, ◌<◌, ◌≤◌, List, [], ◌∷◌, ◌++◌, length, take, drop, refl, sym, ap, subst, ◌∙◌, arith, length-drop, Bool, true, false, ◌&&◌, ◌||◌, ◌==◌, nat_lt, nat_le, Option, Some, None, Result, Ok, Err}
+use Rattle.nb_level.proofs.Common.{or_parts, length-take-le, number_in, part, is_page_size, most_pages, Numbered, Head, Contents, AreRising, AreOfSize, first_fault, head_in, end_mark, read_level, read_pages, read_end, read_singles, read_runs, pages_in, is_bad_number, is_first_page, FirstIsZero, none_clear, not_long, not_same, zero_tells, good, singles_are, runs_are, AreClear, single_tests, run_tests, end_tests, length-part, err_not_ok, ok_same, rise_lower}
 use Rattle.nb_level.proofs.ToldLaws.{level_told}
 
 -- at the end there are no more, and there were some
@@ -17,17 +9,14 @@ unfolding read_end
 end_is at count rest rs e = by (first_fault (end_tests at count rest)) refl e
   where
     by : (x : Option ℕ) → first_fault (end_tests at count rest) ≡ x → elim x as (λ z. Result (List Numbered) ℕ) [ Some place ↦ Err place | None ↦ Ok [] ] ≡ Ok rs → (count ≢ 0) × (rs ≡ [])
-    by (Some place) is f = absurd (no_pages (Err place) place rs refl f)
-    by None is f = (not_same count 0 (none_clear (end_tests at count rest) is).0, sym (ok_is (Ok []) [] rs refl f))
+    by (Some place) is f = absurd (err_not_ok place rs (Err place) refl f)
+    by None is f = (not_same count 0 (none_clear (end_tests at count rest) is).0, sym (ok_same {X = List Numbered} {E = ℕ} [] rs (Ok []) refl f))
 
 -- the pages from here on
 record AreFrom (h : Head) (count least : ℕ) (rs : List Numbered) : Type 0 where
   pub rising : AreRising least rs
   pub sizes : AreOfSize h.size rs
   pub first : count ≡ 0 → FirstIsZero h rs
-
-part_long : (at w : ℕ) (xs : List ℕ) → at + w ≤ length xs → length (part at w xs) ≡ w
-part_long at w xs room = length-take-le w (drop at xs) (omega (arith, room, length-drop at xs))
 
 module _ (h : Head) where
   -- the end
@@ -41,7 +30,7 @@ module _ (h : Head) where
       let number = good count least n clear.0 in
       record {
         rising = (number.low, number.small, next.rising);
-        sizes = (part_long 4 h.size rest (not_long (length rest) (4 + h.size) clear.1.0), next.sizes);
+        sizes = (length-part 4 h.size rest (not_long (length rest) (4 + h.size) clear.1.0), next.sizes);
         first = λ none. (number.begins none, zero_tells n (is_first_page h (part 4 h.size rest)) clear.1.1.0 (number.begins none));
       }
 
@@ -64,10 +53,6 @@ module _ (h : Head) where
   pages_first zero n x more some none first = absurd (some refl)
   pages_first (suc m) n x more some none first = (none, first)
 
-  lower : (few many : ℕ) (rs : List Numbered) → few ≤ many → AreRising many rs → AreRising few rs
-  lower few many [] low rise = tt
-  lower few many (r ∷ rs) low rise = (omega (arith, low, rise.0), rise.1, rise.2)
-
   run_from : (count least barred : ℕ) (rest : List ℕ) (at : ℕ) (more : List Numbered) → AreClear (run_tests h at count least barred rest (number_in 0 4 rest) (number_in 4 4 rest)) → AreFrom h (count + number_in 4 4 rest) (number_in 0 4 rest + number_in 4 4 rest) more
       → AreFrom h count least (pages_in h.size (number_in 4 4 rest) (number_in 0 4 rest) (drop 8 rest) ++ more)
   run_from count least barred rest at more clear next =
@@ -78,7 +63,7 @@ module _ (h : Head) where
       let most : n + m ≤ most_pages = not_long most_pages (n + m) (or_parts (nat_lt 16 m) (nat_lt most_pages (n + m)) counts.1).1 in
       let long : 8 + m * h.size ≤ length rest = not_long (length rest) (8 + m * h.size) clear.1.1.1.1.1.0 in
       record {
-        rising = lower least n _ number.low (pages_rise m n (drop 8 rest) more most next.rising);
+        rising = rise_lower least n _ number.low (pages_rise m n (drop 8 rest) more most next.rising);
         sizes = pages_sizes m n (drop 8 rest) more (omega (arith, long, length-drop 8 rest)) next.sizes;
         first = λ none. pages_first m n (drop 8 rest) more (not_same m 0 counts.0) (number.begins none) (zero_tells n (is_first_page h (part 8 h.size rest)) clear.1.1.1.1.0 (number.begins none));
       }
@@ -111,8 +96,8 @@ level_pages bytes c e =
     let are : AreFrom c.head 0 0 c.pages = subst (λ (h : Head). AreFrom h 0 0 c.pages) (sym told.head) (pages_are (head_in bytes) (number_in 4 2 bytes) bytes c.pages told.pages) in
     record {
       level = told.level;
-      guid = ap (λ (h : Head). length h.guid) told.head ∙ part_long 8 16 bytes (omega (arith, told.long));
-      previous = ap (λ (h : Head). length h.previous) told.head ∙ part_long 24 16 bytes (omega (arith, told.long));
+      guid = ap (λ (h : Head). length h.guid) told.head ∙ length-part 8 16 bytes (omega (arith, told.long));
+      previous = ap (λ (h : Head). length h.previous) told.head ∙ length-part 24 16 bytes (omega (arith, told.long));
       size = told.size;
       later = told.later;
       rising = are.rising;

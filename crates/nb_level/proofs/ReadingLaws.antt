@@ -1,16 +1,7 @@
 -- Reading step by step gives what the grammar reads.
-use Rattle.std.proofs.Common.{◌≡◌, ◌⊎◌, inl, inr, ℕ, zero, suc, ◌+◌, ◌-◌, ◌*◌, ◌<◌, ◌≤◌, List, [], ◌∷◌, ◌++◌, length, take, drop, refl, sym, ap, ◌∙◌, arith, append_assoc, length-drop, Option, Some, None, Result, Ok, Err}
-use Rattle.std.specs.Prelude.{Bool, true, false, not, ◌&&◌, ◌||◌, ◌==◌, nat_lt}
-use Rattle.std.proofs.lemmas.Bool.{cases_lt}
-use Rattle.std.proofs.lemmas.List.{drop-drop, take_all, length-take-le}
+use Rattle.std.proofs.Common.{◌≡◌, ◌⊎◌, inl, inr, ℕ, zero, suc, ◌+◌, ◌-◌, ◌*◌, ◌<◌, ◌≤◌, List, [], ◌∷◌, ◌++◌, length, take, drop, refl, sym, ap, ◌∙◌, arith, append_assoc, length-drop, Option, Some, None, Result, Ok, Err, Bool, true, false, not, ◌&&◌, ◌||◌, ◌==◌, nat_lt}
+use Rattle.nb_level.proofs.Common.{cases_lt, drop-drop, take_all, length-take-le, part, number_in, part-take, number_in-take, most_pages, Numbered, Head, first_fault, ends_before, behind, read_end, read_singles, read_runs, pages_in, barred_after, is_bad_number, is_first_page, end_mark, lt_no, lt_yes, Step, end_step, single_step, run_step, read_rest}
 use Rattle.std.proofs.Math.Nat.{suc-mul}
-use Rattle.nb_fields.specs.Bytes.{part, number_in}
-use Rattle.nb_fields.proofs.PartLaws.{part-take, number_in-take}
-use Rattle.nb_fields.specs.Places.{most_pages}
-use Rattle.nb_model.specs.Image.{Numbered}
-use Rattle.nb_model.specs.Levels.{Head, first_fault, ends_before, behind, read_end, read_singles, read_runs, pages_in, barred_after, is_bad_number, is_first_page, end_mark}
-use Rattle.nb_model.proofs.ReadLaws.{lt_no, lt_yes}
-use Rattle.nb_level.specs.Reading.{Step, end_step, single_step, run_step, read_rest}
 
 -- pages before pages
 pub behind-behind : (xs ys : List Numbered) (r : Result (List Numbered) ℕ) → behind xs (behind ys r) ≡ behind (xs ++ ys) r

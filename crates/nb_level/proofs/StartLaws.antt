@@ -1,17 +1,6 @@
 -- A head that was read from the front of a file.
-use Rattle.std.proofs.Common.{◌≡◌, inl, inr, ℕ, ◌+◌, ◌<◌, ◌≤◌, nat_eq, List, [], ◌∷◌, length, take, drop, refl, sym, ap, ◌∙◌, arith, Option, Some, None, Result, Err}
-use Rattle.std.specs.Prelude.{Bool, true, false, not, ◌&&◌, ◌||◌, ◌==◌, nat_lt, nat_le}
-use Rattle.std.specs.Cmp.Lexicographic.{pointwise}
-use Rattle.std.proofs.lemmas.Bool.{cases_lt}
-use Rattle.std.proofs.lemmas.List.{take_all, take-take, length-take-le}
-use Rattle.nb_fields.specs.Bytes.{part, number_in}
-use Rattle.nb_fields.specs.Places.{is_page_size}
-use Rattle.nb_fields.proofs.PartLaws.{part-take, number_in-take}
-use Rattle.nb_model.specs.Image.{Numbered}
-use Rattle.nb_model.specs.Levels.{Head, Contents, first_fault, read_level, read_pages, read_singles, read_runs, with_head, head_in, begins_level, level_signature, end_mark}
-use Rattle.nb_model.proofs.ReadLaws.{lt_no, and_no_right}
-use Rattle.nb_level.specs.Heads.{head_of}
-use Rattle.nb_level.specs.Reading.{Reading, head_fault, read_rest, still_to_come, IsBegun}
+use Rattle.std.proofs.Common.{◌≡◌, inl, inr, ℕ, ◌+◌, ◌<◌, ◌≤◌, nat_eq, List, [], ◌∷◌, length, take, drop, refl, sym, ap, ◌∙◌, arith, Option, Some, None, Result, Err, Bool, true, false, not, ◌&&◌, ◌||◌, ◌==◌, nat_lt, nat_le}
+use Rattle.nb_level.proofs.Common.{pointwise, cases_lt, take_all, take-take, length-take-le, part, number_in, is_page_size, part-take, number_in-take, Numbered, Head, Contents, first_fault, read_level, read_pages, read_singles, read_runs, with_head, head_in, begins_level, level_signature, end_mark, lt_no, head_of, Reading, head_fault, read_rest, still_to_come, IsBegun, and_right}
 use Rattle.nb_level.specs.declared.place.Place.{Place}
 use Rattle.nb_level.proofs.ReadingLaws.{rest-none}
 
@@ -125,9 +114,9 @@ start-begun bytes seen first name r same whole fault begun =
 pub begins-short : (bytes : List ℕ) → length bytes < 4 → begins_level bytes ≡ false
 unfolding begins_level
 begins-short [] short = refl
-begins-short (a ∷ []) short = and_no_right (nat_eq a 78) false refl
-begins-short (a ∷ (b ∷ [])) short = and_no_right (nat_eq a 78) _ (and_no_right (nat_eq b 66) false refl)
-begins-short (a ∷ (b ∷ (c ∷ []))) short = and_no_right (nat_eq a 78) _ (and_no_right (nat_eq b 66) _ (and_no_right (nat_eq c 65) false refl))
+begins-short (a ∷ []) short = and_right (nat_eq a 78) false refl
+begins-short (a ∷ (b ∷ [])) short = and_right (nat_eq a 78) _ (and_right (nat_eq b 66) false refl)
+begins-short (a ∷ (b ∷ (c ∷ []))) short = and_right (nat_eq a 78) _ (and_right (nat_eq b 66) _ (and_right (nat_eq c 65) false refl))
 begins-short (a ∷ (b ∷ (c ∷ (d ∷ l)))) short = absurd (omega arith)
 
 -- a front that is long enough is all that was read

@@ -1,4 +1,4 @@
-ghost use Rattle.std.specs.Prelude.{◌≡◌, [], length};
+ghost use Rattle.std.specs.Prelude.{◌≡◌, []};
 ghost use Rattle.nb_model.specs.Levels.{head_then, head_in};
 ghost use Rattle.nb_level.specs.Heads.{head_of};
 

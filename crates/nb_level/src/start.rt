@@ -1,4 +1,4 @@
-ghost use Rattle.std.specs.Prelude.{◌≡◌, ◌⊎◌, ◌≤◌, ◌+◌, length, IsTrue, IfOk, MatchOption};
+ghost use Rattle.std.specs.Prelude.{◌≡◌, ◌⊎◌, ◌≤◌, ◌+◌, length, IsTrue, MatchOption};
 ghost use Rattle.nb_fields.specs.Bytes.{number_in};
 ghost use Rattle.nb_fields.specs.Places.{is_page_size};
 ghost use Rattle.nb_host.specs.Calls.{IsStill};
@@ -7,7 +7,7 @@ ghost use Rattle.nb_model.specs.Levels.{begins_level};
 ghost use Rattle.nb_page.specs.Quiet.{Quiet};
 ghost use Rattle.nb_host.specs.Causes.{CountsDevice};
 ghost use Rattle.nb_level.specs.Answers.{StartSays, OpenSays, ReadsOnce};
-ghost use Rattle.nb_level.specs.Reading.{head_fault, IsBegun};
+ghost use Rattle.nb_level.specs.Reading.{head_fault};
 
 use crate::LevelReader;
 use nb_fields::layouts::level;

@@ -1,11 +1,8 @@
 -- Words after words.
-use Rattle.std.proofs.Common.{◌≡◌, ℕ, ◌+◌, ◌<◌, length, take, drop, get_or, map, List, [], ◌∷◌, ◌++◌, refl, sym, ◌∙◌, ap, append_assoc, slice_get, Some}
+use Rattle.std.proofs.Common.{◌≡◌, ℕ, ◌+◌, ◌<◌, length, take, drop, get_or, map, List, [], ◌∷◌, ◌++◌, refl, sym, ◌∙◌, ap, append_assoc, slice_get, Some, flat_map}
+use Rattle.nb_lines.proofs.Common.{take_more, take-append-drop, map-append, append-nil, flat_map_more, Word, is, number, quoted, word_text, spaced, name_words, page_words, row_words, seen}
 use Rattle.std.proofs.lemmas.Option.{get_or_from_slice_get}
-use Rattle.std.specs.Prelude.{flat_map}
-use Rattle.std.proofs.lemmas.List.{take_more, take-append-drop, map-append, append-nil, flat_map_more}
-use Rattle.nb_model.specs.Lines.{Word, is, number, quoted, word_text, spaced, name_words, page_words, row_words}
 use Rattle.nb_lines.specs.declared.word.Word.{Word as InLine}
-use Rattle.nb_lines.specs.Words.{seen}
 
 pub spaced-append : (a b : List Word) → spaced (a ++ b) ≡ spaced a ++ spaced b
 unfolding spaced

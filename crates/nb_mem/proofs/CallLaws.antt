@@ -1,15 +1,6 @@
 -- What a sync comes to.
-use Rattle.std.proofs.Common.{◌≡◌, ⊎_elim, ℕ, true, List, ◌∷◌, sym, subst}
-use Rattle.std.specs.Prelude.{MatchBool, Ok}
-use Rattle.nb_host.specs.Files.{File}
-use Rattle.nb_host.specs.Calls.{Syncs}
-use Rattle.nb_host.specs.Names.{same_name}
-use Rattle.nb_mem.specs.declared.entry.Entry.{Entry}
-use Rattle.nb_mem.specs.declared.entry.Entry.TheVariants.{Changed}
-use Rattle.nb_mem.specs.declared.entry.Change.TheVariants.{Synced}
-use Rattle.nb_mem.specs.Histories.{files_of, Now, Back, world_of}
-use Rattle.nb_mem.specs.HistoryLaws.{seen}
-use Rattle.nb_host.proofs.NameLaws.{decide, at_same, at_other, with_file-keep}
+use Rattle.std.proofs.Common.{◌≡◌, ⊎_elim, ℕ, true, List, ◌∷◌, sym, subst, MatchBool, Ok}
+use Rattle.nb_mem.proofs.Common.{File, Syncs, same_name, Entry, Changed, Synced, files_of, Now, Back, world_of, seen, decide, at_same, at_other, with_file-keep}
 
 -- a file was synced
 module _ (es : List Entry) (n : List ℕ) where

@@ -1,11 +1,7 @@
 -- No more reads, GUIDs and clock values than calls.
-use Rattle.std.proofs.Common.{◌+◌, ◌≤◌, List, [], ◌∷◌, length, arith, length-append}
-use Rattle.std.specs.Prelude.{reverse}
-use Rattle.std.proofs.lemmas.List.{length-reverse}
-use Rattle.nb_mem.specs.declared.entry.Entry.{Entry}
-use Rattle.nb_mem.specs.declared.entry.Entry.TheVariants.{Changed, Said, Asked}
+use Rattle.std.proofs.Common.{◌+◌, ◌≤◌, List, [], ◌∷◌, length, arith, length-append, reverse}
+use Rattle.nb_mem.proofs.Common.{length-reverse, Entry, Changed, Said, Asked, reads_of, guids_of, guid_of, times_of}
 use Rattle.nb_mem.specs.declared.entry.Question.TheVariants.{Size, Read, Guid, Time}
-use Rattle.nb_mem.specs.Histories.{reads_of, guids_of, guid_of, times_of}
 
 pub reads_of-bound : (es : List Entry) → reads_of es ≤ length es
 reads_of-bound [] = omega arith

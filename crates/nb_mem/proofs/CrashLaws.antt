@@ -1,14 +1,6 @@
 -- The outcomes of each rule.
-use Rattle.std.proofs.Common.{◌≡◌, inl, inr, ⊎_elim, ℕ, List, refl}
-use Rattle.std.specs.Prelude.{[], Some, None}
-use Rattle.nb_host.specs.Files.{File}
-use Rattle.nb_mem.specs.declared.entry.Change.{Change}
-use Rattle.nb_mem.specs.declared.entry.Change.TheVariants.{Made, Removed, Paged, Appended, Synced}
-use Rattle.nb_mem.specs.declared.entry.Entry.{Entry}
-use Rattle.nb_mem.specs.Changes.{NowAfter, BackAfter}
-use Rattle.nb_mem.specs.Histories.{files_of, Now, Back}
-use Rattle.nb_mem.specs.Crashes.{LeavesAfter, PagesMay, BytesMay, AnewMay, SyncedMay, OthersMay}
-use Rattle.nb_host.proofs.NameLaws.{at_same, to_same, to_other}
+use Rattle.std.proofs.Common.{◌≡◌, inl, inr, ⊎_elim, ℕ, List, refl, [], Some, None}
+use Rattle.nb_mem.proofs.Common.{File, Change, Made, Removed, Paged, Appended, Synced, Entry, NowAfter, BackAfter, files_of, Now, Back, LeavesAfter, PagesMay, BytesMay, AnewMay, SyncedMay, OthersMay, at_same, to_same, to_other}
 
 module _ (es : List Entry) (n : List ℕ) where
   to_now : (change : Change) (c : File) → NowAfter change (files_of es n) (Now es n) c → LeavesAfter es n change c

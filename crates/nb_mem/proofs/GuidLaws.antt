@@ -1,13 +1,8 @@
 -- GUIDs that are given after others.
-use Rattle.std.proofs.Common.{◌≡◌, ◌≢◌, ℕ, zero, suc, ◌+◌, ◌^◌, ◌<◌, ◌≤◌, List, [], ◌∷◌, ◌++◌, length, drop, replicate, refl, sym, ap, ◌∙◌, arith, length-append, append_assoc}
-use Rattle.std.specs.Prelude.{Contains}
+use Rattle.std.proofs.Common.{◌≡◌, ◌≢◌, ℕ, zero, suc, ◌+◌, ◌^◌, ◌<◌, ◌≤◌, List, [], ◌∷◌, ◌++◌, length, drop, replicate, refl, sym, ap, ◌∙◌, arith, length-append, append_assoc, Contains}
+use Rattle.nb_mem.proofs.Common.{append-nil, File, IsStill, Entry, files_of, Now, Back, guid_of, guids_of, guids_behind, with_guids, world_of}
 use Rattle.std.specs.Int.{w64, from_be_bytes}
-use Rattle.std.proofs.lemmas.List.{append-nil}
 use Rattle.std.proofs.lemmas.Nat.{from_be_bytes-to_be_bytes_8}
-use Rattle.nb_host.specs.Files.{File}
-use Rattle.nb_host.specs.Calls.{IsStill}
-use Rattle.nb_mem.specs.declared.entry.Entry.{Entry}
-use Rattle.nb_mem.specs.Histories.{files_of, Now, Back, guid_of, guids_of, guids_behind, with_guids, world_of}
 
 -- the files stay, and so does what a crash leaves
 with_guids-files : (n : ℕ) (es : List Entry) → files_of (with_guids n es) ≡ files_of es

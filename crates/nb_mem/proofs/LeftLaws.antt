@@ -1,16 +1,6 @@
 -- The files that a crash leaves, placed one after another.
-use Rattle.std.proofs.Common.{◌≡◌, ◌≢◌, ◌⊎◌, inl, inr, ⊎_elim, ℕ, List, [], ◌∷◌, ◌++◌, refl, sym, ◌∙◌, ap, subst}
-use Rattle.std.specs.Prelude.{Some, None}
-use Rattle.nb_host.specs.Files.{File}
-use Rattle.nb_host.specs.Crash.{Leaves, IsDurable}
-use Rattle.nb_host.specs.Calls.{IsSilent}
-use Rattle.nb_mem.specs.declared.entry.Entry.{Entry}
-use Rattle.nb_mem.specs.declared.slots.Slot.{Slot}
-use Rattle.nb_mem.specs.Slots.{files_in}
-use Rattle.nb_mem.specs.Histories.{files_of, Now, Back, world_of}
-use Rattle.nb_mem.specs.HistoryLaws.{reads_left}
-use Rattle.nb_mem.specs.Outcomes.{placed, IsLeft}
-use Rattle.nb_host.proofs.NameLaws.{decide, at_same, at_other, with_file-same, with_file-other}
+use Rattle.std.proofs.Common.{◌≡◌, ◌≢◌, ◌⊎◌, inl, inr, ⊎_elim, ℕ, List, [], ◌∷◌, ◌++◌, refl, sym, ◌∙◌, ap, subst, Some, None}
+use Rattle.nb_mem.proofs.Common.{File, Leaves, IsDurable, IsSilent, Entry, Slot, files_in, files_of, Now, Back, world_of, reads_left, placed, IsLeft, decide, at_same, at_other, with_file-same, with_file-other}
 
 -- no slot has the name
 abbrev pub IsUnnamed : List ℕ → List Slot → Type 0

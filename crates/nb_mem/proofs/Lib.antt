@@ -8,3 +8,4 @@ pub mod OutcomeLaws
 pub mod LeftLaws
 pub mod CrashLaws
 pub mod PickLaws
+mod Common

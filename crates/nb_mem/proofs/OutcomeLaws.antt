@@ -1,23 +1,7 @@
 -- An outcome goes on with the history.
-use Rattle.std.proofs.Common.{◌≡◌, ◌⊎◌, inl, inr, ℕ, zero, suc, ◌+◌, ◌-◌, ◌*◌, ◌/◌, ◌<◌, ◌≤◌, ◌==◌, nat_le, Bool, true, false, List, [], ◌∷◌, length, take, replicate, get_or, ⊎_elim, length-append, refl, sym, ◌∙◌, ap, ap₂, subst, arith}
-use Rattle.std.specs.Prelude.{MatchBool, Some, None}
-use Rattle.std.proofs.lemmas.Bool.{eqb-true, leb-true}
-use Rattle.std.proofs.lemmas.Bool.{cases_lt}
-use Rattle.std.proofs.lemmas.List.{length-take-le, length-replicate, get_or-take, get_or_append_left, get_or-append_right}
+use Rattle.std.proofs.Common.{◌≡◌, ◌⊎◌, inl, inr, ℕ, zero, suc, ◌+◌, ◌-◌, ◌*◌, ◌/◌, ◌<◌, ◌≤◌, ◌==◌, nat_le, Bool, true, false, List, [], ◌∷◌, length, take, replicate, get_or, ⊎_elim, length-append, refl, sym, ◌∙◌, ap, ap₂, subst, arith, MatchBool, Some, None}
+use Rattle.nb_mem.proofs.Common.{eqb-true, leb-true, cases_lt, length-take-le, length-replicate, get_or-take, get_or_append_left, get_or-append_right, File, bytes_of, PageLeft, AppendLeft, IsTornFrom, Leaves, Choices, Change, Placed, Made, Removed, Paged, Appended, Synced, Entry, Changed, Said, Asked, Outcome, file_after, NowAfter, BackAfter, files_of, Now, Back, world_of, MayBe, IsOther, is_yes, behind, page_by, torn_by, bytes_by, anew_by, settled, outcome_after, choices_after, outcome_by, left_by, to_same, to_other, with_file-same, with_file-other, same_self, same_other, decide}
 use Rattle.std.proofs.Math.Nat.{div-mul-le_self}
-use Rattle.nb_host.specs.Files.{File, bytes_of}
-use Rattle.nb_host.specs.Crash.{PageLeft, AppendLeft, IsTornFrom, Leaves}
-use Rattle.nb_mem.specs.declared.choices.Choices.{Choices}
-use Rattle.nb_mem.specs.declared.entry.Change.{Change}
-use Rattle.nb_mem.specs.declared.entry.Change.TheVariants.{Placed, Made, Removed, Paged, Appended, Synced}
-use Rattle.nb_mem.specs.declared.entry.Entry.{Entry}
-use Rattle.nb_mem.specs.declared.entry.Entry.TheVariants.{Changed, Said, Asked}
-use Rattle.nb_mem.specs.declared.outcome.Outcome.{Outcome}
-use Rattle.nb_mem.specs.Changes.{file_after, NowAfter, BackAfter}
-use Rattle.nb_mem.specs.Histories.{files_of, Now, Back, world_of}
-use Rattle.nb_mem.specs.Outcomes.{MayBe, IsOther}
-use Rattle.nb_mem.specs.Chosen.{is_yes, behind, page_by, torn_by, bytes_by, anew_by, settled, outcome_after, choices_after, outcome_by, left_by}
-use Rattle.nb_host.proofs.NameLaws.{to_same, to_other, with_file-same, with_file-other, same_self, same_other, decide}
 
 get_or-zeros : (n i : ℕ) → ◌≡◌ {A = ℕ} (get_or (replicate n 0) i 0) 0
 get_or-zeros zero i = refl

@@ -1,21 +1,7 @@
 -- What picks leave.
-use Rattle.std.proofs.Common.{◌≡◌, ◌≢◌, ⊎_elim, ℕ, ◌≤◌, ◌==◌, nat_le, Bool, true, false, List, [], ◌∷◌, length, refl, sym, ◌∙◌, ap, ap₂, subst}
-use Rattle.std.specs.Prelude.{None}
-use Rattle.std.proofs.lemmas.Bool.{eq-eqb, le-leb}
-use Rattle.nb_host.specs.Files.{File, bytes_of, with_bytes}
-use Rattle.nb_mem.specs.declared.choices.Choices.{Choices}
-use Rattle.nb_mem.specs.declared.entry.Change.{Change}
-use Rattle.nb_mem.specs.declared.entry.Change.TheVariants.{Placed, Made, Removed, Paged, Appended, Synced}
-use Rattle.nb_mem.specs.declared.entry.Entry.{Entry}
-use Rattle.nb_mem.specs.declared.entry.Entry.TheVariants.{Changed, Said, Asked}
-use Rattle.nb_mem.specs.declared.outcome.Outcome.{Outcome}
-use Rattle.nb_mem.specs.Changes.{file_after}
-use Rattle.nb_mem.specs.Histories.{files_of}
-use Rattle.nb_mem.specs.Chosen.{begun, is_yes, behind, page_by, grown, torn_by, bytes_by, anew_by, settled, outcome_after, choices_after, outcome_by, left_by}
+use Rattle.std.proofs.Common.{◌≡◌, ◌≢◌, ⊎_elim, ℕ, ◌≤◌, ◌==◌, nat_le, Bool, true, false, List, [], ◌∷◌, length, refl, sym, ◌∙◌, ap, ap₂, subst, None}
+use Rattle.nb_mem.proofs.Common.{eq-eqb, le-leb, File, bytes_of, with_bytes, Choices, Change, Placed, Made, Removed, Paged, Appended, Synced, Entry, Changed, Said, Asked, Outcome, file_after, files_of, begun, is_yes, behind, page_by, grown, torn_by, bytes_by, anew_by, settled, outcome_after, choices_after, outcome_by, left_by, IsOther, LosesAll, settled_after, settled_file, PicksReach, with_file-same, with_file-other, same_self, same_other, decide}
 use Rattle.nb_mem.specs.declared.entry.Question.{Question}
-use Rattle.nb_mem.specs.Outcomes.{IsOther}
-use Rattle.nb_mem.specs.Crashes.{LosesAll, settled_after, settled_file, PicksReach}
-use Rattle.nb_host.proofs.NameLaws.{with_file-same, with_file-other, same_self, same_other, decide}
 use Rattle.nb_mem.proofs.OutcomeLaws.{same_outcome, other_outcome}
 
 -- a file that was synced, and then changed once

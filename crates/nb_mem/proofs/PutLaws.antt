@@ -1,14 +1,6 @@
 -- Bytes with others put at a place.
-use Rattle.std.proofs.Common.{◌≡◌, ◌⊎◌, inl, inr, ℕ, ◌+◌, ◌-◌, ◌<◌, ◌≤◌, List, ◌++◌, length, take, drop, sym, ◌∙◌, ap, arith, length-append, append_assoc}
-use Rattle.std.specs.Prelude.{replicate}
-use Rattle.std.proofs.lemmas.Bool.{cases_lt}
-use Rattle.std.proofs.lemmas.List.{take_all, drop_all, take-append-le, length-replicate, replicate-append-replicate, append-nil}
-use Rattle.nb_host.specs.Files.{padded, put_at}
-
--- with no bytes to add
-pub padded-short : (bytes : List ℕ) (len : ℕ) → len ≤ length bytes → padded bytes len ≡ bytes
-unfolding padded
-padded-short bytes len fits = ap (λ (n : ℕ). bytes ++ replicate n 0) (let e : len - length bytes ≡ 0 = omega arith in e) ∙ append-nil bytes
+use Rattle.std.proofs.Common.{◌≡◌, ◌⊎◌, inl, inr, ℕ, ◌+◌, ◌-◌, ◌<◌, ◌≤◌, List, ◌++◌, length, take, drop, sym, ◌∙◌, ap, arith, length-append, append_assoc, replicate}
+use Rattle.nb_mem.proofs.Common.{cases_lt, take_all, drop_all, take-append-le, length-replicate, replicate-append-replicate, append-nil, padded, put_at, padded-short}
 
 -- as `resize` pads
 pub padded-long : (bytes : List ℕ) (len n : ℕ) → length bytes ≡ n → n ≤ len → take len bytes ++ replicate (len - n) 0 ≡ padded bytes len

@@ -1,15 +1,8 @@
 -- The file of a name in a list of slots, found and changed.
-use Rattle.std.proofs.Common.{◌≡◌, ◌≢◌, ℕ, zero, suc, ◌+◌, ◌<◌, Bool, true, false, List, [], ◌∷◌, ◌++◌, length, get_or, refl, sym, ◌∙◌, ap, subst, arith}
-use Rattle.std.specs.Prelude.{None, Some, slice_set, cond}
-use Rattle.std.specs.List.{position, position_from}
+use Rattle.std.proofs.Common.{◌≡◌, ◌≢◌, ℕ, zero, suc, ◌+◌, ◌<◌, Bool, true, false, List, [], ◌∷◌, ◌++◌, length, get_or, refl, sym, ◌∙◌, ap, subst, arith, None, Some, slice_set, cond}
+use Rattle.nb_mem.proofs.Common.{position, position_from, position_from-zero, same_name, File, with_file, files_in, Slot, with_file-same, with_file-other, with_file-again, with_file-swap}
 use Rattle.std.specs.Cmp.Lexicographic.{told_text}
 use Rattle.std.proofs.lemmas.List.Quantifiers.{position-Some}
-use Rattle.std.proofs.lemmas.Iterator.Adapters.{position_from-zero}
-use Rattle.nb_host.specs.Names.{same_name}
-use Rattle.nb_host.specs.Files.{File, with_file}
-use Rattle.nb_mem.specs.Slots.{files_in}
-use Rattle.nb_mem.specs.declared.slots.Slot.{Slot}
-use Rattle.nb_host.proofs.NameLaws.{with_file-same, with_file-other, with_file-again, with_file-swap}
 
 module _ (n : List ℕ) where
   same : (s : Slot) → same_name n s.name ≡ true → n ≡ s.name

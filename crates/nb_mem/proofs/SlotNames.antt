@@ -1,13 +1,6 @@
 -- The names in a list of slots.
-use Rattle.std.proofs.Common.{◌≡◌, ℕ, zero, suc, ◌+◌, List, [], ◌∷◌, ◌++◌, get_or, refl, sym, ◌∙◌, ap}
-use Rattle.std.specs.Prelude.{Option, None, Some, slice_set, cond}
-use Rattle.std.specs.List.{position, position_from}
-use Rattle.std.proofs.lemmas.Iterator.Adapters.{position_from-zero}
-use Rattle.nb_host.specs.Names.{same_name}
-use Rattle.nb_host.specs.Files.{File}
-use Rattle.nb_mem.specs.Chosen.{with_name}
-use Rattle.nb_mem.specs.Slots.{names_in}
-use Rattle.nb_mem.specs.declared.slots.Slot.{Slot}
+use Rattle.std.proofs.Common.{◌≡◌, ℕ, zero, suc, ◌+◌, List, [], ◌∷◌, ◌++◌, get_or, refl, sym, ◌∙◌, ap, Option, None, Some, slice_set, cond}
+use Rattle.nb_mem.proofs.Common.{position, position_from, position_from-zero, same_name, File, with_name, names_in, Slot}
 
 module _ (n : List ℕ) where
   among_from : (slots : List Slot) (j : ℕ) → position_from (λ (s : Slot). same_name n s.name) j slots ≡ position_from (λ (m : List ℕ). same_name n m) j (names_in slots)

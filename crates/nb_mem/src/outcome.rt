@@ -1,4 +1,4 @@
-ghost use Rattle.std.specs.Prelude.{◌≡◌, ◌≤◌, ◌<◌, length, IfOk, OnOk};
+ghost use Rattle.std.specs.Prelude.{◌≡◌, ◌<◌, length, IfOk, OnOk};
 ghost use Rattle.nb_host.specs.Files.{bytes_of};
 ghost use Rattle.nb_mem.specs.Chosen.{grown, page_by, torn_by, bytes_by, settled, anew_by, behind, outcome_after, choices_after};
 

@@ -1,7 +1,7 @@
-ghost use Rattle.std.specs.Prelude.{◌≡◌, ℕ, List, Option, None, Some, OnOk, OnErr};
+ghost use Rattle.std.specs.Prelude.{◌≡◌, Option, None, Some, OnOk, OnErr};
 ghost use Rattle.std.specs.List.{position};
 ghost use Rattle.std.specs.Option.{option_copied};
-ghost use Rattle.nb_host.specs.Files.{File, with_file, with_page, with_bytes};
+ghost use Rattle.nb_host.specs.Files.{with_file, with_page, with_bytes};
 ghost use Rattle.nb_host.specs.Names.{same_name};
 ghost use Rattle.nb_mem.specs.Changes.{file_after};
 ghost use Rattle.nb_mem.specs.Slots.{files_in, names_in};

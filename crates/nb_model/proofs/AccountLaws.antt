@@ -1,17 +1,7 @@
 -- What turns of statements that can be asked today leave of the account: the database that is seen after their strokes, the records of
 -- the backups that have begun, and all else as before.
-use Rattle.std.proofs.Common.{◌≡◌, ◌≢◌, ℕ, ◌-◌, List, [], ◌∷◌, ◌++◌, get_or, refl, sym, ap, subst, ◌∙◌, append_assoc}
-use Rattle.std.specs.Prelude.{Bool, true, false, Option, Some, None}
-use Rattle.std.specs.Cmp.Lexicographic.{told_text}
-use Rattle.std.proofs.lemmas.List.{append-nil}
-use Rattle.nb_host.specs.Files.{Files}
-use Rattle.nb_host.specs.Names.{same_name}
-use Rattle.nb_model.specs.Account.{Kept, Base, Entry, Plain, IsBase, Account, with_entry}
-use Rattle.nb_model.specs.Outcomes.{Turn, Outcome}
-use Rattle.nb_model.specs.Making.{MadeFile, with_files}
-use Rattle.nb_model.specs.Run.{Now, Event, Opening, base_now, with_made, account_after, outcome, stands_then, take_turn, one_turn, play, event_of, strokes_of, files_made}
-use Rattle.nb_model.specs.Stands.{Stands}
-use Rattle.nb_model.specs.Strokes.{Stroke, base_in, base_after, records_after}
+use Rattle.std.proofs.Common.{◌≡◌, ◌≢◌, ℕ, ◌-◌, List, [], ◌∷◌, ◌++◌, get_or, refl, sym, ap, subst, ◌∙◌, append_assoc, Bool, true, false, Option, Some, None}
+use Rattle.nb_model.proofs.Common.{told_text, append-nil, Files, same_name, Kept, Base, Entry, Plain, IsBase, Account, with_entry, Turn, Outcome, MadeFile, with_files, Now, Event, Opening, base_now, with_made, account_after, outcome, stands_then, take_turn, one_turn, play, event_of, strokes_of, files_made, Stands, Stroke, base_in, base_after, records_after}
 use Rattle.nb_model.proofs.MakingLaws.{of_made, event_makes, made_append}
 use Rattle.nb_model.proofs.OpeningLaws.{with_kept}
 use Rattle.nb_model.proofs.OutputLaws.{strokes_one}

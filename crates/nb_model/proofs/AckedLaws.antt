@@ -1,12 +1,6 @@
 -- What is acknowledged never falls as more is said, and is never more than all strokes.
-use Rattle.std.proofs.Common.{◌≡◌, inl, inr, ℕ, ◌+◌, ◌-◌, ◌≤◌, List, [], ◌∷◌, length, refl, sym, ◌∙◌, arith}
-use Rattle.std.specs.Prelude.{Bool, Option, Some, None, true, false, nat_le, option_map}
-use Rattle.std.proofs.lemmas.Bool.{true≢false}
-use Rattle.std.proofs.lemmas.Bool.Decides.{leb_tells}
-use Rattle.nb_model.specs.declared.reply.Reply.{Reply}
-use Rattle.nb_model.specs.Lines.{line_text}
-use Rattle.nb_model.specs.Run.{Event}
-use Rattle.nb_model.specs.Output.{acked_in, acked}
+use Rattle.std.proofs.Common.{◌≡◌, inl, inr, ℕ, ◌+◌, ◌-◌, ◌≤◌, List, [], ◌∷◌, length, refl, sym, ◌∙◌, arith, Bool, Option, Some, None, true, false, nat_le, option_map}
+use Rattle.nb_model.proofs.Common.{true≢false, leb_tells, Reply, line_text, Event, acked_in, acked}
 
 -- what is acknowledged, as a number
 abbrev pub number : Option ℕ → ℕ

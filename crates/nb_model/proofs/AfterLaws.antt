@@ -1,10 +1,6 @@
 -- The account after two lists of strokes is the one after their join.
-use Rattle.std.proofs.Common.{◌≡◌, ℕ, List, [], ◌∷◌, ◌++◌, refl, sym, ap, ◌∙◌, append_assoc}
-use Rattle.std.specs.Prelude.{Bool, true, false}
-use Rattle.std.proofs.lemmas.List.{append-nil}
-use Rattle.nb_host.specs.Names.{same_name}
-use Rattle.nb_model.specs.Account.{Base, Kept, Entry, IsBase, Account, with_entry}
-use Rattle.nb_model.specs.Strokes.{Stroke, base_after, records_after, base_in, after}
+use Rattle.std.proofs.Common.{◌≡◌, ℕ, List, [], ◌∷◌, ◌++◌, refl, sym, ap, ◌∙◌, append_assoc, Bool, true, false}
+use Rattle.nb_model.proofs.Common.{append-nil, same_name, Base, Kept, Entry, IsBase, Account, with_entry, Stroke, base_after, records_after, base_in, after}
 use Rattle.nb_model.proofs.StrokeLaws.{base_after-append, records_after-append}
 use Rattle.nb_model.proofs.RunLaws.{entry_same, base_in_base}
 

@@ -1,11 +1,6 @@
 -- What holds of the image before strokes and after each of them.
-use Rattle.std.proofs.Common.{◌≡◌, ◌⊎◌, inl, inr, ℕ, zero, suc, List, [], ◌∷◌, ◌++◌, take, refl, sym, ap, subst, ◌∙◌}
-use Rattle.std.specs.Prelude.{Bool, true, false, nat_lt}
-use Rattle.nb_fields.specs.Page.{stamped}
-use Rattle.nb_model.specs.Account.{Base}
-use Rattle.nb_model.specs.Forms.{Draft, drafted, old_page, put, raised, needs, is_kind, has_entry, scn_entry, scn_page_of, entry_raised, entry_written, written, wrote}
-use Rattle.nb_model.specs.Image.{Page, Image, image_scn}
-use Rattle.nb_model.specs.Strokes.{Stroke, page, on_base, base_after}
+use Rattle.std.proofs.Common.{◌≡◌, ◌⊎◌, inl, inr, ℕ, zero, suc, List, [], ◌∷◌, ◌++◌, take, refl, sym, ap, subst, ◌∙◌, Bool, true, false, nat_lt}
+use Rattle.nb_model.proofs.Common.{stamped, Base, Draft, drafted, old_page, put, raised, needs, is_kind, has_entry, scn_entry, scn_page_of, entry_raised, entry_written, written, wrote, Page, Image, image_scn, Stroke, page, on_base, base_after}
 use Rattle.nb_model.proofs.DraftLaws.{IsOf, drafted_is, drafts_are, raised_keeps, put_keeps}
 use Rattle.nb_model.proofs.StrokeLaws.{base_after-append}
 

@@ -1,29 +1,6 @@
 -- The start and the close of a backup keep what was seen well: the row that the close writes names the record that the begin has kept.
-use Rattle.std.proofs.Common.{◌≡◌, inl, inr, ℕ, ◌+◌, ◌*◌, ◌<◌, ◌≤◌, List, [], ◌∷◌, ◌++◌, length, take, drop, refl, sym, ap, subst, ◌∙◌, arith, append_assoc}
-use Rattle.std.specs.Prelude.{Bool, true, false, ◌&&◌, Option, Some, None, Contains}
-use Rattle.std.specs.List.{AllByRecursion}
-use Rattle.std.proofs.lemmas.Bool.{and_parts, cases_lt}
-use Rattle.std.proofs.lemmas.List.{take_at}
-use Rattle.std.proofs.lemmas.List.Elements.{Contains-append_right}
-use Rattle.nb_fields.specs.Bytes.{bytes_of, number_in, padded, with_part}
-use Rattle.nb_fields.specs.Page.{stamped}
-use Rattle.nb_fields.proofs.NumberLaws.{number_of-bytes_of}
-use Rattle.nb_fields.specs.States.{normal_state, stalled_state}
-use Rattle.nb_fields.specs.Kinds.{data_kind}
-use Rattle.nb_model.specs.Account.{Ask, Kept, Base, Entry}
-use Rattle.nb_model.specs.Backups.{room_in, ask_of}
-use Rattle.nb_model.specs.Causes.{broken_at}
-use Rattle.nb_model.specs.Chains.{History, Slot, Spot, is_used, level_in, scn_in, guid_in, slots_in, spots_on, spots_of, spots, pages_of, found_pages, last_such, backup_spot, backup_slot, put_slot, is_in_chain}
-use Rattle.nb_model.specs.Forms.{drafted}
-use Rattle.nb_model.specs.Image.{Page, Image, page_at, image_size, image_state, image_scn}
-use Rattle.nb_model.specs.Making.{kept_of}
-use Rattle.nb_model.specs.Outcomes.{Backing, Given, Seen, next_guid}
-use Rattle.nb_model.specs.Sound.{HasHeader}
-use Rattle.nb_model.specs.Stands.{is_history_page, GoesOn, GoesOnFrom, IsRemembered, HasRows, NamesPast}
-use Rattle.nb_model.specs.Steps.{Step, makes, after_step, after_steps, made}
-use Rattle.nb_model.specs.Strokes.{Stroke, begin, on_base, base_after, records_of}
-use Rattle.nb_model.specs.Trail.{Trail, settled, settles_at, after_stroke}
-use Rattle.nb_model.specs.WellTrail.{AllGoOn, IsWellTrail}
+use Rattle.std.proofs.Common.{◌≡◌, inl, inr, ℕ, ◌+◌, ◌*◌, ◌<◌, ◌≤◌, List, [], ◌∷◌, ◌++◌, length, take, drop, refl, sym, ap, subst, ◌∙◌, arith, append_assoc, Bool, true, false, ◌&&◌, Option, Some, None, Contains}
+use Rattle.nb_model.proofs.Common.{AllByRecursion, and_parts, cases_lt, take_at, Contains-append_right, bytes_of, number_in, padded, with_part, stamped, number_of-bytes_of, normal_state, stalled_state, data_kind, Ask, Kept, Base, Entry, room_in, ask_of, broken_at, History, Slot, Spot, is_used, level_in, scn_in, guid_in, slots_in, spots_on, spots_of, spots, pages_of, found_pages, last_such, backup_spot, backup_slot, put_slot, is_in_chain, drafted, Page, Image, page_at, image_size, image_state, image_scn, kept_of, Backing, Given, Seen, next_guid, HasHeader, is_history_page, GoesOn, GoesOnFrom, IsRemembered, HasRows, NamesPast, Step, makes, after_step, after_steps, made, Stroke, begin, on_base, records_of, Trail, settled, settles_at, after_stroke, AllGoOn, IsWellTrail, some_same, Contains-push, all_go}
 use Rattle.nb_model.proofs.ControlMay.{may_begin}
 use Rattle.nb_model.proofs.ControlSound.{control_rest, control_long, control_goes_on, new_size, new_free}
 use Rattle.nb_model.proofs.ControlWell.{goes_on_now}
@@ -32,7 +9,7 @@ use Rattle.nb_model.proofs.FitLaws.{Fits, Stays, fitting_stays}
 use Rattle.nb_model.proofs.HeldLaws.{IsHeld, IsOfHistory, held_by}
 use Rattle.nb_model.proofs.LeadLaws.{LeadsTo, leads_kept, past_chain}
 use Rattle.nb_model.proofs.HeldRoom.{HoldsRows, HasChainRows, room_held}
-use Rattle.nb_model.proofs.PastLaws.{all_rows, no_history, no_rows_pass, kept_more, remembered_with}
+use Rattle.nb_model.proofs.PastLaws.{no_history, no_rows_pass, kept_more, remembered_with}
 use Rattle.nb_model.proofs.PutSound.{header_whole}
 use Rattle.nb_model.proofs.RecordLaws.{HasParent}
 use Rattle.nb_model.proofs.RoomLaws.{HoldsOfHistory, in_chain, pages_found, room_fits, slot_fits, backup_length}
@@ -40,8 +17,7 @@ use Rattle.nb_model.proofs.SlotLaws.{linked_slots, linked_history, new_slots, ro
 use Rattle.nb_model.proofs.SoundLaws.{all_at}
 use Rattle.nb_model.proofs.SoundTurns.{HasPlace}
 use Rattle.nb_model.proofs.SteadyLaws.{WellAlong, KeepsAlong, record_of, kept_along, rows_along, begin_along, along_append, along_last, kept_append}
-use Rattle.nb_model.proofs.StepsLaws.{after_made, after_steps_append}
-use Rattle.nb_model.proofs.TrailLaws.{last_there, trail_bases}
+use Rattle.nb_model.proofs.StepsLaws.{after_steps_append, made_seen}
 use Rattle.nb_model.proofs.TurnCases.{MayStart, started, IsFrom, whole, since}
 
 -- Rows of the history that pass a test are kept where room is made for one more.
@@ -110,9 +86,6 @@ pub record IsRecorded (kept : List Kept) (t : Trail) (b : Backing) : Type 0 wher
   pub go_on : AllGoOn t (kept_of b t.base.frozen)
   pub page : HoldsRows (IsRemembered kept (AllGoOn t)) b.page t.base.image
 
-pub made_base : (t : Trail) (ss : List Stroke) → (after_steps t (made ss)).base ≡ base_after t.base ss
-made_base t ss = ap (λ (u : Trail). u.base) (after_made t ss) ∙ trail_bases ss t
-
 made_both : (xs ys : List Stroke) → made (xs ++ ys) ≡ made xs ++ made ys
 unfolding made
 made_both [] ys = refl
@@ -129,7 +102,7 @@ holds_on P R q old new goes held h = record {
   held = (held h.bytes h.of_history (h.held, h.leads)).0;
   leads = (held h.bytes h.of_history (h.held, h.leads)).1;
   of_history = h.of_history;
-  rows = all_rows (λ row. is_used row ≡ true → P row) (λ row. is_used row ≡ true → R row) (slots_in h.bytes) (λ row one used. goes row (one used)) h.rows;
+  rows = all_go {X = Slot} (λ row. is_used row ≡ true → P row) (λ row. is_used row ≡ true → R row) (slots_in h.bytes) (λ row one used. goes row (one used)) h.rows;
 }
 
 remembered_on : (kept more : List Kept) (P R : Kept → Type 0) → ((r : Kept) → P r → R r) → (row : Slot) → IsRemembered kept P row → IsRemembered (kept ++ more) R row
@@ -157,7 +130,7 @@ recorded_settled kept t b h = record {
 }
   where
     on : (r : Kept) → AllGoOn t r → AllGoOn (settled t.base) r
-    on r all = settled_goes_on t.base r (all t.base (last_there t.earlier t.base))
+    on r all = settled_goes_on t.base r (all t.base (Contains-push t.earlier t.base))
 
 -- what a well trail says of its image
 module _ (kept : List Kept) (t : Trail) (w : IsWellTrail kept t) where
@@ -165,7 +138,7 @@ module _ (kept : List Kept) (t : Trail) (w : IsWellTrail kept t) where
   its_header = record { header = w.base.well.header; scn = w.base.well.scn }
 
   its_past : NamesPast kept (AllGoOn t) t.base.image
-  its_past = w.past t.base (last_there t.earlier t.base)
+  its_past = w.past t.base (Contains-push t.earlier t.base)
 
   -- the row from which a backup goes on names a record from which all that was seen goes on
   its_row : (test : Slot → Bool) (row : Spot) → broken_at (pages_of History t.base.image) ≡ None → backup_spot test t.base.image ≡ Some row → IsRemembered kept (AllGoOn t) row.bytes
@@ -177,28 +150,22 @@ module _ (kept : List Kept) (t : Trail) (w : IsWellTrail kept t) where
     unfolding on_base
     goes_on_then ask r all =
         control_goes_on stalled_state (image_scn u.base.image + 1) guid u.base.image (record { header = later.base.well.header; scn = later.base.well.scn }) later.base.well.sound
-        (may_begin u.base.image (record { header = later.base.well.header; scn = later.base.well.scn }) guid sixteen scn) r (all u.base (last_there u.earlier u.base))
+        (may_begin u.base.image (record { header = later.base.well.header; scn = later.base.well.scn }) guid sixteen scn) r (all u.base (Contains-push u.earlier u.base))
 
     its_parent : (asked : Ask) → broken_at (pages_of History t.base.image) ≡ None → IsFrom t.base.image asked → HasParent kept (record_of u guid (Some asked))
     unfolding ask_of
-    its_parent asked unbroken (whole none) ask is some = absurd (some (ap (λ (a : Ask). a.previous) (sym (same_ask ask is) ∙ none)))
-      where
-        same_ask : (a : Ask) → Some asked ≡ Some a → asked ≡ a
-        same_ask a e = cc
+    its_parent asked unbroken (whole none) ask is some = absurd (some (ap (λ (a : Ask). a.previous) (sym (some_same asked ask is) ∙ none)))
     its_parent asked unbroken (since level test row found goes_by) ask is some =
         let remembered : IsRemembered kept (AllGoOn t) row.bytes = its_row test row unbroken found in
         let all : AllGoOn u remembered.backup = on remembered.backup remembered.passes in
-        subst (GoesOnFrom kept (record_of u guid (Some asked))) (same_ask ask is)
+        subst (GoesOnFrom kept (record_of u guid (Some asked))) (some_same asked ask is)
         (subst (λ (a : Ask). GoesOnFrom kept (record_of u guid (Some a)) a) (sym goes_by) (record {
           parent = remembered.backup;
           kept_as = remembered.kept_as;
           scn = remembered.scn;
-          earlier = (all u.base (last_there u.earlier u.base)).earlier;
+          earlier = (all u.base (Contains-push u.earlier u.base)).earlier;
           follows = (goes_on_then (Some (ask_of level (Some row))) remembered.backup all).follows;
         }))
-      where
-        same_ask : (a : Ask) → Some asked ≡ Some a → asked ≡ a
-        same_ask a e = cc
 
 -- What is well along the strokes of an outcome, and recorded after them.
 pub record StartsWell (kept : List Kept) (t : Trail) (ss : List Stroke) (b : Backing) : Type 0 where
@@ -290,7 +257,7 @@ module _ (kept : List Kept) (t : Trail) (w : IsWellTrail kept t) (cache : ℕ) (
     later = subst (λ (rs : List Kept). IsWellTrail rs u) room.none (along_last kept t (made ss) room.along)
 
     stays : Stays t.base u.base
-    stays = subst (Stays t.base) (sym (made_base t ss)) (fitting_stays rows ss t.base fits.each (header_whole t.base.image header w.base.well.sound))
+    stays = subst (Stays t.base) (sym (made_seen t ss)) (fitting_stays rows ss t.base fits.each (header_whole t.base.image header w.base.well.sound))
 
     normal : image_state u.base.image ≡ normal_state
     normal = stays.state ∙ may.may.normal
@@ -299,7 +266,7 @@ module _ (kept : List Kept) (t : Trail) (w : IsWellTrail kept t) (cache : ℕ) (
     small = omega (arith, stays.scn, may.may.scn)
 
     page : HoldsRows (IsRemembered kept (AllGoOn u)) backing.page u.base.image
-    page = subst (λ (x : Image). HoldsRows (IsRemembered kept (AllGoOn u)) backing.page x) (sym fits.is.is ∙ ap (λ (b : Base). b.image) (sym (made_base t ss)))
+    page = subst (λ (x : Image). HoldsRows (IsRemembered kept (AllGoOn u)) backing.page x) (sym fits.is.is ∙ ap (λ (b : Base). b.image) (sym (made_seen t ss)))
         (holds_on (IsRemembered kept (AllGoOn t)) (IsRemembered kept (AllGoOn u)) backing.page (room_in t.base.image).draft.image (room_in t.base.image).draft.image (remembered_with kept (AllGoOn t) (AllGoOn u) room.go_on)
         (λ bytes kind held. held)
         (room_held (IsRemembered kept (AllGoOn t)) t.base header w.base.well.sound may.unbroken (chain_rows kept (AllGoOn t) t.base.image (its_past kept t w)) may.formed may.left))
@@ -355,7 +322,7 @@ module _ (kept : List Kept) (t : Trail) (w : IsWellTrail kept t) (b : Backing) (
   IsKnown row = is_used row ≡ true → IsRemembered kept (AllGoOn t) row
 
   scn_low : b.scn < 4294967296
-  scn_low = let earlier = (recorded.go_on t.base (last_there t.earlier t.base)).earlier in let low = w.base.well.scn in omega (arith, earlier, low)
+  scn_low = let earlier = (recorded.go_on t.base (Contains-push t.earlier t.base)).earlier in let low = w.base.well.scn in omega (arith, earlier, low)
 
   slot_known : IsRemembered kept (AllGoOn t) its_slot
   slot_known = record {

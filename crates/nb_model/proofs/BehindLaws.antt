@@ -1,28 +1,10 @@
 -- What files that are behind may leave is what may be left of what was seen, also on the way on which the pages that wait go out.
-use Rattle.std.proofs.Common.{◌≡◌, ◌≢◌, ◌⊎◌, inl, inr, ⊎_elim, ℕ, ◌+◌, ◌/◌, ◌<◌, ◌≤◌, List, [], ◌∷◌, ◌++◌, length, refl, sym, ap, subst, ◌∙◌, arith, append_assoc, length-append}
-use Rattle.std.specs.Prelude.{Bool, true, false, Option, Some, None, Contains, IsTrue}
-use Rattle.std.proofs.lemmas.Bool.{true≢false}
-use Rattle.std.proofs.lemmas.List.{append-nil}
-use Rattle.std.proofs.lemmas.List.Elements.{Contains-append_left, Contains-append_right}
-use Rattle.nb_fields.specs.Places.{is_page_size, is_scn_place, entries_in}
-use Rattle.nb_fields.specs.Header.{state_of, size_of, scn_of}
-use Rattle.nb_fields.specs.States.{stalled_state}
-use Rattle.nb_model.specs.Image.{Page, Image, page_at, first_page, image_size, image_state, image_scn}
-use Rattle.nb_model.specs.Account.{Base}
-use Rattle.nb_model.specs.Forms.{scn_page_of, scn_entry, has_entry}
-use Rattle.nb_model.specs.Owner.{entry_for}
-use Rattle.nb_model.specs.Stands.{IsRaised}
-use Rattle.nb_model.specs.Earlier.{IsEarlier, IsCovered, AreInStep}
-use Rattle.nb_model.specs.Trail.{Trail, bases_of, HasPage, IsMixture, IsRest, IsLeft, IsFirm}
-use Rattle.nb_model.specs.Behind.{IsBehind, IsRewritten, IsOnTheWay, IsEntering}
+use Rattle.std.proofs.Common.{◌≡◌, ◌≢◌, ◌⊎◌, inl, inr, ⊎_elim, ℕ, ◌+◌, ◌/◌, ◌<◌, ◌≤◌, List, [], ◌∷◌, ◌++◌, length, refl, sym, ap, subst, ◌∙◌, arith, append_assoc, length-append, Bool, true, false, Option, Some, None, Contains, IsTrue}
+use Rattle.nb_model.proofs.Common.{true≢false, append-nil, Contains-append_left, Contains-append_right, is_page_size, is_scn_place, entries_in, state_of, size_of, scn_of, stalled_state, Page, Image, page_at, first_page, image_size, image_state, image_scn, Base, scn_page_of, scn_entry, has_entry, entry_for, IsRaised, IsEarlier, IsCovered, AreInStep, Trail, bases_of, HasPage, IsMixture, IsRest, IsLeft, IsFirm, IsBehind, IsRewritten, IsOnTheWay, IsEntering, head_same, nil_from_length}
 use Rattle.nb_model.proofs.SoundLaws.{scn_page_there, scn_no_entry}
 use Rattle.nb_model.proofs.MixtureLaws.{has_same, scn_page_same, entry_same}
 use Rattle.nb_model.proofs.EntryLaws.{for_front}
 use Rattle.nb_model.proofs.CoveredLaws.{steps_front, steps_back, steps_covered, steps_before, now_there, IsFrom, covered_entries, behind_front, raised_front, firm_covered}
-
--- the only one of a list of one
-one_base : (x y : Base) → x ∷ [] ≡ y ∷ [] → x ≡ y
-one_base x y e = cc
 
 module _ (f t : Trail) (is : IsBehind f t) where
   there_part : (m : Base) → Contains (bases_of f) m → Contains (bases_of t) m
@@ -46,16 +28,12 @@ module _ (f t : Trail) (is : IsBehind f t) where
       let here : length (is.before ++ (bases_of f ++ is.behind)) ≡ length is.before + length (bases_of f ++ is.behind) = length-append is.before (bases_of f ++ is.behind) in
       let there : length (bases_of f ++ is.behind) ≡ length (bases_of f) + length is.behind = length-append (bases_of f) is.behind in
       let its : length (bases_of f) ≡ length f.earlier + 1 = length-append f.earlier (f.base ∷ []) in
-      let no_earlier : f.earlier ≡ [] = empty f.earlier (omega arith) in
-      let no_before : is.before ≡ [] = empty is.before (omega arith) in
-      let no_behind : is.behind ≡ [] = empty is.behind (omega arith) in
+      let no_earlier : f.earlier ≡ [] = nil_from_length f.earlier (omega arith) in
+      let no_before : is.before ≡ [] = nil_from_length is.before (omega arith) in
+      let no_behind : is.behind ≡ [] = nil_from_length is.behind (omega arith) in
       let all : t.base ∷ [] ≡ f.base ∷ [] =
       one ∙ ap (λ (bs : List Base). bs ++ (bases_of f ++ is.behind)) no_before ∙ ap (λ (bs : List Base). bases_of f ++ bs) no_behind ∙ append-nil (bases_of f) ∙ ap (λ (bs : List Base). bs ++ f.base ∷ []) no_earlier in
-      (no_earlier, sym (one_base t.base f.base all))
-    where
-      empty : (bs : List Base) → length bs ≡ 0 → bs ≡ []
-      empty [] e = refl
-      empty (b ∷ bs) e = absurd (omega arith)
+      (no_earlier, sym (head_same t.base f.base [] [] all))
 
   -- of the rest no more is missing
   rest_behind : (b : Base) → IsRest f b → IsRest t b

@@ -1,30 +1,12 @@
 -- One bit of an inventory page is written: the page fits, and what is kept.
-use Rattle.std.proofs.Common.{◌≡◌, ◌≢◌, inl, inr, ℕ, zero, suc, ◌+◌, ◌-◌, ◌*◌, ◌/◌, ◌%◌, ◌^◌, ◌<◌, ◌≤◌, List, ◌++◌, length, get_or, drop, refl, sym, ap, ◌∙◌, arith, length-drop, set, length-set, get_or-set_same, get_or-set_other}
-use Rattle.std.specs.Prelude.{IsTrue, slice_index}
+use Rattle.std.proofs.Common.{◌≡◌, ◌≢◌, inl, inr, ℕ, zero, suc, ◌+◌, ◌-◌, ◌*◌, ◌/◌, ◌%◌, ◌^◌, ◌<◌, ◌≤◌, List, ◌++◌, length, get_or, drop, refl, sym, ap, ◌∙◌, arith, length-drop, set, length-set, get_or-set_same, get_or-set_other, IsTrue, slice_index}
+use Rattle.nb_model.proofs.Common.{pow-suc, eqb_tells, get_or-append_right, get_or-drop, padded, is_page_size, bits_in, inventory_place, head_of, page_of, generation_of, stamped, bit_of, length-head_of, padded_whole, bits-least, inventory_index, Page, with_bit, bit_at-most}
 use Rattle.std.specs.Int.{bit_at}
-use Rattle.std.proofs.Math.Nat.{pow-suc}
 use Rattle.std.proofs.lemmas.Nat.Bits.{bit_at_lowest, bit_at-suc}
-use Rattle.std.proofs.lemmas.Bool.Decides.{eqb_tells}
-use Rattle.std.proofs.lemmas.List.{get_or-append_right, get_or-drop}
-use Rattle.nb_fields.specs.Bytes.{padded}
-use Rattle.nb_fields.specs.Places.{is_page_size, bits_in, inventory_place}
-use Rattle.nb_fields.specs.Page.{head_of, page_of, generation_of, stamped}
-use Rattle.nb_fields.specs.Payloads.{bit_of}
-use Rattle.nb_fields.proofs.PageLaws.{length-head_of, padded_whole}
-use Rattle.nb_fields.proofs.PlaceLaws.{bits-least, inventory_index}
-use Rattle.nb_model.specs.Image.{Page}
-use Rattle.nb_model.specs.Forms.{with_bit}
 
 -- a number with bit m so
 abbrev with_number_bit : (n m b : ℕ) → ℕ
 with_number_bit n m b = n - bit_at n m * 2 ^ m + b * 2 ^ m
-
-bit_at-most : (n m : ℕ) → bit_at n m * 2 ^ m ≤ n
-bit_at-most n zero = omega (arith, bit_at_lowest n)
-bit_at-most n (suc m) =
-    let rest = bit_at-most (n / 2) m in
-    let same : bit_at n (suc m) * 2 ^ suc m ≡ 2 * (bit_at (n / 2) m * 2 ^ m) = ap (λ (t : ℕ). t * 2 ^ suc m) (bit_at-suc n m) ∙ ap (λ (x : ℕ). bit_at (n / 2) m * x) (pow-suc 2 m) ∙ omega arith in
-    omega arith
 
 -- its half has the bit before so, and its lowest bit stays
 half : (n m b : ℕ) → with_number_bit n (suc m) b ≡ 2 * with_number_bit (n / 2) m b + n % 2

@@ -1,19 +1,6 @@
 -- Each stroke that takes a page or gives it back fits at its point.
-use Rattle.std.proofs.Common.{◌≡◌, inl, inr, ℕ, ◌+◌, ◌/◌, ◌%◌, ◌<◌, ◌≤◌, length, drop, refl, sym, ap, subst, ◌∙◌, arith, length-drop}
-use Rattle.std.specs.Prelude.{Bool, true, false, not, ◌==◌, nat_lt, None}
-use Rattle.std.proofs.lemmas.Bool.{true≢false, and_parts, ltb-true}
-use Rattle.std.proofs.lemmas.Bool.Decides.{eqb_tells}
-use Rattle.nb_fields.specs.Places.{entries_in, bits_in, inventory_place, is_scn_place}
-use Rattle.nb_fields.specs.Page.{kind_of, stamped}
-use Rattle.nb_fields.specs.Payloads.{bit_of}
-use Rattle.nb_fields.proofs.SizeLaws.{SizeFacts, size_facts}
-use Rattle.nb_fields.proofs.PlaceLaws.{bits-least}
-use Rattle.nb_fields.specs.Kinds.{inventory_kind, scn_kind}
-use Rattle.nb_model.specs.Image.{Page, Image, page_at, image_size, image_scn}
-use Rattle.nb_model.specs.Account.{Base}
-use Rattle.nb_model.specs.Forms.{Draft, drafted, old_page, needs, is_kind, inventory_of, scn_page_of, bit_number, is_free_page, with_bit, set_bit, give_page}
-use Rattle.nb_model.specs.Causes.{not_raw, not_kind}
-use Rattle.nb_model.specs.Sound.{IsSoundImage, HasHeader}
+use Rattle.std.proofs.Common.{◌≡◌, inl, inr, ℕ, ◌+◌, ◌/◌, ◌%◌, ◌<◌, ◌≤◌, length, drop, refl, sym, ap, subst, ◌∙◌, arith, length-drop, Bool, true, false, not, ◌==◌, nat_lt, None}
+use Rattle.nb_model.proofs.Common.{true≢false, and_parts, ltb-true, eqb_tells, entries_in, bits_in, inventory_place, is_scn_place, kind_of, stamped, bit_of, SizeFacts, size_facts, bits-least, inventory_kind, scn_kind, Page, Image, page_at, image_size, image_scn, Base, Draft, drafted, old_page, needs, is_kind, inventory_of, scn_page_of, bit_number, is_free_page, with_bit, set_bit, give_page, not_raw, not_kind, IsSoundImage, HasHeader}
 use Rattle.nb_model.proofs.SoundLaws.{all_at, inventory_there, inventory_place_some, scn_page_there, HasFields, FitsAt}
 use Rattle.nb_model.proofs.FitLaws.{IsWhole, Fits, fits_first, fits_needs}
 use Rattle.nb_model.proofs.PutSound.{IsPlace, Raises, IsPut, header_whole, needs_image, old_length, now_length, now_some, now_stamp, now_kind, put_fits, raw_facts, no_first, not_when}

@@ -1,13 +1,7 @@
 -- A chain gets one page more, to which its last page leads.
-use Rattle.std.proofs.Common.{◌≡◌, ◌≢◌, ◌⊎◌, inl, inr, ℕ, zero, suc, ◌+◌, ◌<◌, ◌≤◌, List, [], ◌∷◌, ◌++◌, length, refl, sym, ap, subst, ◌∙◌, arith}
-use Rattle.std.specs.Prelude.{Bool, true, false, ◌==◌, Ok}
-use Rattle.std.specs.List.{AllByRecursion}
-use Rattle.std.proofs.lemmas.Bool.{eq-eqb, ne_eqb}
-use Rattle.std.proofs.lemmas.Bool.Decides.{eqb_tells}
-use Rattle.nb_model.specs.Chains.{Chain, last_of, next_in, is_in_chain, linked, walk}
-use Rattle.nb_model.specs.Image.{Image, page_at}
-use Rattle.nb_model.specs.Rows.{AreDistinct}
-use Rattle.nb_model.proofs.ChainWalks.{StaysLinked, IsWalk, ends, leads, walk_cases, walk_on_is, walk_zero, err_ok, onward}
+use Rattle.std.proofs.Common.{◌≡◌, ◌≢◌, ◌⊎◌, inl, inr, ℕ, zero, suc, ◌+◌, ◌<◌, ◌≤◌, List, [], ◌∷◌, ◌++◌, length, refl, sym, ap, subst, ◌∙◌, arith, Bool, true, false, ◌==◌, Ok}
+use Rattle.nb_model.proofs.Common.{AllByRecursion, eq-eqb, ne_eqb, eqb_tells, Chain, last_of, next_in, is_in_chain, linked, walk, Image, page_at, AreDistinct, err_ok}
+use Rattle.nb_model.proofs.ChainWalks.{StaysLinked, IsWalk, ends, leads, walk_cases, walk_on_is, walk_zero, onward}
 
 -- Numbers below n with none twice are n at most.
 without : ℕ → List ℕ → List ℕ

@@ -1,26 +1,12 @@
 -- The files of kept backups that go on from one another are accepted as a chain.
-use Rattle.std.proofs.Common.{◌≡◌, inl, inr, ℕ, suc, ◌+◌, ◌<◌, ◌≤◌, List, [], ◌∷◌, length, refl, sym, ap, subst, ◌∙◌, arith}
-use Rattle.std.specs.Prelude.{Bool, true, false, not, ◌&&◌, ◌||◌, ◌==◌, Some, None, Ok}
-use Rattle.std.proofs.lemmas.Bool.Decides.{leb_tells, eqb_tells}
-use Rattle.nb_fields.specs.Page.{stamp_of}
-use Rattle.nb_fields.specs.Places.{most_pages}
-use Rattle.nb_host.specs.Files.{Files}
-use Rattle.nb_host.specs.Names.{same_name}
-use Rattle.nb_host.specs.declared.refusals.Refusal.{Refusal}
-use Rattle.nb_model.specs.Image.{Page, Image, Numbered, image_size, first_page}
-use Rattle.nb_model.specs.Account.{Ask, Kept}
-use Rattle.nb_model.specs.Causes.{Cause, first_cause, when}
-use Rattle.nb_model.specs.Levels.{Head, IsHead, IsLevel, Contents, AreRising, AreOfSize, taken_from, taken, changed, head_for, file_for, file_of, level_bytes, begins_level, read_level, is_first_page}
-use Rattle.nb_model.specs.Restoring.{Link, level_link, not_behind, next_link, next_links, linked}
-use Rattle.nb_model.specs.Sound.{IsOfSize, IsSoundImage}
-use Rattle.nb_model.specs.Stands.{IsBegun}
-use Rattle.nb_model.specs.Line.{IsLine, IsKeptNext, HoldsNext, HoldLine, next_files}
+use Rattle.std.proofs.Common.{◌≡◌, inl, inr, ℕ, suc, ◌+◌, ◌<◌, ◌≤◌, List, [], ◌∷◌, length, refl, sym, ap, subst, ◌∙◌, arith, Bool, true, false, not, ◌||◌, ◌==◌, Some, None, Ok}
+use Rattle.nb_model.proofs.Common.{leb_tells, eqb_tells, stamp_of, most_pages, Files, same_name, Refusal, Page, Image, Numbered, image_size, first_page, Ask, Kept, Cause, first_cause, when, Head, IsHead, IsLevel, Contents, AreRising, AreOfSize, taken_from, taken, changed, head_for, file_for, file_of, level_bytes, begins_level, read_level, is_first_page, Link, level_link, not_behind, next_link, next_links, IsOfSize, IsSoundImage, IsBegun, IsLine, IsKeptNext, HoldsNext, HoldLine, next_files, same_self, and_from}
+use Rattle.nb_model.specs.Restoring.{linked}
 use Rattle.nb_model.proofs.ChangedLaws.{sound_changed}
 use Rattle.nb_model.proofs.ReadLaws.{eq_yes}
 use Rattle.nb_model.proofs.LevelLaws.{level_read, begins_there}
-use Rattle.nb_model.proofs.RunLaws.{same_self}
 
-weaker : (n : ℕ) (rs : List Numbered) → AreRising (n + 1) rs → AreRising n rs
+pub weaker : (n : ℕ) (rs : List Numbered) → AreRising (n + 1) rs → AreRising n rs
 weaker n [] h = tt
 weaker n (r ∷ rs) h = (omega (arith, h.0), h.1, h.2)
 
@@ -61,15 +47,12 @@ file_is version q ask asked level whole =
     let spelled : file_of version q ≡ level_bytes version (head_for q ask) (changed ask.previous_scn q.image) = rw (asked, file_for) (rw (level, file_for) refl) in
     spelled ∙ ap (level_bytes version (head_for q ask)) (sound_changed ask.previous_scn q.image whole)
 
-and_both : (a b : Bool) → a ≡ true → b ≡ true → (a && b) ≡ true
-and_both a b e f = rw (e, f) refl
-
 -- page 0 of an image that a begin left
 first_is : (q : Kept) (ask : Ask) → IsBegun q → is_first_page (head_for q ask) (first_page q.image) ≡ true
 unfolding is_first_page
 first_is q ask begun =
-    and_both _ _ begun.header (and_both _ _ (eq_yes _ _ begun.state) (and_both _ _ (eq_yes _ _ refl)
-    (and_both _ _ (ap (λ (g : List ℕ). same_name g q.guid) begun.guid ∙ same_self q.guid) (eq_yes _ _ begun.scn))))
+    and_from _ _ begun.header (and_from _ _ (eq_yes _ _ begun.state) (and_from _ _ (eq_yes _ _ refl)
+    (and_from _ _ (ap (λ (g : List ℕ). same_name g q.guid) begun.guid ∙ same_self q.guid) (eq_yes _ _ begun.scn))))
 
 -- the file is in the grammar
 file_in_grammar : (version : ℕ) (q : Kept) (ask : Ask) (p : Page) (ps : Image) → q.image ≡ p ∷ ps → (version == 101 || version == 102) ≡ true → IsHead (head_for q ask)
@@ -92,12 +75,12 @@ pub when_not : (t : Bool) (r : Refusal) → t ≡ true → when (not t) r ≡ No
 when_not t r e = rw e refl
 
 -- four tests that don't apply
-four_none : (a b c d : Cause) → a ≡ None → b ≡ None → c ≡ None → d ≡ None → first_cause (a ∷ b ∷ c ∷ d ∷ []) ≡ None
+pub four_none : (a b c d : Cause) → a ≡ None → b ≡ None → c ≡ None → d ≡ None → first_cause (a ∷ b ∷ c ∷ d ∷ []) ≡ None
 unfolding first_cause
 four_none a b c d ea eb ec ed = rw (ea, first_cause) (rw (eb, first_cause) (rw (ec, first_cause) (rw (ed, first_cause) refl)))
 
 -- a level file that goes on from the file before is accepted
-accepts : (k : ℕ) (last : Link) (name bytes : List ℕ) (c : Contents) → begins_level bytes ≡ true → read_level bytes ≡ Ok c → not_behind k last name c ≡ None → next_link k last name bytes ≡ Ok (level_link c)
+pub accepts : (k : ℕ) (last : Link) (name bytes : List ℕ) (c : Contents) → begins_level bytes ≡ true → read_level bytes ≡ Ok c → not_behind k last name c ≡ None → next_link k last name bytes ≡ Ok (level_link c)
 unfolding next_link
 accepts k last name bytes c begins read behind = rw (begins, next_link) (rw (read, next_link) (rw (behind, next_link) refl))
 
@@ -136,7 +119,7 @@ pub step_there : (files : Files) (k : ℕ) (last : Link) (name : List ℕ) (name
 unfolding next_links
 step_there files k last name names bytes l is link = rw (is, next_links) (rw (link, next_links) refl)
 
-none_left : (files : Files) (k : ℕ) (last : Link) → next_links files k last [] ≡ Ok []
+pub none_left : (files : Files) (k : ℕ) (last : Link) → next_links files k last [] ≡ Ok []
 unfolding next_links
 none_left files k last = refl
 

@@ -1,13 +1,6 @@
 -- A chain is the same chain in another image that has its pages, or pages that lead on as they did.
-use Rattle.std.proofs.Common.{◌≡◌, ℕ, zero, suc, ◌<◌, ◌≤◌, List, [], ◌∷◌, ◌++◌, length, refl, sym, ap, subst, ◌∙◌, arith}
-use Rattle.std.specs.Prelude.{Bool, true, false, ◌==◌, nat_lt, Result, Ok, Err, None}
-use Rattle.std.specs.List.{AllByRecursion, list_all}
-use Rattle.std.proofs.lemmas.Bool.{and_parts, and_from, lt-ltb, ltb-true, eq-eqb, eqb-true}
-use Rattle.nb_fields.specs.Page.{kind_of}
-use Rattle.nb_fields.specs.Kinds.{data_kind}
-use Rattle.nb_model.specs.Causes.{broken_at}
-use Rattle.nb_model.specs.Chains.{Chain, first_of, owner_of, owner_in, next_in, is_slot, slots_in, is_in_chain, linked, walk, pages_of, found_pages, spots_on, spots_of, spots}
-use Rattle.nb_model.specs.Image.{Page, Image, page_at}
+use Rattle.std.proofs.Common.{◌≡◌, ℕ, zero, suc, ◌<◌, ◌≤◌, List, [], ◌∷◌, ◌++◌, length, refl, sym, ap, subst, ◌∙◌, arith, Bool, true, false, ◌==◌, nat_lt, Result, Ok, Err, None}
+use Rattle.nb_model.proofs.Common.{AllByRecursion, list_all, and_parts, and_from, lt-ltb, ltb-true, eq-eqb, eqb-true, kind_of, data_kind, broken_at, Chain, first_of, owner_of, owner_in, next_in, is_slot, slots_in, is_in_chain, linked, walk, pages_of, found_pages, spots_on, spots_of, spots, Page, Image, page_at, err_ok, ok_same}
 
 -- a page has the form of those of the chain
 pub record HasForm (chain : Chain) (page : Page) : Type 0 where
@@ -42,12 +35,6 @@ linked_same chain x y q longer in_it same = record {
   next = ap next_in same;
 }
 
-ok_is : (r : Result (List ℕ) ℕ) (xs ys : List ℕ) → r ≡ Ok xs → r ≡ Ok ys → xs ≡ ys
-ok_is r xs ys e f = cc
-
-pub err_ok : (p : ℕ) (ys : List ℕ) → Err p ≡ Ok ys → ⊥
-err_ok p ys e = cc
-
 -- A walk by its tests.
 abbrev pub onward : (chain : Chain) (image : Image) (left p : ℕ) → Bool → Result (List ℕ) ℕ
 onward chain image left p t = elim t as (λ z. Result (List ℕ) ℕ) [ true ↦ Ok (p ∷ []) | false ↦ linked p (walk left chain image (next_in (page_at image p))) ]
@@ -79,14 +66,14 @@ pub walk_cases : (left : ℕ) (chain : Chain) (image : Image) (p : ℕ) (ps : Li
 walk_cases left chain image p ps e = by (is_in_chain chain image p) (next_in (page_at image p) == 0) refl refl
   where
     by_rest : (r : Result (List ℕ) ℕ) → walk left chain image (next_in (page_at image p)) ≡ r → linked p r ≡ Ok ps → (next_in (page_at image p) == 0) ≡ false → IsWalk chain image left p ps
-    by_rest (Ok qs) is h more = subst (IsWalk chain image left p) (ok_is (Ok (p ∷ qs)) (p ∷ qs) ps refl h) (leads qs more is)
+    by_rest (Ok qs) is h more = subst (IsWalk chain image left p) (ok_same (p ∷ qs) ps (Ok (p ∷ qs)) refl h) (leads qs more is)
     by_rest (Err q) is h more = absurd (err_ok q ps h)
 
     by : (t u : Bool) → is_in_chain chain image p ≡ t → (next_in (page_at image p) == 0) ≡ u → Walks chain image left p ps
     by false u is next = absurd (err_ok p ps (sym (walk_is left chain image p ∙ ap (λ (b : Bool). chosen chain image left p b (next_in (page_at image p) == 0)) is) ∙ e))
     by true true is next = record {
       in_it = is;
-      goes = subst (IsWalk chain image left p) (ok_is (walk (suc left) chain image p) (p ∷ []) ps (walk_on_is left chain image p is ∙ ap (onward chain image left p) next) e) (ends (eqb-true (next_in (page_at image p)) 0 next));
+      goes = subst (IsWalk chain image left p) (ok_same (p ∷ []) ps (walk (suc left) chain image p) (walk_on_is left chain image p is ∙ ap (onward chain image left p) next) e) (ends (eqb-true (next_in (page_at image p)) 0 next));
     }
     by true false is next = record {
       in_it = is;

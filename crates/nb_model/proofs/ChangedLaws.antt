@@ -1,12 +1,6 @@
 -- A level takes what was stamped since its SCN, where no SCN entry is below the stamp of its page.
-use Rattle.std.proofs.Common.{◌≡◌, ℕ, suc, ◌+◌, ◌<◌, ◌≤◌, List, [], ◌∷◌, length, refl, ap, subst, ◌∙◌, arith}
-use Rattle.std.specs.Prelude.{Bool, true, false, not, ◌&&◌, ◌||◌, nat_lt}
-use Rattle.std.proofs.lemmas.Bool.{lt-ltb, ltb-true}
-use Rattle.nb_fields.specs.Page.{stamp_of}
-use Rattle.nb_model.specs.Forms.{has_entry, scn_entry}
-use Rattle.nb_model.specs.Image.{Image, Numbered, page_at}
-use Rattle.nb_model.specs.Levels.{taken_from, taken, may_have_changed, changed_from, changed}
-use Rattle.nb_model.specs.Sound.{IsSoundImage}
+use Rattle.std.proofs.Common.{◌≡◌, ℕ, suc, ◌+◌, ◌<◌, ◌≤◌, List, [], ◌∷◌, length, refl, ap, subst, ◌∙◌, arith, Bool, true, false, not, ◌&&◌, ◌||◌, nat_lt}
+use Rattle.nb_model.proofs.Common.{lt-ltb, ltb-true, stamp_of, has_entry, scn_entry, Image, Numbered, page_at, taken_from, taken, may_have_changed, changed_from, changed, IsSoundImage}
 
 both : (a b : Bool) → (b ≡ true → a ≡ true) → (a && b) ≡ b
 both true b h = refl

@@ -1,16 +1,6 @@
 -- Page 0 with another state, SCN and GUID: what it tells then, and that an image stays sound with it.
-use Rattle.std.proofs.Common.{◌≡◌, inl, inr, ℕ, ◌+◌, ◌%◌, ◌^◌, ◌<◌, ◌≤◌, List, length, refl, ap, ◌∙◌, arith}
-use Rattle.std.specs.Prelude.{Bool, true, ◌==◌, ◌&&◌}
-use Rattle.std.proofs.lemmas.Bool.{and_parts}
-use Rattle.nb_fields.specs.Bytes.{bytes_of, with_part, part, number_in, AreApart}
-use Rattle.nb_fields.specs.Header.{signature, version, is_marked, is_sound, is_header, state_of, size_of, scn_of, guid_of}
-use Rattle.nb_fields.specs.Page.{stamp_of}
-use Rattle.nb_fields.proofs.HeaderLaws.{is_header-long}
-use Rattle.nb_fields.proofs.NumberLaws.{length-bytes_of}
-use Rattle.nb_fields.proofs.PartLaws.{length-with_part, part-with_part, part-with_part_other, number_in-with_part, number_in-with_part_other}
-use Rattle.nb_fields.specs.States.{normal_state}
-use Rattle.nb_model.specs.Image.{Page}
-use Rattle.nb_model.specs.Strokes.{controlled}
+use Rattle.std.proofs.Common.{◌≡◌, inl, inr, ℕ, ◌+◌, ◌%◌, ◌^◌, ◌<◌, ◌≤◌, List, length, refl, ap, ◌∙◌, arith, Bool, true, ◌==◌, ◌&&◌}
+use Rattle.nb_model.proofs.Common.{and_parts, bytes_of, with_part, part, number_in, AreApart, signature, version, is_marked, is_sound, is_header, state_of, size_of, scn_of, guid_of, stamp_of, is_header-long, length-bytes_of, length-with_part, part-with_part, part-with_part_other, number_in-with_part, number_in-with_part_other, normal_state, Page, controlled}
 use Rattle.nb_model.proofs.HeaderLaws.{form}
 
 -- the four fields and the GUID of page 0

@@ -1,13 +1,6 @@
 -- What page 0 becomes as a backup begins, as the stalled state ends, and as the merge does: a header each time.
-use Rattle.std.proofs.Common.{◌≡◌, ℕ, ◌+◌, ◌≤◌, length, refl, arith}
-use Rattle.std.specs.Prelude.{true, ◌==◌, ◌||◌, ◌&&◌, not, nat_le, nat_lt, List, IsTrue}
-use Rattle.std.proofs.lemmas.Bool.{and_from, le-leb, lt-ltb}
-use Rattle.nb_fields.specs.Header.{is_sound}
-use Rattle.nb_fields.specs.Places.{is_page_size}
-use Rattle.nb_fields.proofs.PartLaws.{length-part}
-use Rattle.nb_fields.specs.States.{stalled_state}
-use Rattle.nb_model.specs.Image.{Image, first_page, image_size, image_state, image_scn, image_guid}
-use Rattle.nb_model.specs.Sound.{HasHeader}
+use Rattle.std.proofs.Common.{◌≡◌, ℕ, ◌+◌, ◌≤◌, length, refl, arith, true, ◌==◌, ◌||◌, ◌&&◌, not, nat_le, nat_lt, List, IsTrue}
+use Rattle.nb_model.proofs.Common.{and_from, le-leb, lt-ltb, is_sound, is_page_size, length-part, stalled_state, Image, first_page, image_size, image_state, image_scn, image_guid, HasHeader}
 use Rattle.nb_model.proofs.ControlSound.{MayControl}
 use Rattle.nb_model.proofs.HeaderLaws.{header-long, header-size, header-scn, header-room}
 

@@ -1,33 +1,22 @@
 -- The control strokes of a backup change no row of a table: they write page 0 alone.
-use Rattle.std.proofs.Common.{◌≡◌, ◌≢◌, ℕ, ◌+◌, ◌≤◌, List, [], ◌∷◌, length, refl, sym, ap, subst, arith}
-use Rattle.std.specs.Prelude.{Option}
-use Rattle.nb_fields.specs.States.{normal_state, stalled_state, merge_state}
-use Rattle.nb_model.specs.Account.{Ask, Base}
-use Rattle.nb_model.specs.Chains.{Catalogue, History}
-use Rattle.nb_model.specs.Image.{Page, Image, image_state, image_scn, image_guid}
-use Rattle.nb_model.specs.RowChanges.{KeepsRows}
-use Rattle.nb_model.specs.Rows.{rows, IsNeat}
-use Rattle.nb_model.specs.Sound.{HasHeader, IsSoundImage}
-use Rattle.nb_model.specs.Strokes.{Stroke, begin, ends, finish, on_base, with_control}
+use Rattle.std.proofs.Common.{◌≡◌, ℕ, ◌+◌, ◌≤◌, List, [], ◌∷◌, length, refl, sym, ap, subst, arith, Option}
+use Rattle.nb_model.proofs.Common.{normal_state, stalled_state, merge_state, Ask, Base, History, Page, Image, image_state, image_scn, image_guid, KeepsRows, rows, IsNeat, HasHeader, IsSoundImage, Stroke, begin, ends, finish, on_base, with_control}
 use Rattle.nb_model.proofs.Along.{Along, along_front}
 use Rattle.nb_model.proofs.ControlMay.{may_begin, may_end, may_finish}
 use Rattle.nb_model.proofs.ControlSound.{MayControl, control_rest, control_long, new_size, new_free}
 use Rattle.nb_model.proofs.HeldChains.{nothing_changes}
 use Rattle.nb_model.proofs.HeldLaws.{IsHeld, held_by}
-use Rattle.nb_model.proofs.NeatLaws.{stays_neat, other_rows}
+use Rattle.nb_model.proofs.NeatLaws.{stays_neat, other_rows, no_catalogue_history}
 use Rattle.nb_model.proofs.TrimLaws.{finish_full}
 
 module _ (b : Base) (header : HasHeader b.image) (is : IsSoundImage b.image) (neat : IsNeat b.image) where
   abbrev Good : Image → Type 0
   Good z = IsNeat z × ((table : List ℕ) → rows z table ≡ rows b.image table)
 
-  no_catalogue : Catalogue ≢ History
-  no_catalogue e = cc
-
   good : (z : Image) → ((q : ℕ) (bytes : Page) → IsHeld q bytes b.image → IsHeld q bytes z) → length b.image ≤ length z → Good z
   good z keeps longer =
       let still = nothing_changes b.image header is neat z longer keeps in
-      (stays_neat b.image z neat History no_catalogue still (λ first e. cc), λ table. other_rows b.image z neat History no_catalogue still table (λ u found e. cc))
+      (stays_neat b.image z neat History no_catalogue_history still (λ first e. cc), λ table. other_rows b.image z neat History no_catalogue_history still table (λ u found e. cc))
 
   -- Page 0 gets another state, SCN and GUID.
   control_rows : (state scn : ℕ) (guid : List ℕ) (s : Stroke) → MayControl state scn guid b.image → (on_base s b).image ≡ with_control state scn guid b.image → KeepsRows b (s ∷ [])

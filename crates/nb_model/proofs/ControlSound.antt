@@ -1,14 +1,6 @@
 -- An image stays sound where page 0 gets another state, SCN and GUID, and goes on from what it went on from.
-use Rattle.std.proofs.Common.{◌≡◌, ◌≢◌, ℕ, zero, suc, ◌/◌, ◌<◌, ◌≤◌, List, [], ◌∷◌, length, refl, sym, ap, subst, ◌∙◌, arith}
-use Rattle.std.specs.Prelude.{true}
-use Rattle.nb_fields.specs.Header.{is_header, is_sound, state_of, size_of, scn_of, guid_of}
-use Rattle.nb_fields.specs.Places.{bits_in}
-use Rattle.nb_model.specs.Image.{Page, Image, page_at, first_page, image_size, image_state, image_scn, image_guid}
-use Rattle.nb_model.specs.Account.{Kept}
-use Rattle.nb_model.specs.Strokes.{controlled, with_control}
-use Rattle.nb_model.specs.Forms.{inventory_of, is_free_page}
-use Rattle.nb_model.specs.Sound.{HasHeader, IsSoundImage}
-use Rattle.nb_model.specs.Stands.{nil, IsKeptAs, GoesOn, NamesPast, HasOldEntries}
+use Rattle.std.proofs.Common.{◌≡◌, ◌≢◌, ℕ, zero, suc, ◌/◌, ◌<◌, ◌≤◌, List, [], ◌∷◌, length, refl, sym, ap, subst, ◌∙◌, arith, true}
+use Rattle.nb_model.proofs.Common.{is_header, is_sound, state_of, size_of, scn_of, guid_of, bits_in, Page, Image, page_at, first_page, image_size, image_state, image_scn, image_guid, Kept, controlled, with_control, inventory_of, is_free_page, HasHeader, IsSoundImage, nil, IsKeptAs, GoesOn, NamesPast, HasOldEntries}
 use Rattle.nb_model.proofs.ControlLaws.{control_length, control_size, control_stamp, control_state, control_scn, control_guid, control_header}
 use Rattle.nb_model.proofs.FirstPageLaws.{with_first, IsLaterFirst, first_sound, first_goes_on, first_past, first_old}
 use Rattle.nb_model.proofs.HeaderLaws.{header-long}
@@ -90,9 +82,6 @@ module _ (state scn : ℕ) (guid : List ℕ) (image : Image) (h : HasHeader imag
 
   rest : (q : ℕ) → 1 ≤ q → page_at new q ≡ page_at image q
   rest = control_rest state scn guid image
-
-  same_length : length new ≡ length image
-  same_length = control_long state scn guid image
 
   pub new_size : image_size new ≡ image_size image
   new_size = size_then state scn guid image h may

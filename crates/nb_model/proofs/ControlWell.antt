@@ -1,17 +1,6 @@
 -- The control strokes of a backup keep a database well: a well trail begins after each of them.
-use Rattle.std.proofs.Common.{◌≡◌, ℕ, ◌+◌, ◌<◌, ◌≤◌, List, [], ◌∷◌, ◌++◌, length, refl, sym, subst, arith}
-use Rattle.std.specs.Prelude.{Option, Some}
-use Rattle.std.proofs.lemmas.List.Elements.{Contains-append_right}
-use Rattle.nb_fields.specs.States.{normal_state, stalled_state, merge_state}
-use Rattle.nb_model.specs.Image.{Image, first_page, image_state, image_scn, image_guid}
-use Rattle.nb_model.specs.Account.{Ask, Kept, Base}
-use Rattle.nb_model.specs.Strokes.{begin, ends, finish, with_control, on_base, records_of}
-use Rattle.nb_model.specs.Owner.{entry_for}
-use Rattle.nb_model.specs.Sound.{HasHeader}
-use Rattle.nb_model.specs.Stands.{IsKeptAs, GoesOn, IsRaised}
-use Rattle.nb_model.specs.Trail.{settled}
-use Rattle.nb_model.specs.Well.{IsWellBaseIn}
-use Rattle.nb_model.specs.WellTrail.{IsOverFrozen, IsWellTrail}
+use Rattle.std.proofs.Common.{◌≡◌, ℕ, ◌+◌, ◌<◌, ◌≤◌, List, [], ◌∷◌, ◌++◌, length, refl, sym, subst, arith, Option, Some}
+use Rattle.nb_model.proofs.Common.{Contains-append_right, normal_state, stalled_state, merge_state, Image, first_page, image_state, image_scn, image_guid, Ask, Kept, Base, begin, ends, finish, with_control, on_base, records_of, entry_for, HasHeader, IsKeptAs, GoesOn, IsRaised, settled, IsWellBaseIn, IsOverFrozen, IsWellTrail}
 use Rattle.nb_model.proofs.EntryLaws.{for_below}
 use Rattle.nb_model.proofs.HeaderLaws.{header-room}
 use Rattle.nb_model.proofs.NormalLaws.{told_whole}

@@ -1,20 +1,6 @@
 -- Databases in step, and when what is left of them is covered.
-use Rattle.std.proofs.Common.{◌≡◌, ℕ, zero, suc, ◌/◌, ◌<◌, ◌≤◌, List, [], ◌∷◌, ◌++◌, length, refl, sym, ap, subst, ◌∙◌, arith}
-use Rattle.std.specs.Prelude.{true, Some, Contains, IsTrue}
-use Rattle.std.specs.List.{AllByRecursion}
-use Rattle.std.proofs.lemmas.List.Elements.{Contains-append_right}
-use Rattle.nb_fields.specs.Places.{is_page_size, is_scn_place, entries_in}
-use Rattle.nb_fields.specs.Page.{stamp_of}
-use Rattle.nb_fields.specs.Header.{state_of, size_of, scn_of}
-use Rattle.nb_model.specs.Image.{Image, page_at, first_page, image_size, image_scn}
-use Rattle.nb_model.specs.Account.{Base}
-use Rattle.nb_model.specs.Forms.{scn_page_of, scn_entry, has_entry}
-use Rattle.nb_model.specs.Owner.{entry_for}
-use Rattle.nb_model.specs.Sound.{HasEntries}
-use Rattle.nb_model.specs.Stands.{IsRaised}
-use Rattle.nb_model.specs.Earlier.{IsEarlier, IsCovered, AreInStep}
-use Rattle.nb_model.specs.Pagewise.{AgreesWith}
-use Rattle.nb_model.specs.Trail.{Trail, bases_of, HasPage, IsLeft, IsFirm}
+use Rattle.std.proofs.Common.{◌≡◌, ℕ, zero, suc, ◌/◌, ◌<◌, ◌≤◌, List, [], ◌∷◌, ◌++◌, length, refl, sym, ap, subst, ◌∙◌, arith, true, Some, Contains, IsTrue}
+use Rattle.nb_model.proofs.Common.{AllByRecursion, Contains-append_right, is_page_size, is_scn_place, entries_in, stamp_of, state_of, size_of, scn_of, Image, page_at, first_page, image_size, image_scn, Base, scn_page_of, scn_entry, has_entry, entry_for, HasEntries, IsRaised, IsEarlier, IsCovered, AreInStep, AgreesWith, Trail, bases_of, HasPage, IsLeft, IsFirm, all_front}
 use Rattle.nb_model.proofs.SoundLaws.{scn_page_there}
 use Rattle.nb_model.proofs.MixtureLaws.{has_same, scn_page_same, entry_same}
 use Rattle.nb_model.proofs.EntryLaws.{for_front, for_back, for_below}
@@ -30,11 +16,7 @@ earlier_joins a b c ab bc = record {
   entries = λ p low has. omega (arith, ab.entries p low has, bc.entries p (omega (arith, low, ab.long)) (sym (has_same a b ab.size p) ∙ has));
 }
 
--- What holds of all holds of a front, and of the last one.
-all_front : (P : Base → Type 0) (xs ys : List Base) → AllByRecursion P (xs ++ ys) → AllByRecursion P xs
-all_front P [] ys all = tt
-all_front P (x ∷ xs) ys all = (all.0, all_front P xs ys all.1)
-
+-- What holds of all holds of the last one.
 all_last : (P : Base → Type 0) (xs : List Base) (now : Base) → AllByRecursion P (xs ++ now ∷ []) → P now
 all_last P [] now all = all.0
 all_last P (x ∷ xs) now all = all_last P xs now all.1
@@ -42,7 +24,7 @@ all_last P (x ∷ xs) now all = all_last P xs now all.1
 -- databases in step are so in each part of them
 pub steps_front : (xs ys : List Base) → AreInStep (xs ++ ys) → AreInStep xs
 steps_front [] ys steps = tt
-steps_front (x ∷ xs) ys steps = (steps.0, all_front (λ t. IsEarlier x.image t.image) xs ys steps.1, steps_front xs ys steps.2)
+steps_front (x ∷ xs) ys steps = (steps.0, all_front {A = Base} (λ t. IsEarlier x.image t.image) xs ys steps.1, steps_front xs ys steps.2)
 
 pub steps_back : (xs ys : List Base) → AreInStep (xs ++ ys) → AreInStep ys
 steps_back [] ys steps = steps

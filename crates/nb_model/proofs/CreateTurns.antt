@@ -1,19 +1,6 @@
 -- A table is created: its page is made first, and it is there once its slot stands in the catalogue.
-use Rattle.std.proofs.Common.{◌≡◌, ◌≢◌, ◌⊎◌, inr, ℕ, ◌+◌, ◌≤◌, ◌<◌, List, [], ◌++◌, length, refl, sym, ap, subst, ◌∙◌, arith}
-use Rattle.std.specs.Prelude.{true, false, Option, None, is_some, Result, Ok, Err}
-use Rattle.std.specs.List.{AllByRecursion}
-use Rattle.std.proofs.lemmas.Bool.{or_parts}
-use Rattle.nb_fields.specs.Payloads.{data_payload}
-use Rattle.nb_fields.specs.Places.{is_system_place}
-use Rattle.nb_model.specs.Account.{Base}
-use Rattle.nb_model.specs.Chains.{Catalogue, History, RowsFrom, Slot, owner_in, next_in, is_slot, slots_in, Spot, pages_of, found_pages, spots_of, spots, free_spot, table_spot, table_slot, place_at, place_slot}
-use Rattle.nb_model.specs.Forms.{Draft, drafted, old_page}
-use Rattle.nb_model.specs.Image.{Page, Image, page_at, image_scn}
-use Rattle.nb_model.specs.RowChanges.{GivesRows}
-use Rattle.nb_model.specs.Rows.{chains, pages_of_all, rows, IsNeat}
-use Rattle.nb_model.specs.Sound.{HasHeader, IsSoundImage}
-use Rattle.nb_model.specs.Strokes.{base_after}
-use Rattle.nb_model.specs.TableNames.{is_table_name}
+use Rattle.std.proofs.Common.{◌≡◌, ◌≢◌, ◌⊎◌, inr, ℕ, ◌+◌, ◌≤◌, ◌<◌, List, [], ◌++◌, length, refl, sym, ap, subst, ◌∙◌, arith, true, false, Option, None, is_some, Result, Ok, Err}
+use Rattle.nb_model.proofs.Common.{AllByRecursion, or_parts, data_payload, is_system_place, Base, Catalogue, History, RowsFrom, Slot, owner_in, next_in, is_slot, slots_in, Spot, pages_of, found_pages, spots_of, spots, free_spot, table_spot, table_slot, place_at, place_slot, Draft, drafted, old_page, Page, Image, page_at, image_scn, GivesRows, chains, pages_of_all, rows, IsNeat, HasHeader, IsSoundImage, base_after, is_table_name, all_go}
 use Rattle.nb_model.proofs.Along.{Along, along_append, along_more}
 use Rattle.nb_model.proofs.ChainWalks.{HasForm}
 use Rattle.nb_model.proofs.DraftJoin.{joined}
@@ -21,7 +8,7 @@ use Rattle.nb_model.proofs.FitLaws.{IsWhole, Fits, fits_first, fitting_stays}
 use Rattle.nb_model.proofs.HeldAlong.{new_held_along, each_along, longer_along, both_along}
 use Rattle.nb_model.proofs.HeldChains.{KeepsEach, IsHeldIn, chains_held, chain_each, nothing_changes}
 use Rattle.nb_model.proofs.HeldLaws.{IsHeld, IsMade, new_is_made}
-use Rattle.nb_model.proofs.NeatLaws.{all_go, chains_are, same_pages, same_all, same_chains, catalogue_same, same_table, stays_neat, other_rows, rows_of_none, ChangesChain}
+use Rattle.nb_model.proofs.NeatLaws.{chains_are, same_pages, same_all, same_chains, catalogue_same, same_table, stays_neat, other_rows, rows_of_none, ChangesChain, no_catalogue_history}
 use Rattle.nb_model.proofs.NewSlots.{IsFree, free_fits, new_next, none_used}
 use Rattle.nb_model.proofs.NewSound.{new_fits}
 use Rattle.nb_model.proofs.PutSound.{header_whole}
@@ -92,20 +79,17 @@ module _ (b : Base) (header : HasHeader b.image) (is : IsSoundImage b.image) (ne
   changes : ChangesChain History x c.image
   changes = nothing_changes x header is neat c.image longer keeps
 
-  no_catalogue : Catalogue ≢ History
-  no_catalogue e = cc
-
   absent_table : table_spot table x ≡ None
   absent_table = none_is (table_spot table x) may.new
 
   neat_then : IsNeat c.image
-  neat_then = stays_neat x c.image neat History no_catalogue changes (λ first e. cc)
+  neat_then = stays_neat x c.image neat History no_catalogue_history changes (λ first e. cc)
 
   rows_then : (other : List ℕ) → rows c.image other ≡ rows x other
-  rows_then other = other_rows x c.image neat History no_catalogue changes other (λ u found e. cc)
+  rows_then other = other_rows x c.image neat History no_catalogue_history changes other (λ u found e. cc)
 
   none_then : table_spot table c.image ≡ None
-  none_then = same_table x c.image neat History no_catalogue changes table ∙ absent_table
+  none_then = same_table x c.image neat History no_catalogue_history changes table ∙ absent_table
 
   pages_then : found_pages Catalogue c.image ≡ ps
   unfolding found_pages
@@ -135,7 +119,7 @@ module _ (b : Base) (header : HasHeader b.image) (is : IsSoundImage b.image) (ne
   ends = ap next_in is_made.of.1 ∙ new_next (old_page n is_made.of.0) n [] (image_scn is_made.of.0) n
 
   apart : Absent n (pages_of_all c.image (chains c.image))
-  apart = subst (Absent n) (sym (ap (pages_of_all c.image) (same_chains x c.image neat History no_catalogue changes) ∙ same_all x c.image (chains x) (same_pages x c.image neat History changes)))
+  apart = subst (Absent n) (sym (ap (pages_of_all c.image) (same_chains x c.image neat History no_catalogue_history changes) ∙ same_all x c.image (chains x) (same_pages x c.image neat History changes)))
       (chain_each x (λ q. n ≢ q) (chains x)
       (all_go (λ d. AllByRecursion (IsHeldIn d x) (found_pages d x)) (λ d. AllByRecursion (λ q. n ≢ q) (found_pages d x)) (chains x)
       (λ d helds. all_go (IsHeldIn d x) (λ q. n ≢ q) (found_pages d x) (λ q at e. is_made.other q (page_at x q) at.held (sym e)) helds) (chains_held x header is neat)))
@@ -147,7 +131,7 @@ module _ (b : Base) (header : HasHeader b.image) (is : IsSoundImage b.image) (ne
   -- the place that was free is the first that is free after the new page
   same_room : room ≡ free_spot (spots_of m ps)
   unfolding spots
-  same_room = ap free_spot (sym (catalogue_same x c.image neat History no_catalogue changes)) ∙ ap (λ (qs : List ℕ). free_spot (spots_of c.image qs)) pages_then ∙ ap (λ (z : Image). free_spot (spots_of z ps)) mid
+  same_room = ap free_spot (sym (catalogue_same x c.image neat History no_catalogue_history changes)) ∙ ap (λ (qs : List ℕ). free_spot (spots_of c.image qs)) pages_then ∙ ap (λ (z : Image). free_spot (spots_of z ps)) mid
 
   joins : created x table ≡ joined made.0 (place_slot Catalogue ps bytes (drafted m))
   unfolding place_slot
@@ -178,9 +162,9 @@ module _ (b : Base) (header : HasHeader b.image) (is : IsSoundImage b.image) (ne
       one z ks less =
           let still : ChangesChain History x z = nothing_changes x header is neat z less ks in
           record {
-            neat = stays_neat x z neat History no_catalogue still (λ first e. cc);
-            its = other_rows x z neat History no_catalogue still table (λ u found e. cc) ∙ rows_of_none x table absent_table;
-            others = λ other ne. other_rows x z neat History no_catalogue still other (λ u found e. cc);
+            neat = stays_neat x z neat History no_catalogue_history still (λ first e. cc);
+            its = other_rows x z neat History no_catalogue_history still table (λ u found e. cc) ∙ rows_of_none x table absent_table;
+            others = λ other ne. other_rows x z neat History no_catalogue_history still other (λ u found e. cc);
           }
 
   second_along : Along Gives c (place_slot Catalogue ps bytes (drafted m)).strokes

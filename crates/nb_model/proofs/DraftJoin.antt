@@ -1,13 +1,6 @@
 -- A form that goes on from a draft makes that draft's strokes, and then those that it makes from its image alone.
-use Rattle.std.proofs.Common.{◌≡◌, ℕ, zero, suc, ◌+◌, ◌*◌, List, [], ◌∷◌, ◌++◌, drop, refl, sym, ap, ◌∙◌, append_assoc}
-use Rattle.std.specs.Prelude.{Bool, true, false, ◌||◌, ◌==◌, nat_lt, Option, Some, None}
-use Rattle.std.proofs.lemmas.List.{append-nil}
-use Rattle.nb_fields.specs.Bytes.{bytes_of, with_part}
-use Rattle.nb_fields.specs.Places.{is_system_place, most_pages}
-use Rattle.nb_fields.specs.Kinds.{inventory_kind}
-use Rattle.nb_model.specs.Image.{Image, page_at, image_size, image_scn}
-use Rattle.nb_model.specs.Strokes.{Stroke}
-use Rattle.nb_model.specs.Forms.{Draft, drafted, wrote, written, needs, is_kind, other_kind, wants, scn_page_of, inventory_of, bit_number, entry_number, scn_entry, has_entry, with_bit, entry_written, entry_raised, raised, put, set_bit, take_page, lowest_free, first_not, needed_at, system_kind, system_payload, system_page, no_page, new_within}
+use Rattle.std.proofs.Common.{◌≡◌, ℕ, zero, suc, ◌+◌, ◌*◌, List, [], ◌∷◌, ◌++◌, drop, refl, sym, ap, ◌∙◌, append_assoc, Bool, true, false, ◌||◌, ◌==◌, nat_lt, Option, Some, None}
+use Rattle.nb_model.proofs.Common.{append-nil, bytes_of, with_part, is_system_place, most_pages, inventory_kind, Image, page_at, image_size, image_scn, Stroke, Draft, drafted, wrote, written, needs, is_kind, other_kind, wants, scn_page_of, inventory_of, bit_number, entry_number, scn_entry, has_entry, with_bit, entry_written, entry_raised, raised, put, set_bit, take_page, lowest_free, first_not, needed_at, system_kind, system_payload, system_page, no_page, new_within}
 
 -- the strokes of a draft, and then those of another that goes on from its image
 abbrev pub joined : Draft → Draft → Draft

@@ -1,13 +1,6 @@
 -- What one write of the short forms keeps, every form keeps.
-use Rattle.std.proofs.Common.{◌≡◌, ℕ, zero, suc, List, [], ◌∷◌, refl, ap, ◌∙◌}
-use Rattle.std.specs.Prelude.{Bool, Option, Some, None, true, false, ◌==◌, nat_lt}
-use Rattle.nb_fields.specs.Places.{is_system_place, most_pages}
-use Rattle.nb_model.specs.Image.{Page, Image, image_size, image_scn, with_page}
-use Rattle.nb_model.specs.Account.{Base}
-use Rattle.nb_model.specs.Chains.{Chain, Slot, Spot, spots_of, free_spot, put_slot, last_of, grown, place_at, place_slot}
-use Rattle.nb_model.specs.Tables.{all_given}
-use Rattle.nb_model.specs.Strokes.{page, base_after, on_base, merged_page}
-use Rattle.nb_model.specs.Forms.{Draft, drafted, wrote, written, needs, is_kind, has_entry, scn_entry, entry_written, entry_raised, raised, put, set_bit, give_page, lowest_free, first_not, needed_at, system_kind, system_page, no_page, new_within}
+use Rattle.std.proofs.Common.{◌≡◌, ℕ, zero, suc, List, [], ◌∷◌, refl, ap, ◌∙◌, Bool, Option, Some, None, true, false, ◌==◌, nat_lt}
+use Rattle.nb_model.proofs.Common.{is_system_place, most_pages, Page, Image, image_size, image_scn, with_page, Base, Chain, Slot, Spot, spots_of, free_spot, put_slot, last_of, grown, place_at, place_slot, all_given, page, base_after, on_base, merged_page, Draft, drafted, wrote, written, needs, is_kind, has_entry, scn_entry, entry_written, entry_raised, raised, put, set_bit, give_page, lowest_free, first_not, needed_at, system_kind, system_page, no_page, new_within}
 use Rattle.nb_model.proofs.StrokeLaws.{base_after-append}
 
 -- What is kept by each write, and says nothing of what was read.
@@ -21,11 +14,11 @@ pub either : (P : Draft → Type 0) (t : Bool) (x y : Draft) → P x → P y →
 either P true x y px py = px
 either P false x y px py = py
 
-either_page : (P : Draft → Type 0) (t : Bool) (x y : Draft × ℕ) → P x.0 → P y.0 → P (elim t as (λ z. Draft × ℕ) [ true ↦ x | false ↦ y ]).0
+pub either_page : (P : Draft → Type 0) (t : Bool) (x y : Draft × ℕ) → P x.0 → P y.0 → P (elim t as (λ z. Draft × ℕ) [ true ↦ x | false ↦ y ]).0
 either_page P true x y px py = px
 either_page P false x y px py = py
 
-either_need : (P : Draft → Type 0) (o : Option ℕ) (stop : ℕ → Draft × ℕ) (go : Draft × ℕ) → ((q : ℕ) → P (stop q).0) → P go.0 → P (elim o as (λ z. Draft × ℕ) [ Some q ↦ stop q | None ↦ go ]).0
+pub either_need : (P : Draft → Type 0) (o : Option ℕ) (stop : ℕ → Draft × ℕ) (go : Draft × ℕ) → ((q : ℕ) → P (stop q).0) → P go.0 → P (elim o as (λ z. Draft × ℕ) [ Some q ↦ stop q | None ↦ go ]).0
 either_need P None stop go ps pg = pg
 either_need P (Some q) stop go ps pg = ps q
 
@@ -96,7 +89,7 @@ pub drafted_is : (b : Base) → IsOf b (drafted b.image)
 unfolding base_after
 drafted_is b = record { is = refl }
 
-page_image : (b : Base) (p : ℕ) (bytes : Page) → (base_after b (page p bytes ∷ [])).image ≡ with_page p (merged_page p bytes b.image) b.image
+pub page_image : (b : Base) (p : ℕ) (bytes : Page) → (base_after b (page p bytes ∷ [])).image ≡ with_page p (merged_page p bytes b.image) b.image
 unfolding base_after on_base
 page_image b p bytes = refl
 

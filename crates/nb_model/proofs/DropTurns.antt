@@ -1,18 +1,6 @@
 -- A table is dropped: its slot in the catalogue is emptied first, and its pages are given back then, which changes nothing for the others.
-use Rattle.std.proofs.Common.{◌≡◌, ◌≢◌, ◌⊎◌, inl, inr, ℕ, zero, suc, ◌+◌, ◌*◌, ◌≤◌, List, [], ◌∷◌, ◌++◌, map, length, drop, refl, sym, ap, subst, ◌∙◌, arith}
-use Rattle.std.specs.Prelude.{false, None, Contains}
-use Rattle.std.specs.List.{AllByRecursion}
-use Rattle.nb_fields.specs.Bytes.{with_part}
-use Rattle.nb_model.specs.Account.{Base, base_of}
-use Rattle.nb_model.specs.Chains.{Chain, Catalogue, History, Spot, is_used, found_pages, spots, table_spot, free_slot, put_slot}
-use Rattle.nb_model.specs.Forms.{Draft, drafted, raised, give_page}
-use Rattle.nb_model.specs.Image.{Page, Image, page_at}
-use Rattle.nb_model.specs.Outcomes.{Seen}
-use Rattle.nb_model.specs.RowChanges.{GivesRows}
-use Rattle.nb_model.specs.Rows.{used, table_chains, chains, pages_of_all, rows, AreDistinct, IsNeat}
-use Rattle.nb_model.specs.Sound.{HasHeader, IsSoundImage}
-use Rattle.nb_model.specs.Strokes.{Stroke, on_base, base_after}
-use Rattle.nb_model.specs.Tables.{all_given}
+use Rattle.std.proofs.Common.{◌≡◌, ◌≢◌, ◌⊎◌, inl, inr, ℕ, zero, suc, ◌+◌, ◌*◌, ◌≤◌, List, [], ◌∷◌, ◌++◌, map, length, drop, refl, sym, ap, subst, ◌∙◌, arith, false, None, Contains}
+use Rattle.nb_model.proofs.Common.{AllByRecursion, with_part, Base, base_of, Chain, Catalogue, History, Spot, is_used, found_pages, spots, table_spot, free_slot, put_slot, Draft, drafted, raised, give_page, Page, Image, page_at, Seen, GivesRows, used, table_chains, chains, pages_of_all, rows, AreDistinct, IsNeat, HasHeader, IsSoundImage, Stroke, on_base, base_after, all_given, all_go, all_both}
 use Rattle.nb_model.proofs.Along.{Along, along_append, along_more, along_end, put_along}
 use Rattle.nb_model.proofs.DraftJoin.{Joins, joined, join_none, join_then, join_set_bit}
 use Rattle.nb_model.proofs.DraftLaws.{IsOf, drafted_is, drafts_are, set_bit_keeps}
@@ -22,7 +10,7 @@ use Rattle.nb_model.proofs.HeldChains.{nothing_changes, these_stay}
 use Rattle.nb_model.proofs.HeldLaws.{IsHeld, held_bit}
 use Rattle.nb_model.proofs.NeatDrops.{has_name, left_each, left_other, each_pages, gone as not_there, table_gone, pages_left, fronted}
 use Rattle.nb_model.proofs.NeatGrows.{apart_front}
-use Rattle.nb_model.proofs.NeatLaws.{all_go, all_both, pages_first, distinct_right, pages_among, chain_held, once_table, table_found, IsFoundTable, chains_are, same_table, stays_neat, other_rows}
+use Rattle.nb_model.proofs.NeatLaws.{pages_first, distinct_right, pages_among, chain_held, once_table, table_found, IsFoundTable, chains_are, same_table, stays_neat, other_rows, no_catalogue_history}
 use Rattle.nb_model.proofs.NoRows.{HasNoRows}
 use Rattle.nb_model.proofs.PutSound.{header_whole}
 use Rattle.nb_model.proofs.RowSlots.{free_not_used, free_is_slot}
@@ -48,7 +36,7 @@ given_first : (p : ℕ) (ps : List ℕ) (z : Image) → all_given (p ∷ ps) (dr
 unfolding all_given
 given_first p ps z = join_given ps (give_page p (drafted z))
 
-given_none : (z : Image) → (all_given [] (drafted z)).strokes ≡ []
+pub given_none : (z : Image) → (all_given [] (drafted z)).strokes ≡ []
 unfolding all_given
 given_none z = refl
 
@@ -209,16 +197,13 @@ module _ (s : Seen) (header : HasHeader s.base.image) (is : IsSoundImage s.base.
       join [] ls a c = c
       join (z ∷ ks) ls a c = (a.0, join ks ls a.1 c)
 
-  no_catalogue : Catalogue ≢ History
-  no_catalogue e = cc
-
   still_gone : (z : Image) → ((q : ℕ) (bytes : Page) → Away q → IsHeld q bytes y → IsHeld q bytes z) → length y ≤ length z → GivesRows x z table []
   still_gone z keeps longer =
       let changes = these_stay y y_header y_sound gone.neat z longer Away away keeps in
       record {
-        neat = stays_neat y z gone.neat History no_catalogue changes (λ first e. cc);
-        its = other_rows y z gone.neat History no_catalogue changes table (λ w found e. cc) ∙ gone.its;
-        others = λ other ne. other_rows y z gone.neat History no_catalogue changes other (λ w found e. cc) ∙ gone.others other ne;
+        neat = stays_neat y z gone.neat History no_catalogue_history changes (λ first e. cc);
+        its = other_rows y z gone.neat History no_catalogue_history changes table (λ w found e. cc) ∙ gone.its;
+        others = λ other ne. other_rows y z gone.neat History no_catalogue_history changes other (λ w found e. cc) ∙ gone.others other ne;
       }
 
   rest_facts : Along (λ z. ((q : ℕ) (bytes : Page) → Away q → IsHeld q bytes y → IsHeld q bytes z) × (length y ≤ length z)) (base_after b first.strokes) rest.strokes
@@ -247,5 +232,5 @@ module _ (s : Seen) (header : HasHeader s.base.image) (is : IsSoundImage s.base.
   pub drop_gone : table_spot table (dropped x spot).image ≡ None
   drop_gone =
       ap (λ (d : Draft). table_spot table d.image) parts
-      ∙ same_table y rest.image gone.neat History no_catalogue (these_stay y y_header y_sound gone.neat rest.image at_end.1 Away away at_end.0) table
+      ∙ same_table y rest.image gone.neat History no_catalogue_history (these_stay y y_header y_sound gone.neat rest.image at_end.1 Away away at_end.0) table
       ∙ not_there x y neat emptied.changes f table spot has.found empty all emptied.spots_then

@@ -1,22 +1,10 @@
 -- A trail stays sound: what was before stays before, and a page write that lowers no entry goes on.
-use Rattle.std.proofs.Common.{◌≡◌, inl, inr, ℕ, zero, suc, ◌/◌, ◌%◌, ◌≤◌, [], ◌∷◌, length, take, refl, sym, ap, subst, ◌∙◌, arith}
-use Rattle.std.specs.Prelude.{Bool, true, false, Contains}
-use Rattle.std.proofs.lemmas.Bool.Decides.{eqb_tells}
-use Rattle.std.proofs.lemmas.List.Elements.{Contains-append_cases}
-use Rattle.nb_fields.specs.Places.{scn_place, entries_in}
-use Rattle.nb_fields.specs.Payloads.{entry_of}
-use Rattle.nb_model.specs.Image.{Page, Image, page_at, first_page, image_size, image_scn, with_page}
-use Rattle.nb_model.specs.Account.{Base}
-use Rattle.nb_model.specs.Forms.{scn_page_of, entry_number, scn_entry}
-use Rattle.nb_model.specs.Sound.{IsSoundImage}
-use Rattle.nb_model.specs.Strokes.{Stroke, on_base}
-use Rattle.nb_model.specs.Trail.{Trail, settled, bases_of, settles_at, after_stroke, IsLeft}
-use Rattle.nb_model.specs.Earlier.{IsEarlier, IsCovered, AreInStep, LowersNone}
-use Rattle.nb_model.specs.WellTrail.{IsSoundTrail}
+use Rattle.std.proofs.Common.{◌≡◌, inl, inr, ℕ, zero, suc, ◌/◌, ◌%◌, ◌≤◌, [], ◌∷◌, length, take, refl, sym, ap, subst, ◌∙◌, arith, Bool, true, false, Contains}
+use Rattle.nb_model.proofs.Common.{eqb_tells, Contains-append_cases, scn_place, entries_in, entry_of, Page, Image, page_at, first_page, image_size, image_scn, with_page, Base, scn_page_of, entry_number, scn_entry, IsSoundImage, Stroke, on_base, Trail, settled, bases_of, settles_at, after_stroke, IsLeft, IsEarlier, IsCovered, AreInStep, LowersNone, IsSoundTrail, Contains-push}
 use Rattle.nb_model.proofs.HeaderLaws.{same-number}
 use Rattle.nb_model.proofs.SoundLaws.{with_page_length}
 use Rattle.nb_model.proofs.StrokeLaws.{with_page_same, with_page_other, with_page_front}
-use Rattle.nb_model.proofs.TrailLaws.{last_there, settles_after, waits_after}
+use Rattle.nb_model.proofs.TrailLaws.{settles_after, waits_after}
 use Rattle.nb_model.proofs.MixtureLaws.{entry_same, IsSoundBefore, mixture_sound}
 use Rattle.nb_model.proofs.CoveredLaws.{steps_more, steps_before}
 
@@ -92,4 +80,4 @@ sound_before t trail m there = record { sound = trail.sound m there; earlier = s
 
 -- what a crash may leave of a sound trail is sound
 pub left_sound : (t : Trail) (b : Base) → IsSoundTrail t → IsLeft t b → IsSoundImage b.image
-left_sound t b trail left = mixture_sound (bases_of t) t.base b.image (sound_before t trail) (trail.sound t.base (last_there t.earlier t.base)) (left.covered trail.steps).entries left.mixed
+left_sound t b trail left = mixture_sound (bases_of t) t.base b.image (sound_before t trail) (trail.sound t.base (Contains-push t.earlier t.base)) (left.covered trail.steps).entries left.mixed

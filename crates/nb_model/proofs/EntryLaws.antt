@@ -1,17 +1,6 @@
 -- Laws of the table of a difference file: which entry names a page.
-use Rattle.std.proofs.Common.{◌≡◌, ◌≢◌, ◌⊎◌, inl, inr, ℕ, suc, ◌<◌, List, [], ◌∷◌, ◌++◌, length, refl, sym, ap, subst, ◌∙◌, arith}
-use Rattle.std.specs.Prelude.{Bool, true, false, ◌||◌, nat_eq, Option, Some, None}
-use Rattle.std.specs.List.{list_any}
-use Rattle.std.proofs.lemmas.Bool.{true≢false}
-use Rattle.std.proofs.lemmas.Bool.Decides.{eqb_tells}
-use Rattle.nb_model.specs.Strokes.{noted}
-use Rattle.nb_model.specs.Owner.{entry_for}
-
-none_some : (k : ℕ) → None ≡ Some k → ⊥
-none_some k e = cc
-
-some_same : (j k : ℕ) → Some j ≡ Some k → j ≡ k
-some_same j k e = cc
+use Rattle.std.proofs.Common.{◌≡◌, ◌≢◌, ◌⊎◌, inl, inr, ℕ, suc, ◌<◌, List, [], ◌∷◌, ◌++◌, length, refl, sym, ap, subst, ◌∙◌, arith, Bool, true, false, ◌||◌, nat_eq, Option, Some, None}
+use Rattle.nb_model.proofs.Common.{list_any, true≢false, eqb_tells, noted, entry_for, none_some, some_same}
 
 -- an entry after another
 abbrev behind_one : Option ℕ → Option ℕ
@@ -27,7 +16,7 @@ behind_some None k e = absurd (none_some k e)
 behind_some (Some i) k e = (i, refl, sym (some_same (suc i) k e))
 
 -- the first entry, and the others
-for_here : (p q : ℕ) (qs : List ℕ) → p ≡ q → entry_for p (q ∷ qs) ≡ Some 0
+pub for_here : (p q : ℕ) (qs : List ℕ) → p ≡ q → entry_for p (q ∷ qs) ≡ Some 0
 unfolding entry_for
 for_here p q qs e = elim (eqb_tells p q) [ inl w ↦ rw (w.0, entry_for) refl | inr w ↦ absurd (w.1 e) ]
 
@@ -35,7 +24,7 @@ for_next : (p q : ℕ) (qs : List ℕ) → p ≢ q → entry_for p (q ∷ qs) �
 unfolding entry_for
 for_next p q qs other = elim (eqb_tells p q) [ inl w ↦ absurd (other w.1) | inr w ↦ rw (w.0, entry_for) refl ]
 
-for_nothing : (p : ℕ) → entry_for p [] ≡ None
+pub for_nothing : (p : ℕ) → entry_for p [] ≡ None
 unfolding entry_for
 for_nothing p = refl
 

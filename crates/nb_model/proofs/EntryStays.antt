@@ -1,29 +1,7 @@
 -- A page of the SCN inventory stays one through every turn on pages, whatever else stands in the image: so a page that has its SCN entry goes on having
 -- it.
-use Rattle.std.proofs.Common.{◌≡◌, ◌≢◌, inl, inr, ℕ, zero, suc, ◌/◌, ◌≤◌, List, [], ◌∷◌, refl, sym, ap, subst, ◌∙◌, arith}
-use Rattle.std.specs.Prelude.{Bool, true, false, IsTrue, ◌==◌, nat_lt, Option, Some, None}
-use Rattle.std.specs.List.{AllByRecursion}
-use Rattle.std.proofs.lemmas.Bool.{true≢false, false_from_ne_true}
-use Rattle.std.proofs.lemmas.Bool.Decides.{eqb_tells}
-use Rattle.nb_fields.specs.Page.{kind_of}
-use Rattle.nb_fields.specs.Places.{is_page_size, bits_in, entries_in, is_inventory_place, is_scn_place, is_system_place, most_pages}
-use Rattle.nb_fields.specs.Kinds.{scn_kind}
-use Rattle.nb_host.specs.declared.refusals.Refusal.{Refusal}
-use Rattle.nb_model.specs.declared.statement.Statement.{Statement}
-use Rattle.nb_model.specs.declared.statement.Statement.TheVariants.{CreateDb, OpenDb, PageNew, Write, Free, Reclaim, CreateTable, DropTable, Insert, Update, Delete, Get, Scan, Forced, Access, ShowCache}
-use Rattle.nb_model.specs.Causes.{broken_at, not_raw}
-use Rattle.nb_model.specs.Chains.{Chain, Catalogue, Slot, Spot, spots, spots_of, found_pages, pages_of, is_in_chain, first_such, last_of, free_spot, table_spot, row_spot, put_slot, grown, place_at, place_slot}
-use Rattle.nb_model.specs.Forms.{HasItsEntry, Draft, drafted, wrote, written, old_page, needs, is_kind, has_entry, scn_entry, scn_page_of, inventory_of, entry_written, entry_raised, raised, put, set_bit, give_page, take_page, lowest_free, first_not, needed_at, system_kind, system_page, no_page, new_within}
-use Rattle.nb_model.specs.Image.{Page, Image, page_at, first_page, image_size, image_scn, with_page}
-use Rattle.nb_model.specs.Outcomes.{Seen, Outcome}
-use Rattle.nb_model.specs.Pages.{new_turn, write_turn, free_turn, forced_turn, access_turn, byte_strokes, cache_turn}
-use Rattle.nb_model.specs.Sound.{HasHeader}
-use Rattle.nb_model.specs.Strokes.{Stroke, merged_page, on_base, base_after}
-use Rattle.nb_model.specs.Tables.{all_given}
-use Rattle.nb_model.specs.Checks.{reclaim_turn, reclaimed}
-use Rattle.nb_model.specs.Leaks.{leaked}
-use Rattle.nb_model.specs.Turns.{first_turn}
-use Rattle.nb_model.specs.Well.{is_on_pages}
+use Rattle.std.proofs.Common.{◌≡◌, ◌≢◌, inl, inr, ℕ, zero, suc, ◌/◌, ◌≤◌, List, [], ◌∷◌, refl, sym, ap, subst, ◌∙◌, arith, Bool, true, false, IsTrue, ◌==◌, nat_lt, Option, Some, None}
+use Rattle.nb_model.proofs.Common.{AllByRecursion, true≢false, false_from_ne_true, eqb_tells, kind_of, is_page_size, bits_in, entries_in, is_inventory_place, is_scn_place, is_system_place, most_pages, scn_kind, Refusal, Statement, CreateDb, OpenDb, PageNew, Write, Free, Reclaim, CreateTable, DropTable, Insert, Update, Delete, Get, Scan, Forced, Access, ShowCache, broken_at, not_raw, Chain, Catalogue, Slot, Spot, spots, spots_of, found_pages, pages_of, is_in_chain, first_such, last_of, free_spot, table_spot, row_spot, put_slot, grown, place_at, place_slot, HasItsEntry, Draft, drafted, wrote, written, old_page, needs, is_kind, has_entry, scn_entry, scn_page_of, inventory_of, entry_written, entry_raised, raised, put, set_bit, give_page, take_page, lowest_free, first_not, needed_at, system_kind, system_page, no_page, new_within, Page, Image, page_at, first_page, image_size, image_scn, with_page, Seen, Outcome, new_turn, write_turn, free_turn, forced_turn, access_turn, byte_strokes, cache_turn, HasHeader, Stroke, merged_page, on_base, base_after, all_given, reclaim_turn, reclaimed, leaked, first_turn, is_on_pages}
 use Rattle.nb_model.proofs.ToldTurns.{does_more, told_strokes, pages_cases}
 use Rattle.nb_model.proofs.DraftLaws.{IsOf, drafts_are, drafted_is, either, put_keeps, set_bit_keeps, new_keeps, slot_keeps, at_keeps, place_keeps, given_keeps}
 use Rattle.nb_model.proofs.HeaderLaws.{header-size}
@@ -33,10 +11,11 @@ use Rattle.nb_model.proofs.PutSound.{no_first, needs_image, raw_facts}
 use Rattle.nb_model.proofs.RoomLaws.{in_chain, pages_found, last_of_all, first_passes}
 use Rattle.nb_model.proofs.SoundLaws.{inventory_there, scn_page_there, scn_page_behind}
 use Rattle.nb_model.proofs.SpotLaws.{IsSpotOn, all_on}
-use Rattle.nb_model.proofs.StepLaws.{kind_parts, kind_from, scn_page_moves}
+use Rattle.nb_model.proofs.StepLaws.{kind_parts, scn_page_moves}
 use Rattle.nb_model.proofs.StrokeLaws.{with_page_same, whole_page}
 use Rattle.nb_model.proofs.TableCases.{MayPut, created, dropped, inserted, row_written, create_either, drop_either, insert_either, update_either, delete_either, get_either, scan_either, changes_either, chain_at}
 use Rattle.nb_model.proofs.TurnCases.{refused, unless_either}
+use Rattle.nb_model.proofs.RoundLaws.{kind_found}
 
 -- Of pages of n bytes, page q is one of the SCN inventory.
 module _ (n q : ℕ) (place : is_scn_place n q ≡ true) where
@@ -62,7 +41,7 @@ module _ (n q : ℕ) (place : is_scn_place n q ≡ true) where
       record {
         header = header_kept x p bytes h.header;
         size = size_kept x p bytes h.header ∙ h.size;
-        kind = kind_from (with_page p (merged_page p bytes x) x) scn_kind q (omega (arith, old.0, with_page_longer p (merged_page p bytes x) x)) (elim (eqb_tells p q) [
+        kind = kind_found (with_page p (merged_page p bytes x) x) scn_kind q (omega (arith, old.0, with_page_longer p (merged_page p bytes x) x)) (elim (eqb_tells p q) [
           | inl w ↦
               let at : 1 ≤ p = omega (arith, some, w.1) in
               ap (λ (i : ℕ). kind_of (page_at (with_page p (merged_page p bytes x) x) i)) (sym w.1) ∙ ap kind_of (with_page_same p (merged_page p bytes x) x (omega (arith, w.1, old.0)))

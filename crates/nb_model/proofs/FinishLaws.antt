@@ -1,20 +1,7 @@
 -- Turns come to an end: what a turn leaves to do weighs less than it, or there are fewer turns.
-use Rattle.std.proofs.Common.{◌≡◌, inl, inr, ⊎_elim, ◌⊎◌, ℕ, zero, suc, ◌+◌, ◌-◌, ◌<◌, ◌≤◌, List, [], ◌∷◌, ◌++◌, length, replicate, get_or, set, refl, sym, ap, subst, ◌∙◌, arith, length-append}
-use Rattle.std.specs.Prelude.{true}
-use Rattle.std.specs.List.{AllByRecursion, sum_by}
-use Rattle.std.proofs.lemmas.List.{get_or_past, length-set}
+use Rattle.std.proofs.Common.{◌≡◌, inl, inr, ⊎_elim, ◌⊎◌, ℕ, zero, suc, ◌+◌, ◌-◌, ◌<◌, ◌≤◌, List, [], ◌∷◌, ◌++◌, length, replicate, get_or, set, refl, sym, ap, subst, ◌∙◌, arith, length-append, true}
+use Rattle.nb_model.proofs.Common.{AllByRecursion, sum_by, get_or_past, length-set, leb_tells, Reply, Statement, BeginBackup, EndBackup, Backup, BackupSince, CopyTo, Ask, room_in, backup_turn, since_turn, copy_turn, close_backup, close_copy, Turn, Begins, Copies, ClosesBackup, ClosesCopy, Ends, Merges, Finishes, Seen, Outcome, begin_turn, end_turn, ends_by, first_turn, turn, Now, Played, outcome, stands_then, take_turn, one_turn, play, rounds, all_sessions, AreFinished, is_on_pages}
 use Rattle.std.proofs.lemmas.List.Sums.{sum_by-set}
-use Rattle.std.proofs.lemmas.Bool.Decides.{leb_tells}
-use Rattle.nb_model.specs.declared.reply.Reply.{Reply}
-use Rattle.nb_model.specs.declared.statement.Statement.{Statement}
-use Rattle.nb_model.specs.declared.statement.Statement.TheVariants.{BeginBackup, EndBackup, Backup, BackupSince, CopyTo}
-use Rattle.nb_model.specs.Account.{Ask}
-use Rattle.nb_model.specs.Backups.{room_in, backup_turn, since_turn, copy_turn, close_backup, close_copy}
-use Rattle.nb_model.specs.Outcomes.{Turn, Begins, Copies, ClosesBackup, ClosesCopy, Ends, Merges, Finishes, Seen, Outcome}
-use Rattle.nb_model.specs.Pages.{begin_turn, end_turn, ends_by}
-use Rattle.nb_model.specs.Turns.{first_turn, turn}
-use Rattle.nb_model.specs.Run.{Now, Played, outcome, stands_then, take_turn, one_turn, play, rounds, all_sessions, AreFinished}
-use Rattle.nb_model.specs.Well.{is_on_pages}
 use Rattle.nb_model.proofs.RunLaws.{play-append, nothing_taken}
 use Rattle.nb_model.proofs.TurnCases.{started, statement_cases, begin_either, end_either, backup_either, since_either, copy_either, pages_once}
 

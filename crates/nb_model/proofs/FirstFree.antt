@@ -1,10 +1,6 @@
 -- The lowest free page from one on.
-use Rattle.std.proofs.Common.{◌≡◌, inl, inr, ℕ, zero, suc, ◌+◌, ◌-◌, ◌<◌, ◌≤◌, length, refl, sym, ap, subst, ◌∙◌, arith}
-use Rattle.std.specs.Prelude.{Bool, true, false}
-use Rattle.std.proofs.lemmas.Bool.{true≢false}
-use Rattle.std.proofs.lemmas.Bool.Decides.{eqb_tells, leb_tells}
-use Rattle.nb_model.specs.Image.{Image}
-use Rattle.nb_model.specs.Forms.{is_free_page, free_from, lowest_free}
+use Rattle.std.proofs.Common.{◌≡◌, inl, inr, ℕ, zero, suc, ◌+◌, ◌-◌, ◌<◌, ◌≤◌, length, refl, sym, ap, subst, ◌∙◌, arith, Bool, true, false}
+use Rattle.nb_model.proofs.Common.{true≢false, eqb_tells, leb_tells, Image, is_free_page, free_from, lowest_free}
 
 -- p is the lowest free page from one on and below another, or that one where none is free
 pub record IsLowestFree (x : Image) (from end p : ℕ) : Type 0 where

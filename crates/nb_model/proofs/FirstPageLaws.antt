@@ -1,22 +1,12 @@
 -- An image whose page 0 becomes a later one, of the same size, stays sound and goes on from what it went on from.
-use Rattle.std.proofs.Common.{◌≡◌, ◌≢◌, inl, inr, ℕ, zero, suc, ◌/◌, ◌<◌, ◌≤◌, List, [], ◌∷◌, length, refl, sym, ap, subst, ◌∙◌, arith}
-use Rattle.std.specs.Prelude.{true, false}
-use Rattle.std.proofs.lemmas.Bool.Decides.{eqb_tells}
-use Rattle.nb_fields.specs.Bytes.{is_zeros}
-use Rattle.nb_fields.specs.Header.{is_header, size_of, scn_of, guid_of}
-use Rattle.nb_fields.specs.Page.{kind_of, stamp_of}
-use Rattle.nb_fields.specs.Places.{entries_in, bits_in, is_inventory_place, is_scn_place}
-use Rattle.nb_model.specs.Image.{Page, Image, page_at, first_page, image_size, image_scn}
-use Rattle.nb_model.specs.Account.{Kept}
-use Rattle.nb_model.specs.Forms.{inventory_of, scn_page_of, scn_entry, has_entry, is_free_page}
-use Rattle.nb_model.specs.Sound.{HasHeader, IsSoundImage}
-use Rattle.nb_model.specs.Stands.{nil, IsKeptAs, GoesOn, HasRows, NamesPast, HasOldEntries}
+use Rattle.std.proofs.Common.{◌≡◌, ◌≢◌, inl, inr, ℕ, zero, suc, ◌/◌, ◌<◌, ◌≤◌, List, [], ◌∷◌, length, refl, sym, ap, subst, ◌∙◌, arith, true, false}
+use Rattle.nb_model.proofs.Common.{eqb_tells, is_zeros, is_header, size_of, scn_of, guid_of, kind_of, stamp_of, entries_in, bits_in, is_inventory_place, is_scn_place, Page, Image, page_at, first_page, image_size, image_scn, Kept, inventory_of, scn_page_of, scn_entry, has_entry, is_free_page, HasHeader, IsSoundImage, nil, IsKeptAs, GoesOn, HasRows, NamesPast, HasOldEntries, scn_place-some}
 use Rattle.nb_model.proofs.HeaderLaws.{header-other}
 use Rattle.nb_model.proofs.MainLaws.{some_page}
 use Rattle.nb_model.proofs.MixtureLaws.{has_same, scn_page_same, inventory_same, entry_same, free_same}
 use Rattle.nb_model.proofs.PastLaws.{rows_with, no_history, no_rows_pass}
 use Rattle.nb_model.proofs.PutSound.{header_fields}
-use Rattle.nb_model.proofs.SoundLaws.{HasFields, all_from, all_at, kind_of_header, inventory_behind, inventory_place_some, scn_page_behind, scn_place_some}
+use Rattle.nb_model.proofs.SoundLaws.{HasFields, all_from, all_at, kind_of_header, inventory_behind, inventory_place_some, scn_page_behind}
 use Rattle.nb_model.proofs.StalledLaws.{behind_first}
 
 -- the image with another page 0
@@ -75,7 +65,7 @@ module _ (image : Image) (page : Page) (h : HasHeader image) (is : IsSoundImage 
 
   -- bits and entries stay
   new_entry : (p : ℕ) → scn_entry new p ≡ scn_entry image p
-  new_entry p = entry_same new image new_size p (rest (scn_page_of image p) (omega (arith, scn_place_some (image_size image) (p / entries_in (image_size image)) fields.size)))
+  new_entry p = entry_same new image new_size p (rest (scn_page_of image p) (omega (arith, scn_place-some (image_size image) (p / entries_in (image_size image)) fields.size)))
 
   pub new_free : (p : ℕ) → is_free_page new p ≡ is_free_page image p
   new_free p = free_same new image new_size p (rest (inventory_of image p) (inventory_place_some (image_size image) (p / bits_in (image_size image)) fields.size))

@@ -1,12 +1,6 @@
 -- Strokes of which each writes a page that fits at its point: what such a page keeps holds after each front of them.
 use Rattle.std.proofs.Common.{◌≡◌, inl, inr, ℕ, ◌≤◌, List, [], ◌∷◌, ◌++◌, length, refl, sym, ap, subst, ◌∙◌, arith}
-use Rattle.std.proofs.lemmas.Bool.Decides.{eqb_tells}
-use Rattle.nb_fields.specs.Page.{stamped}
-use Rattle.nb_model.specs.Image.{Page, Image, page_at, image_size, image_state, image_scn, with_page}
-use Rattle.nb_model.specs.Account.{Base}
-use Rattle.nb_model.specs.Strokes.{Stroke, page, on_base, base_after, merged_page}
-use Rattle.nb_model.specs.Forms.{Draft, drafted, old_page, wrote, written, needs, is_kind, no_page}
-use Rattle.nb_model.specs.Sound.{IsSoundImage}
+use Rattle.nb_model.proofs.Common.{eqb_tells, stamped, Page, Image, page_at, image_size, image_state, image_scn, with_page, Base, Stroke, page, on_base, base_after, merged_page, Draft, drafted, old_page, wrote, written, needs, is_kind, no_page, IsSoundImage}
 use Rattle.nb_model.proofs.DraftLaws.{either, IsOf, drafted_is, drafts_are}
 use Rattle.nb_model.proofs.SoundLaws.{HasFields, FitsAt, written_other, with_page_length, size_stays, scn_stays, state_stays, fields_stay, page_sound}
 use Rattle.nb_model.proofs.StrokeLaws.{whole_page, with_page_same}

@@ -1,13 +1,6 @@
 -- Laws of lineage.
-use Rattle.std.proofs.Common.{◌≡◌, ◌≢◌, inl, inr, ℕ, zero, suc, ◌+◌, ◌-◌, ◌<◌, ◌≤◌, List, [], ◌∷◌, ◌++◌, length, drop, refl, sym, ap, subst, ◌∙◌, set, arith, length-append, length-set, get_or-set_same, get_or-set_other, append_assoc}
-use Rattle.std.specs.Prelude.{Contains}
-use Rattle.std.proofs.lemmas.List.{append-nil, get_or_append_left}
-use Rattle.std.proofs.lemmas.Bool.Decides.{eqb_tells, leb_tells}
-use Rattle.std.proofs.Math.Seq.{set-append_seam, get_or-append_seam}
-use Rattle.nb_fields.specs.Page.{stamp_of}
-use Rattle.nb_model.specs.Image.{Page, Image, page_at, image_size, first_page, written_at, overwritten}
-use Rattle.nb_model.specs.Levels.{taken_from, taken}
-use Rattle.nb_model.specs.Follows.{Follows, IsMixed}
+use Rattle.std.proofs.Common.{◌≡◌, ◌≢◌, inl, inr, ℕ, zero, suc, ◌+◌, ◌-◌, ◌<◌, ◌≤◌, List, [], ◌∷◌, ◌++◌, length, drop, refl, sym, ap, subst, ◌∙◌, set, arith, length-append, length-set, get_or-set_same, get_or-set_other, append_assoc, Contains}
+use Rattle.nb_model.proofs.Common.{append-nil, get_or_append_left, eqb_tells, leb_tells, set-append_seam, get_or-append_seam, stamp_of, Page, Image, page_at, image_size, first_page, written_at, overwritten, taken_from, taken, Follows, IsMixed, drop_all}
 
 -- lineage goes on
 pub follows_on : {a b c : Image} {s t : ℕ} → Follows a s b → Follows b t c → s ≤ t → Follows a s c
@@ -146,13 +139,7 @@ overwrites size s n front (p ∷ ps) (q ∷ qs) e h =
           ∙ overwrites size s (n + 1) (front ++ q ∷ []) ps qs next h.1 ∙ append_assoc front (q ∷ []) (qs ++ drop (length qs) ps))
     ]
 
-drop_past : (k : ℕ) (a : Image) → length a ≤ k → drop k a ≡ []
-drop_past zero [] h = refl
-drop_past (suc k) [] h = refl
-drop_past zero (p ∷ ps) h = absurd (omega arith)
-drop_past (suc k) (p ∷ ps) h = drop_past k ps (omega arith)
-
 -- an image with the pages of one that follows it written over, which are stamped above s, is that one
 pub follows_overwritten : (size : ℕ) {a b : Image} {s : ℕ} → Follows a s b → overwritten size (taken s b) a ≡ b
 follows_overwritten size {a} {b} {s} f =
-    overwrites size s 0 [] a b refl (meets s a b f.same) ∙ ap (λ (x : Image). b ++ x) (drop_past (length b) a f.no_shorter) ∙ append-nil b
+    overwrites size s 0 [] a b refl (meets s a b f.same) ∙ ap (λ (x : Image). b ++ x) (drop_all (length b) a f.no_shorter) ∙ append-nil b

@@ -1,15 +1,6 @@
 -- With forced writes on what a crash leaves is the database after a front of the strokes, which holds those that are acknowledged.
-use Rattle.std.proofs.Common.{◌≡◌, ℕ, zero, suc, ◌+◌, ◌-◌, ◌≤◌, List, [], ◌∷◌, ◌++◌, length, take, drop, refl, sym, ap, subst, ◌∙◌, arith, length-append}
-use Rattle.std.specs.Prelude.{Bool, Option, Some, None, true, false, nat_le}
-use Rattle.std.proofs.lemmas.List.{take-append-drop, take_all, take-append-le}
-use Rattle.nb_model.specs.declared.reply.Reply.{Reply}
-use Rattle.nb_model.specs.Account.{Base}
-use Rattle.nb_model.specs.Lines.{line_text}
-use Rattle.nb_model.specs.Output.{acked_in, acked}
-use Rattle.nb_model.specs.Run.{Event, strokes_of}
-use Rattle.nb_model.specs.Strokes.{Stroke, make, page, begin, ends, finish, fix, merge, on_base, base_after}
-use Rattle.nb_model.specs.Steps.{Step, makes, settles, IsForcedAt, AreForced, after_step, after_steps, strokes_in, steps_of, acked_turns, acked_steps}
-use Rattle.nb_model.specs.Trail.{Trail, settled, settles_at}
+use Rattle.std.proofs.Common.{◌≡◌, ℕ, zero, suc, ◌+◌, ◌-◌, ◌≤◌, List, [], ◌∷◌, ◌++◌, length, take, drop, refl, sym, ap, subst, ◌∙◌, arith, length-append, Bool, Option, Some, None, true, false, nat_le}
+use Rattle.nb_model.proofs.Common.{take-append-drop, take_all, take-append-le, Reply, Base, line_text, acked_in, acked, Event, strokes_of, Stroke, make, page, begin, ends, finish, fix, merge, on_base, base_after, Step, makes, settles, IsForcedAt, AreForced, after_step, after_steps, strokes_in, steps_of, acked_turns, acked_steps, Trail, settled, settles_at}
 use Rattle.nb_model.proofs.AckedLaws.{number, acked-number, quiet, whole, lined}
 use Rattle.nb_model.proofs.GuidLaws.{strokes_in_steps}
 use Rattle.nb_model.proofs.OutputLaws.{acked_in-empty, acked_in-quiet, acked_in-line}

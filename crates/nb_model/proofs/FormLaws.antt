@@ -1,14 +1,6 @@
 -- The form of a database: what it says of a file's bytes.
-use Rattle.std.proofs.Common.{◌≡◌, inl, inr, ℕ, suc, ◌*◌, ◌/◌, ◌%◌, ◌<◌, ◌≤◌, List, [], ◌∷◌, length, refl, sym, ap, ◌∙◌, arith, div-add-mod', mul-div_cancel}
-use Rattle.std.specs.Prelude.{Bool, true, false, IsTrue, not, ◌||◌, ◌==◌, nat_lt, Some, None, min}
-use Rattle.std.proofs.lemmas.Bool.{true≢false, or_parts, or_from}
-use Rattle.std.proofs.lemmas.Bool.Decides.{leb_tells, eqb_tells}
-use Rattle.std.proofs.Math.Nat.{mul-mod_left}
-use Rattle.nb_fields.specs.Header.{is_header, size_of}
-use Rattle.nb_fields.specs.Places.{is_page_size, most_pages}
-use Rattle.nb_host.specs.declared.refusals.Refusal.{Refusal}
-use Rattle.nb_host.specs.declared.refusals.Refusal.TheVariants.{NotDatabase}
-use Rattle.nb_model.specs.Causes.{Cause, first_cause, when, not_database}
+use Rattle.std.proofs.Common.{◌≡◌, inl, inr, ℕ, suc, ◌*◌, ◌/◌, ◌%◌, ◌<◌, ◌≤◌, List, [], ◌∷◌, length, refl, sym, ap, ◌∙◌, arith, div-add-mod', mul-div_cancel, Bool, true, false, IsTrue, not, ◌||◌, ◌==◌, nat_lt, Some, None, min}
+use Rattle.nb_model.proofs.Common.{true≢false, or_parts, or_from, leb_tells, eqb_tells, mul-mod_left, is_header, size_of, is_page_size, most_pages, Refusal, NotDatabase, Cause, first_cause, when, not_database, not_lt, some_none}
 use Rattle.nb_model.proofs.ReadLaws.{lt_no}
 use Rattle.nb_model.proofs.HeaderLaws.{header-size}
 
@@ -28,14 +20,8 @@ two_tests a b r q = first_cause (when a r ∷ when b q ∷ [])
 two_tests-none : (a b : Bool) (r q : Refusal) → two_tests a b r q ≡ None → (a ≡ false) × (b ≡ false)
 unfolding first_cause
 two_tests-none false false r q h = (refl, refl)
-two_tests-none false true r q h = absurd (some_none h)
-  where
-    some_none : Some q ≡ None → ⊥
-    some_none k = cc
-two_tests-none true b r q h = absurd (some_none h)
-  where
-    some_none : Some r ≡ None → ⊥
-    some_none k = cc
+two_tests-none false true r q h = absurd (some_none q h)
+two_tests-none true b r q h = absurd (some_none r h)
 
 two_tests-from : (a b : Bool) (r q : Refusal) → a ≡ false → b ≡ false → two_tests a b r q ≡ None
 unfolding first_cause
@@ -51,10 +37,6 @@ not_database-is : (bytes : List ℕ) → not_database bytes ≡ elim (is_header 
 unfolding not_database
 not_database-is bytes = refl
 
--- what the tests of the length say
-at_most : (m n : ℕ) → nat_lt n m ≡ false → m ≤ n
-at_most m n h = elim (leb_tells (suc n) m) [ inl w ↦ absurd (true≢false (sym w.0 ∙ h)) | inr w ↦ omega (arith, w.1) ]
-
 whole_pages : (left count : ℕ) → (not (left == 0) || nat_lt count 5) ≡ false → (left ≡ 0) × (5 ≤ count)
 whole_pages left count h =
     let parts = or_parts (not (left == 0)) (nat_lt count 5) h in
@@ -66,9 +48,6 @@ whole_pages left count h =
 pub formed : (bytes : List ℕ) → not_database bytes ≡ None → Formed bytes
 formed bytes none = by (is_header bytes) refl (sym (not_database-is bytes) ∙ none)
   where
-    some_none : (r : Refusal) → Some r ≡ None → ⊥
-    some_none r k = cc
-
     by : (t : Bool) → is_header bytes ≡ t → elim t as (λ z. Cause) [ false ↦ Some (NotDatabase 0) | true ↦ length_cause bytes ] ≡ None → Formed bytes
     by false e h = absurd (some_none (NotDatabase 0) h)
     by true e h =
@@ -83,7 +62,7 @@ formed bytes none = by (is_header bytes) refl (sym (not_database-is bytes) ∙ n
           count = count;
           whole = omega (arith, div-add-mod' (length bytes) (size_of bytes), parts.0);
           least = parts.1;
-          most = at_most count most_pages tests.1;
+          most = not_lt count most_pages tests.1;
         }
 
 -- and bytes of which that holds have the form
@@ -95,3 +74,8 @@ no_cause bytes size count header same some whole least most =
     ∙ ap (λ (t : Bool). elim t as (λ z. Cause) [ false ↦ Some (NotDatabase 0) | true ↦ length_cause bytes ]) header
     ∙ two_tests-from _ _ (NotDatabase (min (length bytes / size_of bytes) most_pages)) (NotDatabase most_pages)
     (or_from _ _ (ap (λ x. not (x == 0)) left) (ap (λ x. nat_lt x 5) pages ∙ lt_no count 5 least)) (ap (λ x. nat_lt most_pages x) pages ∙ lt_no most_pages count most)
+
+-- a file without a header
+pub unheaded : (bytes : List ℕ) → is_header bytes ≡ false → not_database bytes ≡ Some (NotDatabase 0)
+unfolding not_database
+unheaded bytes e = rw (e, not_database) refl

@@ -1,9 +1,6 @@
 -- A slot of a chain that is found stands on a page of it.
-use Rattle.std.proofs.Common.{◌≡◌, ℕ, suc, List, [], ◌∷◌, refl, arith}
-use Rattle.std.specs.Prelude.{Bool, Some, Contains}
-use Rattle.std.specs.List.{AllByRecursion}
-use Rattle.nb_model.specs.Chains.{Chain, Spot, found_pages, first_such, spots_of, spots}
-use Rattle.nb_model.specs.Image.{Image}
+use Rattle.std.proofs.Common.{◌≡◌, ℕ, suc, List, [], ◌∷◌, refl, arith, Bool, Some, Contains}
+use Rattle.nb_model.proofs.Common.{AllByRecursion, Chain, Spot, found_pages, first_such, spots_of, spots, Image}
 use Rattle.nb_model.proofs.RoomLaws.{first_passes}
 use Rattle.nb_model.proofs.SpotLaws.{IsSpotOn, all_on}
 

@@ -1,38 +1,20 @@
 -- The files go on to stand for the account where the file of one name becomes one whose name is free.
-use Rattle.std.proofs.Common.{◌≡◌, ◌≢◌, ◌⊎◌, inl, inr, ℕ, List, [], ◌∷◌, length, take, drop, replicate, refl, sym, ap, subst, ◌∙◌, arith, length-drop, length-take-le}
-use Rattle.std.specs.Prelude.{true, false, ◌&&◌, ◌==◌, Some, None, Result, Ok, Err, IsTrue, is_some, Contains}
-use Rattle.std.proofs.lemmas.Bool.{true≢false, and_parts, or_cases, eqb-true}
-use Rattle.nb_fields.specs.Bytes.{is_zeros}
-use Rattle.nb_fields.specs.Free.{is_unfinished, is_free_file}
-use Rattle.nb_fields.specs.Header.{is_header, state_of, pending_of}
-use Rattle.nb_fields.proofs.HeaderLaws.{is_header-take}
-use Rattle.nb_fields.specs.States.{applying_state}
-use Rattle.nb_host.specs.Files.{File, Files}
-use Rattle.nb_host.specs.Names.{is_delta}
-use Rattle.nb_host.specs.declared.refusals.Refusal.{Refusal}
-use Rattle.nb_model.specs.Account.{Base, Kept, Entry, Missing, Plain, IsBase, Account, with_entry}
-use Rattle.nb_model.specs.Levels.{Contents, begins_level, read_level}
-use Rattle.nb_model.specs.Owner.{delta_name, owner, entry_of_files, entry_in}
-use Rattle.nb_model.specs.Stands.{nil, IsKeptAs, HoldsItsRecord, is_applying, Stands}
+use Rattle.std.proofs.Common.{◌≡◌, ◌≢◌, ◌⊎◌, inl, inr, ℕ, List, [], ◌∷◌, length, take, drop, replicate, refl, sym, ap, subst, ◌∙◌, arith, length-drop, length-take-le, true, false, ◌&&◌, ◌==◌, Some, None, Result, Ok, Err, IsTrue, is_some, Contains}
+use Rattle.nb_model.proofs.Common.{true≢false, and_parts, or_cases, eqb-true, is_zeros, is_unfinished, is_free_file, is_header, state_of, pending_of, is_header-take, applying_state, File, Files, is_delta, Refusal, Base, Kept, Entry, Plain, IsBase, Account, with_entry, Contents, begins_level, read_level, delta_name, owner, entry_of_files, entry_in, nil, IsKeptAs, HoldsItsRecord, is_applying, Stands, err_not_ok}
 use Rattle.nb_model.proofs.HeadSound.{all_zeros}
 use Rattle.nb_model.proofs.HeaderLaws.{header-long, header-other}
 use Rattle.nb_model.proofs.OpeningLaws.{opened_in_use}
 use Rattle.nb_model.proofs.StandsLaws.{not_level, header_no_level, StandsUnder, stands_with_both}
+use Rattle.nb_model.proofs.FrontLaws.{missing_base, plain_base}
 
 -- A file whose name may be taken isn't opened.
 free_closed : (name : List ℕ) (file delta : File) (b : Base) → is_free_file file ≡ true → entry_of_files name file delta ≡ IsBase b → ⊥
 unfolding entry_of_files
-free_closed name None delta b free e = missing e
-  where
-    missing : Missing delta ≡ IsBase b → ⊥
-    missing h = cc
+free_closed name None delta b free e = missing_base delta b e
 free_closed name (Some bytes) delta b free e = by (owner name (Some bytes) delta) refl e
   where
-    not_base : Plain bytes delta ≡ IsBase b → ⊥
-    not_base h = cc
-
     by : (answer : Result Base Refusal) → owner name (Some bytes) delta ≡ answer → elim answer as (λ z. Entry) [ Err refusal ↦ Plain bytes delta | Ok base ↦ IsBase base ] ≡ IsBase b → ⊥
-    by (Err r) is h = not_base h
+    by (Err r) is h = plain_base bytes delta b h
     by (Ok c) is h = true≢false (sym free ∙ opened_in_use name bytes delta c is)
 
 -- Such a file begins with zeros, or a restore was stopped.
@@ -52,12 +34,9 @@ zeros_no_level (b ∷ bs) zeros = let e : b ≡ 0 = eqb-true b 0 (and_parts (b =
 
 pub free_no_level : (bytes : List ℕ) (c : Contents) → is_free_file (Some bytes) ≡ true → read_level bytes ≡ Ok c → ⊥
 free_no_level bytes c free reads = elim (free_cases bytes free) [
-  | inl zeros ↦ ok_err (read_level bytes) reads (not_level bytes (zeros_no_level bytes zeros))
+  | inl zeros ↦ err_not_ok {E = ℕ} 0 c (read_level bytes) (not_level bytes (zeros_no_level bytes zeros)) reads
   | inr unfinished ↦ header_no_level bytes c (and_parts _ _ (and_parts _ _ unfinished).0).0 reads
 ]
-  where
-    ok_err : (x : Result Contents ℕ) → x ≡ Ok c → x ≡ Err 0 → ⊥
-    ok_err x a b = cc
 
 -- where it has a header it is in the applying state, and no merge is pending
 pub free_header : (bytes : List ℕ) → is_free_file (Some bytes) ≡ true → is_header bytes ≡ true → (state_of bytes ≡ applying_state) × (pending_of bytes ≡ nil)

@@ -1,31 +1,8 @@
 -- A new database: its image, and the file that holds it.
-use Rattle.std.proofs.Common.{◌≡◌, ℕ, zero, suc, ◌+◌, ◌-◌, ◌*◌, ◌/◌, ◌<◌, ◌≤◌, List, [], ◌∷◌, ◌++◌, length, drop, map, refl, sym, ap, subst, ◌∙◌, arith, append-nil}
-use Rattle.std.specs.Prelude.{Bool, true, false, IsTrue, not, ◌&&◌, ◌||◌, ◌==◌, nat_le, nat_lt, Some, if◌then◌else◌}
-use Rattle.std.specs.List.{AllByRecursion, flat_map, range_with_len}
-use Rattle.std.proofs.lemmas.Bool.{cond_both}
+use Rattle.std.proofs.Common.{◌≡◌, ℕ, zero, suc, ◌+◌, ◌-◌, ◌*◌, ◌/◌, ◌<◌, ◌≤◌, List, [], ◌∷◌, ◌++◌, length, drop, map, refl, sym, ap, subst, ◌∙◌, arith, append-nil, Bool, true, false, IsTrue, not, ◌&&◌, ◌||◌, ◌==◌, nat_le, nat_lt, Some, if◌then◌else◌}
+use Rattle.nb_model.proofs.Common.{AllByRecursion, flat_map, range_with_len, cond_both, PageKind, Header, Inventory, Data, Raw, ScnInventory, bytes_of, number_of, number_in, padded, is_zeros, code_of, is_page_size, is_system_place, entries_in, bits_in, head_of, page_of, control_block, header_payload, inventory_payload, same_entries, scn_payload, data_payload, text_payload, is_header, is_marked, is_sound, state_of, size_of, scn_of, next_plain, length_after, fresh_count, fresh_kind, fresh_payload, fresh_page, fresh, number_of-bytes_of, SizeFacts, size_facts, is_header-long, length-page_of, fresh_count-most, length-taken_bits, normal_state, put_at, Page, Image, page_at, first_page, image_size, image_state, image_scn, is_forced, is_read_only, joined, HasNoZeros, IsOfSize, HoldsMain}
 use Rattle.std.proofs.lemmas.List.FromFn.{length-map-range_with_len, get_or-map-range_with_len}
-use Rattle.nb_fields.specs.declared.kinds.PageKind.{PageKind}
-use Rattle.nb_fields.specs.declared.kinds.PageKind.TheVariants.{Header, Inventory, Data, Raw, ScnInventory}
-use Rattle.nb_fields.specs.Bytes.{bytes_of, number_of, number_in, padded, is_zeros}
-use Rattle.nb_fields.specs.Kinds.{code_of}
-use Rattle.nb_fields.specs.Places.{is_page_size, is_system_place, entries_in, bits_in}
-use Rattle.nb_fields.specs.Page.{head_of, page_of}
-use Rattle.nb_fields.specs.Payloads.{control_block, header_payload, inventory_payload, same_entries, scn_payload, data_payload, text_payload}
-use Rattle.nb_fields.specs.Header.{is_header, is_marked, is_sound, state_of, size_of, scn_of}
-use Rattle.nb_fields.specs.Fresh.{next_plain, length_after, fresh_count, fresh_kind, fresh_payload, fresh_page, fresh}
-use Rattle.nb_fields.proofs.NumberLaws.{number_of-bytes_of}
-use Rattle.nb_fields.proofs.SizeLaws.{SizeFacts, size_facts}
-use Rattle.nb_fields.proofs.HeaderLaws.{is_header-long}
-use Rattle.nb_fields.proofs.PageLaws.{length-page_of}
-use Rattle.nb_fields.proofs.LengthLaws.{fresh_count-most}
-use Rattle.nb_fields.proofs.FreshLaws.{length-taken_bits}
-use Rattle.nb_fields.specs.States.{normal_state}
-use Rattle.nb_host.specs.Files.{put_at}
-use Rattle.nb_model.specs.Image.{Page, Image, page_at, first_page, image_size, image_state, image_scn, is_forced, is_read_only}
-use Rattle.nb_model.specs.Levels.{joined}
-use Rattle.nb_model.specs.Sound.{HasNoZeros, IsOfSize}
-use Rattle.nb_model.specs.Main.{HoldsMain}
-use Rattle.nb_model.proofs.ImageLaws.{joined-flat_map, trimmed-no_zeros}
+use Rattle.nb_model.proofs.ImageLaws.{joined-flat_map, trimmed-no_zeros, first_and_rest}
 use Rattle.nb_model.proofs.MainLaws.{IsLaid, main_laid}
 use Rattle.nb_model.proofs.PutLaws.{put-first}
 use Rattle.nb_model.proofs.SoundLaws.{page_no_zeros}
@@ -76,7 +53,7 @@ length-fresh_page size raw p is =
     length-page_of size (code_of (fresh_kind size p)) 1 1 p (fresh_payload size raw p (fresh_kind size p)) (payload-fits size raw p (fresh_kind size p) wide)
 
 -- no page is all zeros
-code-other : (kind : PageKind) → (code_of kind == 0) ≡ false
+pub code-other : (kind : PageKind) → (code_of kind == 0) ≡ false
 code-other Header = refl
 code-other Inventory = refl
 code-other Data = refl
@@ -183,11 +160,7 @@ fresh_main size raw is few =
 pub fresh_rebuilt : (size raw : ℕ) (old : Page) → IsTrue (is_page_size size) → length old ≡ size
     → put_at (flat_map (λ p. p) (old ∷ drop 1 (fresh size raw))) 0 (fresh_page size raw 0) ≡ flat_map (λ p. p) (fresh size raw)
 fresh_rebuilt size raw old is long =
-    let first : fresh size raw ≡ fresh_page size raw 0 ∷ drop 1 (fresh size raw) = split (fresh size raw) (omega (arith, fresh_length size raw, fresh_count-least size raw)) ∙ ap (λ (p : Page). p ∷ drop 1 (fresh size raw)) (fresh_first size raw) in
+    let first : fresh size raw ≡ fresh_page size raw 0 ∷ drop 1 (fresh size raw) = first_and_rest (fresh size raw) (omega (arith, fresh_length size raw, fresh_count-least size raw)) ∙ ap (λ (p : Page). p ∷ drop 1 (fresh size raw)) (fresh_first size raw) in
     let sizes : IsOfSize size (fresh_page size raw 0 ∷ drop 1 (fresh size raw)) = subst (λ (x : Image). IsOfSize size x) first (fresh_sizes size raw is) in
     ap (λ (x : List ℕ). put_at x 0 (fresh_page size raw 0)) (sym (joined-flat_map (old ∷ drop 1 (fresh size raw))))
     ∙ put-first size old (fresh_page size raw 0) (drop 1 (fresh size raw)) (long, sizes.1) sizes.0 ∙ joined-flat_map (fresh_page size raw 0 ∷ drop 1 (fresh size raw)) ∙ ap (λ (x : Image). flat_map (λ p. p) x) (sym first)
-  where
-    split : (ps : Image) → 1 ≤ length ps → ps ≡ first_page ps ∷ drop 1 ps
-    split [] h = absurd (omega arith)
-    split (p ∷ ps) h = refl

@@ -1,23 +1,6 @@
 -- A new database is neat: its catalogue and its history are a page each, without a used slot.
-use Rattle.std.proofs.Common.{◌≡◌, ℕ, zero, suc, ◌+◌, ◌-◌, ◌/◌, ◌%◌, ◌<◌, ◌≤◌, List, [], ◌∷◌, ◌++◌, length, drop, replicate, refl, sym, ap, subst, ◌∙◌, arith}
-use Rattle.std.specs.Prelude.{Bool, true, false, ◌||◌, ◌==◌, nat_lt, IsTrue, if◌then◌else◌, Ok}
-use Rattle.std.specs.List.{AllByRecursion}
-use Rattle.std.proofs.Math.Nat.{mod-eq_of_lt}
-use Rattle.std.proofs.lemmas.Bool.{cond-true, cond-false, ne_eqb, eq-eqb, lt-ltb, and_right}
-use Rattle.std.proofs.lemmas.List.{append-nil}
-use Rattle.nb_fields.specs.declared.kinds.PageKind.{PageKind}
-use Rattle.nb_fields.specs.declared.kinds.PageKind.TheVariants.{Data}
-use Rattle.nb_fields.specs.Bytes.{bytes_of, number_of, number_in, padded, is_zeros}
-use Rattle.nb_fields.specs.Fresh.{fresh_kind, fresh_payload, fresh_page, fresh}
-use Rattle.nb_fields.specs.Kinds.{code_of, data_kind}
-use Rattle.nb_fields.specs.Page.{head_of, page_of, kind_of}
-use Rattle.nb_fields.specs.Payloads.{data_payload, bit_of}
-use Rattle.nb_fields.specs.Places.{is_page_size, entries_in, bits_in, inventory_place, is_inventory_place, is_scn_place}
-use Rattle.nb_fields.proofs.PlaceLaws.{entries-least, bits-least}
-use Rattle.nb_model.specs.Chains.{Chain, Catalogue, History, Spot, first_of, owner_of, owner_in, next_in, is_slot, slots_in, walk, pages_of, found_pages, spots_on, spots_of, spots}
-use Rattle.nb_model.specs.Forms.{is_free_page}
-use Rattle.nb_model.specs.Image.{Page, Image, page_at}
-use Rattle.nb_model.specs.Rows.{used, table_chains, chains, pages_of_all, AreDistinct, names_of, IsNeat}
+use Rattle.std.proofs.Common.{◌≡◌, ℕ, zero, suc, ◌+◌, ◌-◌, ◌/◌, ◌%◌, ◌<◌, ◌≤◌, List, [], ◌∷◌, ◌++◌, length, drop, replicate, refl, sym, ap, subst, ◌∙◌, arith, Bool, true, false, ◌==◌, nat_lt, IsTrue, if◌then◌else◌, Ok}
+use Rattle.nb_model.proofs.Common.{AllByRecursion, mod-eq_of_lt, cond-true, cond-false, ne_eqb, eq-eqb, lt-ltb, and_right, append-nil, PageKind, Data, bytes_of, number_of, number_in, padded, is_zeros, fresh_kind, fresh_payload, fresh_page, fresh, code_of, data_kind, head_of, page_of, kind_of, data_payload, bit_of, is_page_size, entries_in, bits_in, inventory_place, is_inventory_place, is_scn_place, entries-least, bits-least, Chain, Catalogue, History, Spot, first_of, owner_of, owner_in, next_in, is_slot, slots_in, walk, pages_of, found_pages, spots_on, spots_of, spots, is_free_page, Page, Image, page_at, used, table_chains, chains, pages_of_all, AreDistinct, names_of, IsNeat, or_from}
 use Rattle.nb_model.proofs.ChainWalks.{HasForm, there_by, walk_on_is, onward, found_is, spots_are}
 use Rattle.nb_model.proofs.FreshImageLaws.{fresh_count-least, fresh_length}
 use Rattle.nb_model.proofs.FreshSound.{fresh_rest, shows, fresh_at, size_is}
@@ -26,9 +9,6 @@ use Rattle.nb_model.proofs.NewSlots.{IsFree, free_is_unused, free_fits, zero_fre
 use Rattle.nb_model.proofs.NewSound.{inventory_before}
 use Rattle.nb_model.proofs.SlotPuts.{each_list}
 use Rattle.nb_model.proofs.SpotKeys.{keys_in}
-
-or_none : (a b : Bool) → a ≡ false → b ≡ false → (a || b) ≡ false
-or_none a b e f = rw (e, f) refl
 
 -- what such a page holds
 its_next : (size p owner : ℕ) → next_in (page_of size 5 1 1 p (data_payload 0 owner [])) ≡ 0
@@ -51,7 +31,7 @@ kind_of_data size p is some inventory scn low = cond-false (p == 0) _ _ some ∙
 
 no_inventory : (size p : ℕ) → IsTrue (is_page_size size) → 2 ≤ p → p ≤ 4 → is_inventory_place size p ≡ false
 unfolding is_inventory_place
-no_inventory size p is two most = let least = bits-least size is in or_none (p == 1) ((p + 1) % bits_in size == 0) (ne_eqb p 1 (λ e. absurd (omega (arith, e, two)))) (ne_eqb ((p + 1) % bits_in size) 0 (λ e. absurd (omega (arith, e, least, most))))
+no_inventory size p is two most = let least = bits-least size is in or_from (p == 1) ((p + 1) % bits_in size == 0) (ne_eqb p 1 (λ e. absurd (omega (arith, e, two)))) (ne_eqb ((p + 1) % bits_in size) 0 (λ e. absurd (omega (arith, e, least, most))))
 
 no_scn_page : (size p : ℕ) → IsTrue (is_page_size size) → 3 ≤ p → p ≤ 4 → is_scn_place size p ≡ false
 unfolding is_scn_place
@@ -59,7 +39,7 @@ no_scn_page size p is three most =
     let least = entries-least size is in
     let small : p < entries_in size = omega (arith, least, most) in
     let same : p % entries_in size ≡ p = mod-eq_of_lt small in
-    or_none (p == 2) _ (ne_eqb p 2 (λ e. absurd (omega (arith, e, three)))) (and_right (nat_lt 0 p) (p % entries_in size == 0) (ne_eqb (p % entries_in size) 0 (λ e. absurd (omega (arith, e, same, three)))))
+    or_from (p == 2) _ (ne_eqb p 2 (λ e. absurd (omega (arith, e, three)))) (and_right (nat_lt 0 p) (p % entries_in size == 0) (ne_eqb (p % entries_in size) 0 (λ e. absurd (omega (arith, e, same, three)))))
 
 module _ (size raw : ℕ) (is : IsTrue (is_page_size size)) (few : raw ≤ 65535) where
   abbrev x : Image

@@ -1,27 +1,6 @@
 -- A new database is sound, and names no backup.
-use Rattle.std.proofs.Common.{◌≡◌, inl, inr, ℕ, zero, suc, ◌+◌, ◌-◌, ◌*◌, ◌/◌, ◌%◌, ◌<◌, ◌≤◌, List, [], length, take, drop, replicate, refl, sym, ap, subst, ◌∙◌, arith}
-use Rattle.std.specs.Prelude.{true, false, ◌==◌, IsTrue, if◌then◌else◌, slice_index}
-use Rattle.std.specs.List.{AllByRecursion}
-use Rattle.std.proofs.lemmas.Bool.{true≢false, cond-true, cond-false, ne_eqb, eq-eqb, eqb-true, and_parts, cases_lt}
-use Rattle.std.proofs.lemmas.List.{drop-drop, drop-replicate}
-use Rattle.nb_fields.specs.declared.kinds.PageKind.{PageKind}
-use Rattle.nb_fields.specs.declared.kinds.PageKind.TheVariants.{Header, Inventory, Data, Raw, ScnInventory}
-use Rattle.nb_fields.specs.Bytes.{bytes_of, padded, part}
-use Rattle.nb_fields.specs.Header.{guid_of}
-use Rattle.nb_fields.specs.Kinds.{code_of, data_kind}
-use Rattle.nb_fields.specs.Places.{is_page_size, entries_in, bits_in, inventory_place, scn_place, is_inventory_place, is_scn_place}
-use Rattle.nb_fields.specs.Page.{head_of, page_of, kind_of}
-use Rattle.nb_fields.specs.Payloads.{control_block, header_payload, inventory_payload, scn_payload, data_payload, bit_of, entry_of}
-use Rattle.nb_fields.specs.Fresh.{fresh_count, fresh_kind, fresh_payload, fresh_page, fresh, ShowsFresh}
-use Rattle.nb_fields.proofs.LengthLaws.{fresh_count-most}
-use Rattle.nb_fields.proofs.FreshLaws.{fresh_shows, length-taken_bits}
-use Rattle.nb_fields.proofs.PlaceLaws.{fresh_kind-scn}
-use Rattle.nb_model.specs.Image.{Page, page_at, image_size, image_guid}
-use Rattle.nb_model.specs.Account.{Kept}
-use Rattle.nb_model.specs.Chains.{Slot, is_used, slots_from, slots_in}
-use Rattle.nb_model.specs.Stands.{GoesOn, IsRemembered, NamesItsPast, is_history_page}
-use Rattle.nb_model.specs.Forms.{scn_page_of, scn_entry, is_free_page}
-use Rattle.nb_model.specs.Sound.{IsOfSize, HasSystemPages, HasBitsBelow, HasEntries, HasStamps, IsSoundImage}
+use Rattle.std.proofs.Common.{◌≡◌, inl, inr, ℕ, zero, suc, ◌+◌, ◌-◌, ◌*◌, ◌/◌, ◌%◌, ◌<◌, ◌≤◌, List, [], length, take, drop, replicate, refl, sym, ap, subst, ◌∙◌, arith, true, false, ◌==◌, IsTrue, if◌then◌else◌, slice_index}
+use Rattle.nb_model.proofs.Common.{AllByRecursion, true≢false, cond-true, cond-false, ne_eqb, eq-eqb, eqb-true, and_parts, cases_lt, drop-drop, drop-replicate, PageKind, Header, Inventory, Data, Raw, ScnInventory, bytes_of, padded, part, guid_of, code_of, data_kind, is_page_size, entries_in, bits_in, inventory_place, scn_place, is_inventory_place, is_scn_place, head_of, page_of, kind_of, control_block, header_payload, inventory_payload, scn_payload, data_payload, bit_of, entry_of, fresh_count, fresh_kind, fresh_payload, fresh_page, fresh, ShowsFresh, fresh_count-most, fresh_shows, length-taken_bits, fresh_kind-scn, Page, page_at, image_size, image_guid, Kept, Slot, is_used, slots_from, slots_in, GoesOn, IsRemembered, NamesItsPast, is_history_page, scn_page_of, scn_entry, is_free_page, IsOfSize, HasSystemPages, HasBitsBelow, HasEntries, HasStamps, IsSoundImage}
 use Rattle.nb_model.proofs.FreshImageLaws.{length-same_entries, fresh_count-least, fresh_length, fresh_page_at, fresh_first, fresh_size, fresh_scn, fresh_no_zeros, fresh_sizes}
 use Rattle.nb_model.proofs.SoundLaws.{inventory_behind, scn_place_of, scn_place_before}
 
@@ -43,7 +22,7 @@ unfolding scn_payload bytes_of
 scn_length size k scn = let h = length-same_entries scn (entries_in size) in omega arith
 
 -- no backup is named
-header_guid : (size raw : ℕ) → guid_of (fresh_page size raw 0) ≡ replicate 16 0
+pub header_guid : (size raw : ℕ) → guid_of (fresh_page size raw 0) ≡ replicate 16 0
 unfolding fresh_page fresh_kind fresh_payload page_of head_of padded header_payload control_block bytes_of
 header_guid size raw = refl
 

@@ -1,13 +1,6 @@
 -- The runs into which pages are gathered are of the form, and hold the pages.
-use Rattle.std.proofs.Common.{◌≡◌, ◌≢◌, ◌⊎◌, inl, inr, ℕ, zero, suc, ◌+◌, ◌*◌, ◌<◌, ◌≤◌, List, [], ◌∷◌, ◌++◌, length, refl, sym, ap, subst, ◌∙◌, arith, length-append, append_assoc, add-zero}
-use Rattle.std.specs.Prelude.{true, false, ◌&&◌, ◌==◌, nat_lt, Ok}
-use Rattle.std.specs.List.{AllByRecursion}
-use Rattle.std.proofs.lemmas.Bool.Decides.{eqb_tells, leb_tells}
-use Rattle.std.proofs.lemmas.List.{get_or_append_left}
-use Rattle.nb_fields.specs.Bytes.{bytes_of}
-use Rattle.nb_fields.specs.Places.{most_pages}
-use Rattle.nb_model.specs.Image.{Page, Numbered}
-use Rattle.nb_model.specs.Levels.{Head, Stretch, AreRising, AreOfSize, runs_behind, run_bytes, end_bytes, joined, numbered_from, barred_after, is_first_page, read_runs}
+use Rattle.std.proofs.Common.{◌≡◌, ◌≢◌, ◌⊎◌, inl, inr, ℕ, zero, suc, ◌+◌, ◌*◌, ◌<◌, ◌≤◌, List, [], ◌∷◌, ◌++◌, length, refl, sym, ap, subst, ◌∙◌, arith, length-append, append_assoc, add-zero, true, false, ◌&&◌, ◌==◌, nat_lt, Ok}
+use Rattle.nb_model.proofs.Common.{AllByRecursion, eqb_tells, leb_tells, get_or_append_left, bytes_of, most_pages, Page, Numbered, Head, Stretch, AreRising, AreOfSize, runs_behind, run_bytes, end_bytes, joined, numbered_from, barred_after, is_first_page, read_runs}
 use Rattle.nb_model.proofs.ReadLaws.{IsRun, run_read, runs_end}
 
 -- runs of the form

@@ -1,31 +1,8 @@
 -- What holds between two turns holds after each turn.
-use Rattle.std.proofs.Common.{◌≡◌, ◌≢◌, inl, inr, ◌⊎◌, ℕ, zero, suc, ◌+◌, ◌-◌, ◌<◌, ◌≤◌, List, [], ◌∷◌, ◌++◌, length, map, drop, replicate, get_or, set, refl, sym, ap, subst, ◌∙◌, arith, append_assoc}
-use Rattle.std.specs.Prelude.{Bool, Option, Some, None, true, false, ◌==◌, ◌&&◌}
-use Rattle.std.specs.List.{AllByRecursion, slice_index_or}
+use Rattle.std.proofs.Common.{◌≡◌, ◌≢◌, inl, inr, ◌⊎◌, ℕ, zero, suc, ◌+◌, ◌-◌, ◌<◌, ◌≤◌, List, [], ◌∷◌, ◌++◌, length, map, drop, replicate, get_or, set, refl, sym, ap, subst, ◌∙◌, arith, append_assoc, Bool, Option, Some, None, true, false, ◌==◌, ◌&&◌}
+use Rattle.nb_model.proofs.Common.{AllByRecursion, slice_index_or, true≢false, eqb-true, eqb-false, leb-true, eqb_tells, leb_tells, get_or_past, get_or-set_same, get_or-set_other, is_header, scn_of, guid_of, normal_state, stalled_state, merge_state, is_name, Refusal, HasItsEntry, Reply, Statement, Base, Account, Ask, room_in, close_backup, close_copy, is_free_entry, runs_other, broken_at, not_of_form, short_for, History, pages_of, spots, free_spot, AreBeginnings, AreMerging, IsNamed, AreNamed, HasRoom, Runs, IsAt, waits, backs_up, copies, merges, IsGoing, IsMaking, Page, Image, first_page, image_size, image_state, image_scn, image_guid, trimmed, Turn, Begins, Copies, ClosesBackup, ClosesCopy, Ends, Merges, Finishes, Backing, Seen, Outcome, Given, next_guid, passes, ends_by, end_strokes, Now, Played, base_now, account_after, outcome, stands_then, take_turn, one_turn, play, event_of, begun, files_made, HasHeader, IsSoundImage, Stroke, begin, ends, finish, on_base, base_after, with_control, first_turn, turn, is_on_pages, some_same, nil_cons, none_some}
 use Rattle.std.proofs.Math.ListN.{get_or-map}
-use Rattle.std.proofs.lemmas.Bool.{true≢false, eqb-true, eqb-false, leb-true}
-use Rattle.std.proofs.lemmas.Bool.Decides.{eqb_tells, leb_tells}
-use Rattle.std.proofs.lemmas.List.{get_or_past, get_or-set_same, get_or-set_other}
-use Rattle.nb_fields.specs.Header.{is_header, scn_of, guid_of}
-use Rattle.nb_fields.specs.States.{normal_state, stalled_state, merge_state}
-use Rattle.nb_host.specs.Names.{is_name}
-use Rattle.nb_host.specs.declared.refusals.Refusal.{Refusal}
-use Rattle.nb_model.specs.Forms.{HasItsEntry}
-use Rattle.nb_model.specs.declared.reply.Reply.{Reply}
-use Rattle.nb_model.specs.declared.statement.Statement.{Statement}
-use Rattle.nb_model.specs.Account.{Base, Account, Ask}
-use Rattle.nb_model.specs.Backups.{room_in, close_backup, close_copy}
-use Rattle.nb_model.specs.Causes.{is_free_entry, runs_other, broken_at, not_of_form, short_for}
-use Rattle.nb_model.specs.Chains.{History, pages_of, spots, free_spot}
-use Rattle.nb_model.specs.Going.{AreBeginnings, AreMerging, IsNamed, AreNamed, HasRoom, Runs, IsAt, waits, backs_up, copies, ends as ending, merges, IsGoing, IsMaking}
-use Rattle.nb_model.specs.Image.{Page, Image, first_page, image_size, image_state, image_scn, image_guid, trimmed}
-use Rattle.nb_model.specs.Outcomes.{Turn, Begins, Copies, ClosesBackup, ClosesCopy, Ends, Merges, Finishes, Backing, Seen, Outcome, Given, next_guid, passes}
-use Rattle.nb_model.specs.Pages.{ends_by, end_strokes}
-use Rattle.nb_model.specs.Run.{Now, Played, base_now, account_after, outcome, stands_then, take_turn, one_turn, play, event_of, begun, files_made}
-use Rattle.nb_model.specs.Sound.{HasHeader, IsSoundImage}
-use Rattle.nb_model.specs.Strokes.{Stroke, begin, ends, finish, on_base, base_after, with_control}
-use Rattle.nb_model.specs.Turns.{first_turn, turn}
-use Rattle.nb_model.specs.Well.{is_on_pages}
+use Rattle.nb_model.specs.Going.{ends as ending}
 use Rattle.nb_model.proofs.ControlMay.{may_begin, may_end, may_finish}
 use Rattle.nb_model.proofs.ControlSound.{MayControl, state_then, header_then}
 use Rattle.nb_model.proofs.EntryStays.{entry_stays}
@@ -57,9 +34,6 @@ next_sixteen given all = by given.guids all
 rest_sixteen : (guids : List (List ℕ)) → AreSixteen guids → AreSixteen (drop 1 guids)
 rest_sixteen [] h = h
 rest_sixteen (g ∷ gs) h = h.1
-
-some_same : (m n : ℕ) → Some m ≡ Some n → m ≡ n
-some_same m n e = cc
 
 -- one session at most runs
 pub one_runs : (now : Now) (place other m n : ℕ) → Runs now place m → Runs now other n → place ≡ other
@@ -135,7 +109,7 @@ pub record IsStep (sound : Bool) (now : Now) (session : ℕ) (o : Outcome) (rest
   pub own : IsAt sound (stands_then session rest o now) (session - 1) (o.next ++ rest)
   pub others : (other number : ℕ) → other ≢ session - 1 → 1 ≤ number → Runs now other number → OthersStay sound now o
 
-merge_turns : (n : ℕ) (reply : Reply) (rest : List Turn) → AreBeginnings rest → AreMerging ((replicate n Merges ++ Finishes reply ∷ []) ++ rest)
+pub merge_turns : (n : ℕ) (reply : Reply) (rest : List Turn) → AreBeginnings rest → AreMerging ((replicate n Merges ++ Finishes reply ∷ []) ++ rest)
 merge_turns zero reply rest all = all
 merge_turns (suc n) reply rest all = merge_turns n reply rest all
 
@@ -143,7 +117,7 @@ begun_frozen : (b : Base) (guid : List ℕ) (ask : Option Ask) → (base_after b
 unfolding base_after on_base
 begun_frozen b guid ask = refl
 
-no_more : (b : Base) → base_after b [] ≡ b
+pub no_more : (b : Base) → base_after b [] ≡ b
 unfolding base_after
 no_more b = refl
 
@@ -325,9 +299,6 @@ module _ {sound : Bool} (session : ℕ) (now : Now) (going : IsGoing sound now) 
       (runs_then session rest (copied s session name) now (session - 1) session 1 refl refl (ap (λ (x : Base). image_state x.image) (no_more b) ∙ may.stalled))
       (free_then session rest (copied s session name) now going refl name may.free))
       (λ other number off runs. absurd (none_some runs.by (sym may.alone ∙ runs.running)))
-    where
-      none_some : (by : ℕ) → None ≡ Some by → ⊥
-      none_some by e = cc
 
   pub first_step : (rest : List Turn) → AreBeginnings rest → (statement : Statement) → IsNamed (Begins statement) → IsStep sound now session (first_turn s session statement) rest
   unfolding first_turn
@@ -468,12 +439,9 @@ module _ {sound : Bool} (session : ℕ) (now : Now) (going : IsGoing sound now) 
 module _ (session : ℕ) (now : Now) (u : Turn) (rest : List Turn) (is : get_or now.todo (session - 1) [] ≡ u ∷ rest) (o : Outcome) where
   inside : session - 1 < length now.todo
   inside = elim (leb_tells (length now.todo) (session - 1)) [
-    | inl low ↦ absurd (none_some (sym (get_or_past now.todo (session - 1) [] low.1) ∙ is))
+    | inl low ↦ absurd (nil_cons u rest (sym (get_or_past now.todo (session - 1) [] low.1) ∙ is))
     | inr low ↦ omega (arith, low.1)
   ]
-    where
-      none_some : [] ≡ u ∷ rest → ⊥
-      none_some e = absurd (let long = ap length e in omega arith)
 
   pub own_todo : get_or (stands_then session rest o now).todo (session - 1) [] ≡ o.next ++ rest
   own_todo = ap (λ (todo : List (List Turn)). get_or todo (session - 1) []) (then_todo session rest o now) ∙ get_or-set_same now.todo (session - 1) (o.next ++ rest) [] inside

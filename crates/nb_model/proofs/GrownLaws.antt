@@ -1,20 +1,7 @@
 -- The files stand for the account with the records of all backups that have begun along steps, where their GUIDs are new.
-use Rattle.std.proofs.Common.{◌≡◌, ◌≢◌, ⊎_elim, ℕ, zero, suc, List, [], ◌∷◌, ◌++◌, refl, sym, ap, subst, ◌∙◌, arith}
-use Rattle.std.specs.Prelude.{Some, Option, false, Contains}
-use Rattle.std.proofs.lemmas.List.{append-nil}
-use Rattle.std.proofs.lemmas.List.Elements.{Contains-append_cases}
-use Rattle.nb_host.specs.Files.{Files}
-use Rattle.nb_host.specs.Names.{is_delta}
-use Rattle.nb_host.specs.World.{World}
+use Rattle.std.proofs.Common.{◌≡◌, ◌≢◌, ⊎_elim, ℕ, zero, suc, List, [], ◌∷◌, ◌++◌, refl, sym, ap, subst, ◌∙◌, arith, Some, Option, false, Contains}
+use Rattle.nb_model.proofs.Common.{append-nil, Contains-append_cases, Files, is_delta, World, Ask, Kept, Base, Account, IsUnnamed, ComeOnce, AreNew, guids_in, IsSoundImage, Stands, NamesItsPast, nil, Step, makes, settles, after_step, strokes_in, Stroke, make, page, begin, ends, finish, fix, merge, on_base, records_of, Trail, settled, after_stroke, IsWellTrail}
 use Rattle.nb_host.specs.Crash.{LeavesAll, Leaves}
-use Rattle.nb_model.specs.Account.{Ask, Kept, Base, Account}
-use Rattle.nb_model.specs.NewGuids.{IsUnnamed, ComeOnce, AreNew, guids_in}
-use Rattle.nb_model.specs.Sound.{IsSoundImage}
-use Rattle.nb_model.specs.Stands.{Stands, NamesItsPast, nil}
-use Rattle.nb_model.specs.Steps.{Step, makes, settles, after_step, strokes_in}
-use Rattle.nb_model.specs.Strokes.{Stroke, make, page, begin, ends, finish, fix, merge, on_base, records_of}
-use Rattle.nb_model.specs.Trail.{Trail, settled, after_stroke}
-use Rattle.nb_model.specs.WellTrail.{IsWellTrail}
 use Rattle.nb_model.proofs.TrailLaws.{trail_base}
 use Rattle.nb_model.proofs.RecordLaws.{IsFresh, with_record, stands_with_record}
 use Rattle.nb_model.proofs.SteadyLaws.{WellAlong, record_of, kept_along, along_first}

@@ -1,24 +1,6 @@
 -- A row is inserted where its chain has no free slot: a new page holds it, and the row is there once the chain leads to that page.
-use Rattle.std.proofs.Common.{◌≡◌, ◌≢◌, ◌⊎◌, inl, inr, ⊎_elim, ℕ, suc, ◌+◌, ◌/◌, ◌<◌, ◌≤◌, List, [], ◌∷◌, ◌++◌, length, drop, refl, sym, ap, subst, ◌∙◌, arith, append_assoc}
-use Rattle.std.specs.Prelude.{true, false, None, Ok, Contains}
-use Rattle.std.specs.List.{AllByRecursion, list_all}
-use Rattle.std.proofs.lemmas.Bool.Decides.{eqb_tells}
-use Rattle.std.proofs.lemmas.List.{append-nil}
-use Rattle.nb_fields.specs.Bytes.{bytes_of, with_part}
-use Rattle.nb_fields.specs.Page.{kind_of, stamped}
-use Rattle.nb_fields.specs.Payloads.{data_payload}
-use Rattle.nb_fields.specs.Places.{bits_in, is_inventory_place, is_scn_place, is_system_place, most_pages}
-use Rattle.nb_fields.proofs.SizeLaws.{SizeFacts, size_facts}
-use Rattle.nb_fields.specs.Kinds.{data_kind}
-use Rattle.nb_model.specs.Account.{Base}
-use Rattle.nb_model.specs.Causes.{broken_at}
-use Rattle.nb_model.specs.Chains.{Chain, Slot, Spot, first_of, owner_of, owner_in, next_in, is_slot, is_used, first_in, slots_in, pages_of, found_pages, spots_on, spots_of, spots, row_spot, row_slot, last_of, grown}
-use Rattle.nb_model.specs.Forms.{Draft, drafted, old_page, put, raised, is_free_page, new_page}
-use Rattle.nb_model.specs.Image.{Page, Image, page_at, image_size, image_scn}
-use Rattle.nb_model.specs.RowChanges.{GivesRows}
-use Rattle.nb_model.specs.Rows.{RowMap, with_row, rows_in, rows, chains, AreDistinct, IsNeat}
-use Rattle.nb_model.specs.Sound.{HasHeader, IsSoundImage}
-use Rattle.nb_model.specs.Strokes.{base_after}
+use Rattle.std.proofs.Common.{◌≡◌, ◌≢◌, ◌⊎◌, inl, inr, ⊎_elim, ℕ, suc, ◌+◌, ◌/◌, ◌<◌, ◌≤◌, List, [], ◌∷◌, ◌++◌, length, drop, refl, sym, ap, subst, ◌∙◌, arith, append_assoc, true, false, None, Ok, Contains}
+use Rattle.nb_model.proofs.Common.{AllByRecursion, list_all, eqb_tells, append-nil, bytes_of, with_part, kind_of, stamped, data_payload, bits_in, is_inventory_place, is_scn_place, is_system_place, most_pages, SizeFacts, size_facts, data_kind, Base, broken_at, Chain, Slot, Spot, first_of, owner_of, owner_in, next_in, is_slot, is_used, first_in, slots_in, pages_of, found_pages, spots_on, spots_of, spots, row_spot, row_slot, last_of, grown, Draft, drafted, old_page, put, raised, is_free_page, new_page, Page, Image, page_at, image_size, image_scn, GivesRows, RowMap, with_row, rows_in, rows, chains, AreDistinct, IsNeat, HasHeader, IsSoundImage, base_after, all_go, all_both}
 use Rattle.nb_model.proofs.Along.{Along, along_append, along_more, put_along}
 use Rattle.nb_model.proofs.ChainGrows.{fewer_below, walk_grows}
 use Rattle.nb_model.proofs.ChainWalks.{HasForm, form_there, there_by, StaysLinked, linked_same, pages_stay, found_is, spots_same, spots_are}
@@ -29,7 +11,7 @@ use Rattle.nb_model.proofs.HeldChains.{KeepsEach, KeepsBut, IsHeldIn, IsFormed, 
 use Rattle.nb_model.proofs.HeldLaws.{IsHeld, IsMade, held_put, new_is_made}
 use Rattle.nb_model.proofs.HeldRoom.{held_here}
 use Rattle.nb_model.proofs.NeatGrows.{GrowsChain, grown_table, grown_neat, grown_others}
-use Rattle.nb_model.proofs.NeatLaws.{all_go, all_both, once_chain, chain_apart, rows_of_some}
+use Rattle.nb_model.proofs.NeatLaws.{once_chain, chain_apart, rows_of_some}
 use Rattle.nb_model.proofs.NewSlots.{IsFree, free_is_unused, free_fits, new_next, BeginsWith, one_used, data_long}
 use Rattle.nb_model.proofs.NewSound.{new_fits, stamped_kind}
 use Rattle.nb_model.proofs.PutSound.{IsPlain, Raises, header_whole, old_length}
@@ -53,7 +35,7 @@ last_held (p ∷ []) some = (0, omega arith, refl)
 last_held (p ∷ q ∷ qs) some = let rest = last_held (q ∷ qs) (omega arith) in (suc rest.0, omega (arith, rest.1), rest.2)
 
 -- the slots of pages after others
-spots_both : (x : Image) (ps qs : List ℕ) → spots_of x (ps ++ qs) ≡ spots_of x ps ++ spots_of x qs
+pub spots_both : (x : Image) (ps qs : List ℕ) → spots_of x (ps ++ qs) ≡ spots_of x ps ++ spots_of x qs
 unfolding spots_of
 spots_both x [] qs = refl
 spots_both x (p ∷ ps) qs = ap (λ (us : List Spot). spots_on p 0 (slots_in (page_at x p)) ++ us) (spots_both x ps qs) ∙ sym (append_assoc (spots_on p 0 (slots_in (page_at x p))) (spots_of x ps) (spots_of x qs))

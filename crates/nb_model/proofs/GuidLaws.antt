@@ -1,15 +1,6 @@
 -- The GUIDs of the backups that begin in a part of a run are among those of all of it.
-use Rattle.std.proofs.Common.{◌≡◌, ℕ, List, [], ◌∷◌, ◌++◌, take, drop, refl, sym, ap, subst, ◌∙◌, take-append-drop}
-use Rattle.std.specs.Prelude.{true, false, Bool}
-use Rattle.std.proofs.lemmas.List.{append-nil}
-use Rattle.std.proofs.lemmas.List.Elements.{Contains-append_left, Contains-append_right}
-use Rattle.nb_host.specs.World.{World}
-use Rattle.nb_model.specs.Account.{Kept, Base}
-use Rattle.nb_model.specs.NewGuids.{ComeOnce, AreNew, guids_in}
-use Rattle.nb_model.specs.Run.{Event, strokes_of}
-use Rattle.nb_model.specs.Steps.{Step, makes, settles, after_step, after_steps, made, strokes_in, steps_in, steps_of}
-use Rattle.nb_model.specs.Strokes.{Stroke, begin, base_after}
-use Rattle.nb_model.specs.Trail.{Trail, settled, after_stroke}
+use Rattle.std.proofs.Common.{◌≡◌, ℕ, List, [], ◌∷◌, ◌++◌, take, drop, refl, sym, ap, subst, ◌∙◌, take-append-drop, true, false, Bool}
+use Rattle.nb_model.proofs.Common.{append-nil, Contains-append_left, Contains-append_right, World, Kept, Base, ComeOnce, AreNew, guids_in, Event, strokes_of, Step, makes, settles, after_step, after_steps, made, strokes_in, steps_in, steps_of, Stroke, begin, base_after, Trail, settled, after_stroke}
 use Rattle.nb_model.proofs.TrailLaws.{trail_base}
 
 pub guids_append : (xs ys : List Stroke) → guids_in (xs ++ ys) ≡ guids_in xs ++ guids_in ys

@@ -1,22 +1,7 @@
 -- A write of page 0 fits: its first 64 bytes stay.
-use Rattle.std.proofs.Common.{◌≡◌, ◌≢◌, ℕ, zero, suc, ◌+◌, ◌-◌, ◌<◌, ◌≤◌, ◌/◌, List, [], ◌∷◌, length, take, drop, replicate, refl, sym, ap, ◌∙◌, arith, length-append, length-drop}
-use Rattle.std.specs.Prelude.{true, false, ◌==◌}
-use Rattle.std.proofs.lemmas.Bool.{true≢false, and_parts, eqb-true, false_from_ne_true}
-use Rattle.std.proofs.lemmas.List.{take_at, length-take-le, drop-replicate}
-use Rattle.nb_fields.specs.Bytes.{number_of, number_in, with_part, is_zeros}
-use Rattle.nb_fields.specs.Header.{is_header}
-use Rattle.nb_fields.specs.Places.{entries_in, bits_in}
-use Rattle.nb_fields.specs.Page.{kind_of}
-use Rattle.nb_fields.proofs.PartLaws.{number_in-take, length-with_part}
-use Rattle.nb_fields.proofs.SizeLaws.{SizeFacts, size_facts}
-use Rattle.nb_fields.specs.Kinds.{header_kind}
-use Rattle.nb_model.specs.Image.{Page, Image, first_page, image_size}
-use Rattle.nb_model.specs.Account.{Base}
-use Rattle.nb_model.specs.Strokes.{merged_page}
-use Rattle.nb_model.specs.Forms.{has_entry}
-use Rattle.nb_model.specs.Pages.{byte_strokes}
-use Rattle.nb_model.specs.Sound.{IsSoundImage, HasHeader}
-use Rattle.nb_model.proofs.SoundLaws.{all_at, inventory_behind, inventory_place_some, scn_page_behind, scn_place_some, HasFields, FitsAt, kind_of_header}
+use Rattle.std.proofs.Common.{◌≡◌, ◌≢◌, ℕ, zero, suc, ◌+◌, ◌-◌, ◌<◌, ◌≤◌, ◌/◌, List, [], ◌∷◌, length, take, drop, replicate, refl, sym, ap, ◌∙◌, arith, length-append, length-drop, true, false, ◌==◌}
+use Rattle.nb_model.proofs.Common.{true≢false, and_parts, eqb-true, false_from_ne_true, take_at, length-take-le, drop-replicate, number_of, number_in, with_part, is_zeros, is_header, entries_in, bits_in, kind_of, number_in-take, length-with_part, SizeFacts, size_facts, header_kind, Page, Image, first_page, image_size, Base, merged_page, has_entry, byte_strokes, IsSoundImage, HasHeader, scn_place-some}
+use Rattle.nb_model.proofs.SoundLaws.{all_at, inventory_behind, inventory_place_some, scn_page_behind, HasFields, FitsAt, kind_of_header}
 use Rattle.nb_model.proofs.FitLaws.{AreFitting}
 use Rattle.nb_model.proofs.PutSound.{header_fields}
 
@@ -84,8 +69,8 @@ module _ (image : Image) (bytes : Page) (fields : HasFields image) (is : IsSound
     scn_page = λ at. absurd (scn_page_behind (image_size image) 0 at refl);
     bits = λ q at taken. absurd (let some = inventory_place_some (image_size image) (q / bits_in (image_size image)) fields.size in omega arith);
     current = λ has. absurd (true≢false (sym has ∙ first_has_none));
-    no_lower = λ q at has low. absurd (let some = scn_place_some (image_size image) (q / entries_in (image_size image)) fields.size in omega arith);
-    no_later = λ q at has. absurd (let some = scn_place_some (image_size image) (q / entries_in (image_size image)) fields.size in omega arith);
+    no_lower = λ q at has low. absurd (let some = scn_place-some (image_size image) (q / entries_in (image_size image)) fields.size in omega arith);
+    no_later = λ q at has. absurd (let some = scn_place-some (image_size image) (q / entries_in (image_size image)) fields.size in omega arith);
   }
 
   head_kind : is_header (first_page image) ≡ true → kind_of head_page ≡ header_kind

@@ -1,15 +1,6 @@
 -- What the form of a header says of the bytes, and that the first 64 bytes decide it.
-use Rattle.std.proofs.Common.{◌≡◌, inl, inr, ℕ, suc, ◌+◌, ◌<◌, ◌≤◌, List, [], ◌∷◌, length, take, refl, sym, ap, ◌∙◌, arith}
-use Rattle.std.specs.Prelude.{Bool, true, false, IsTrue, not, ◌&&◌, ◌||◌, ◌==◌, nat_le, nat_lt}
-use Rattle.std.proofs.lemmas.Bool.{true≢false, and_parts, leb-true, ltb-true}
-use Rattle.std.proofs.lemmas.Bool.Decides.{leb_tells, eqb_tells}
-use Rattle.nb_fields.specs.Bytes.{number_of, number_in, is_zeros}
-use Rattle.nb_fields.specs.Header.{is_header, is_marked, is_sound, state_of, size_of, scn_of}
-use Rattle.nb_fields.specs.Places.{is_page_size}
-use Rattle.nb_fields.proofs.HeaderLaws.{is_header-short, is_header-long, is_header-take}
-use Rattle.nb_fields.proofs.PartLaws.{number_in-take}
-use Rattle.nb_fields.specs.States.{stalled_state}
-use Rattle.nb_model.specs.Image.{Page}
+use Rattle.std.proofs.Common.{◌≡◌, inl, inr, ℕ, suc, ◌+◌, ◌<◌, ◌≤◌, List, [], ◌∷◌, length, take, refl, sym, ap, ◌∙◌, arith, Bool, true, false, IsTrue, not, ◌&&◌, ◌||◌, ◌==◌, nat_le, nat_lt}
+use Rattle.nb_model.proofs.Common.{true≢false, and_parts, leb-true, ltb-true, leb_tells, eqb_tells, number_of, number_in, is_zeros, is_header, is_marked, is_sound, state_of, size_of, scn_of, is_page_size, is_header-short, is_header-long, is_header-take, number_in-take, stalled_state, Page}
 
 not_marked : (p : Page) → (number_in 0 1 p == 1) ≡ false → is_marked p ≡ false
 unfolding is_marked
@@ -79,10 +70,7 @@ pub first-other : (b : ℕ) (bs : List ℕ) → (b == 0) ≡ false → is_zeros 
 first-other b bs e = rw e refl
 
 pub header-other : (p : Page) → is_header p ≡ true → is_zeros p ≡ false
-header-other [] h = absurd (none (header-long [] h))
-  where
-    none : 64 ≤ 0 → ⊥
-    none k = omega arith
+header-other [] h = absurd (let few : 64 ≤ 0 = header-long [] h in omega (arith, few))
 header-other (b ∷ bs) h = first-other b bs (not_zero b (sym (first_byte b bs) ∙ header-kind (b ∷ bs) h))
   where
     not_zero : (b : ℕ) → b ≡ 1 → (b == 0) ≡ false

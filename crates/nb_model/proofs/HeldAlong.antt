@@ -1,14 +1,6 @@
 -- A page that is held stays along the strokes that put another page, take one, and make a new one.
-use Rattle.std.proofs.Common.{◌≡◌, ◌≢◌, ℕ, zero, suc, ◌/◌, ◌<◌, ◌≤◌, List, [], ◌∷◌, length, drop, refl, sym, ap, subst, ◌∙◌, arith}
-use Rattle.std.specs.Prelude.{Bool, true, false, ◌==◌}
-use Rattle.std.proofs.lemmas.Bool.{true≢false, or_parts}
-use Rattle.nb_fields.specs.Payloads.{bit_of}
-use Rattle.nb_fields.specs.Places.{bits_in, is_system_place}
-use Rattle.nb_fields.specs.Kinds.{inventory_kind}
-use Rattle.nb_model.specs.Account.{Base}
-use Rattle.nb_model.specs.Forms.{Draft, drafted, is_kind, put, with_bit, set_bit, take_page, inventory_of, bit_number, lowest_free, system_kind, system_payload, system_page, new_within}
-use Rattle.nb_model.specs.Image.{Page, Image, page_at, image_size}
-use Rattle.nb_model.specs.Strokes.{Stroke, on_base, base_after}
+use Rattle.std.proofs.Common.{◌≡◌, ◌≢◌, ℕ, zero, suc, ◌/◌, ◌<◌, ◌≤◌, List, [], ◌∷◌, length, drop, refl, sym, ap, subst, ◌∙◌, arith, Bool, true, false, ◌==◌}
+use Rattle.nb_model.proofs.Common.{true≢false, or_parts, bit_of, bits_in, is_system_place, inventory_kind, Base, Draft, drafted, is_kind, put, with_bit, set_bit, take_page, inventory_of, bit_number, lowest_free, system_kind, system_payload, system_page, new_within, Page, Image, page_at, image_size, Stroke, on_base, base_after}
 use Rattle.nb_model.proofs.Along.{Along, along_append, put_along}
 use Rattle.nb_model.proofs.DraftJoin.{joined_new}
 use Rattle.nb_model.proofs.DraftLaws.{IsOf, drafted_is, drafts_are, put_keeps, system_keeps, set_bit_keeps}
@@ -77,10 +69,7 @@ module _ (q : ℕ) (bytes : Page) where
   -- A new page is made.
   pub new_held_along : (tries kind : ℕ) (payload : ℕ → List ℕ) (b : Base) (x : Image) → b.image ≡ x → IsWhole x → (kind == 0) ≡ false → ((p : ℕ) → length (payload p) ≤ 1008)
       → (new_within tries kind payload (drafted x)).0.full ≡ false → IsHeld q bytes x → HeldAlong b (new_within tries kind payload (drafted x)).0.strokes
-  new_held_along zero kind payload b x e h some room left held = absurd (no_tries (found x h kind payload zero left).tries_is)
-    where
-      no_tries : {n : ℕ} → zero ≡ suc n → ⊥
-      no_tries e = omega (arith, e)
+  new_held_along zero kind payload b x e h some room left held = absurd (omega (arith, (found x h kind payload zero left).tries_is))
   new_held_along (suc tries) kind payload b x e h some room left held = by (λ c y same well full there. new_held_along tries kind payload c y same well some room full there) (is_system_place (image_size x) p) refl
     where
       p : ℕ

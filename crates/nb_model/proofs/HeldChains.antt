@@ -1,19 +1,12 @@
 -- In a neat image each page of a chain is taken, so what keeps such pages keeps the chains.
-use Rattle.std.proofs.Common.{◌≡◌, ◌≢◌, ◌⊎◌, inl, inr, ⊎_elim, ℕ, suc, ◌<◌, ◌≤◌, List, [], ◌∷◌, ◌++◌, length, refl, sym, ap, subst, ◌∙◌, arith}
-use Rattle.std.specs.Prelude.{true, false, ◌==◌, Result, Ok, None, Contains}
-use Rattle.std.specs.List.{AllByRecursion}
-use Rattle.std.proofs.lemmas.Bool.Decides.{eqb_tells}
-use Rattle.nb_model.specs.Causes.{broken_at}
-use Rattle.nb_model.specs.Chains.{Chain, History, next_in, is_in_chain, pages_of, found_pages, spots}
-use Rattle.nb_model.specs.Forms.{is_free_page}
-use Rattle.nb_model.specs.Image.{Page, Image, page_at, image_size}
-use Rattle.nb_model.specs.Rows.{chains, pages_of_all, IsNeat}
-use Rattle.nb_model.specs.Sound.{HasHeader, IsSoundImage}
+use Rattle.std.proofs.Common.{◌≡◌, ◌≢◌, ◌⊎◌, inl, inr, ⊎_elim, ℕ, suc, ◌<◌, ◌≤◌, List, [], ◌∷◌, length, refl, sym, ap, subst, ◌∙◌, arith, true, false, ◌==◌, Result, Ok, None, Contains}
+use Rattle.nb_model.proofs.Common.{AllByRecursion, eqb_tells, broken_at, Chain, History, next_in, is_in_chain, pages_of, found_pages, spots, is_free_page, Page, Image, page_at, image_size, chains, pages_of_all, IsNeat, HasHeader, IsSoundImage, all_parts, all_append, all_go, all_both}
 use Rattle.nb_model.proofs.ChainWalks.{HasForm, there_by, StaysLinked, linked_same, pages_stay, found_is, spots_same, spots_are}
 use Rattle.nb_model.proofs.HeldLaws.{IsHeld}
-use Rattle.nb_model.proofs.NeatLaws.{all_go, all_both, once_chain, ChangesChain}
+use Rattle.nb_model.proofs.NeatLaws.{once_chain, ChangesChain}
 use Rattle.nb_model.proofs.PutSound.{IsPlain}
-use Rattle.nb_model.proofs.RoomLaws.{in_chain, chain_plain, pages_found, no_system}
+use Rattle.nb_model.proofs.RoomLaws.{in_chain, chain_plain, pages_found}
+use Rattle.nb_model.proofs.OnwardTests.{plain_from}
 
 -- Each page that is held in the one is held in the other; each but one.
 abbrev pub KeepsEach : Image → Image → Type 0
@@ -32,26 +25,18 @@ among_or_not p (q ∷ ps) = by (eqb_tells q p) (among_or_not p ps)
     by (inr w) (inl (k, low, is)) = inl (suc k, omega (arith, low), is)
     by (inr w) (inr all) = inr (w.1, all)
 
-pub split_all : (P : ℕ → Type 0) (xs ys : List ℕ) → AllByRecursion P (xs ++ ys) → AllByRecursion P xs × AllByRecursion P ys
-split_all P [] ys all = (tt, all)
-split_all P (x ∷ xs) ys all = let rest = split_all P xs ys all.1 in ((all.0, rest.0), rest.1)
-
-pub join_all : (P : ℕ → Type 0) (xs ys : List ℕ) → AllByRecursion P xs → AllByRecursion P ys → AllByRecursion P (xs ++ ys)
-join_all P [] ys a b = b
-join_all P (x ∷ xs) ys a b = (a.0, join_all P xs ys a.1 b)
-
 -- what holds of the pages of chains holds of those of each
 pub each_chain : (image : Image) (P : ℕ → Type 0) (cs : List Chain) → AllByRecursion P (pages_of_all image cs) → AllByRecursion (λ c. AllByRecursion P (found_pages c image)) cs
 unfolding pages_of_all
 each_chain image P [] all = tt
-each_chain image P (c ∷ cs) all = let both = split_all P (found_pages c image) (pages_of_all image cs) all in (both.0, each_chain image P cs both.1)
+each_chain image P (c ∷ cs) all = let both = all_parts P (found_pages c image) (pages_of_all image cs) all in (both.0, each_chain image P cs both.1)
 
 pub chain_each : (image : Image) (P : ℕ → Type 0) (cs : List Chain) → AllByRecursion (λ c. AllByRecursion P (found_pages c image)) cs → AllByRecursion P (pages_of_all image cs)
 unfolding pages_of_all
 chain_each image P [] all = tt
-chain_each image P (c ∷ cs) all = join_all P (found_pages c image) (pages_of_all image cs) all.0 (chain_each image P cs all.1)
+chain_each image P (c ∷ cs) all = all_append P (found_pages c image) (pages_of_all image cs) all.0 (chain_each image P cs all.1)
 
-ok_none : (r : Result (List ℕ) ℕ) (ps : List ℕ) → r ≡ Ok ps → broken_at r ≡ None
+pub ok_none : (r : Result (List ℕ) ℕ) (ps : List ℕ) → r ≡ Ok ps → broken_at r ≡ None
 ok_none r ps is = ap broken_at is
 
 -- A page of a chain that is held.
@@ -63,7 +48,7 @@ module _ (x : Image) (h : HasHeader x) (is : IsSoundImage x) where
   held_in : (c : Chain) (q : ℕ) → is_in_chain c x q ≡ true → is_free_page x q ≡ false → IsHeldIn c x q
   held_in c q in_it taken =
       let plain : IsPlain x q = chain_plain c x q h is in_it in
-      record { in_it = in_it; held = record { is = refl; behind = plain.place.behind; below = (in_chain c x q in_it).0; plain = no_system (image_size x) q plain.no_inventory plain.no_scn_page; taken = taken } }
+      record { in_it = in_it; held = record { is = refl; behind = plain.place.behind; below = (in_chain c x q in_it).0; plain = plain_from (image_size x) q plain.no_inventory plain.no_scn_page; taken = taken } }
 
   all_held : (c : Chain) (ps : List ℕ) → AllByRecursion (λ (q : ℕ). is_in_chain c x q ≡ true) ps → AllByRecursion (λ (q : ℕ). is_free_page x q ≡ false) ps → AllByRecursion (IsHeldIn c x) ps
   all_held c [] a b = tt

@@ -1,17 +1,6 @@
 -- A page that is taken, and no system page, stays as it is where other pages are written, made and given back.
-use Rattle.std.proofs.Common.{◌≡◌, ◌≢◌, ◌⊎◌, inl, inr, ℕ, zero, suc, ◌+◌, ◌-◌, ◌/◌, ◌%◌, ◌<◌, ◌≤◌, List, length, drop, refl, sym, ap, subst, ◌∙◌, arith}
-use Rattle.std.specs.Prelude.{Bool, true, false, ◌==◌}
-use Rattle.std.proofs.lemmas.Bool.{true≢false, or_parts}
-use Rattle.std.proofs.lemmas.Bool.Decides.{eqb_tells}
-use Rattle.nb_fields.specs.Page.{kind_of}
-use Rattle.nb_fields.specs.Payloads.{bit_of}
-use Rattle.nb_fields.specs.Places.{bits_in, entries_in, inventory_place, is_inventory_place, is_system_place}
-use Rattle.nb_fields.proofs.PlaceLaws.{bits-least}
-use Rattle.nb_fields.proofs.SizeLaws.{SizeFacts, size_facts}
-use Rattle.nb_fields.specs.Kinds.{inventory_kind, data_kind}
-use Rattle.nb_model.specs.Chains.{owner_in}
-use Rattle.nb_model.specs.Forms.{Draft, drafted, old_page, is_kind, put, set_bit, with_bit, take_page, is_free_page, inventory_of, bit_number, free_from, lowest_free, system_page, system_kind, system_payload, new_within}
-use Rattle.nb_model.specs.Image.{Page, Image, page_at, image_size, image_scn, with_page}
+use Rattle.std.proofs.Common.{◌≡◌, ◌≢◌, ◌⊎◌, inl, inr, ℕ, zero, suc, ◌+◌, ◌-◌, ◌/◌, ◌%◌, ◌<◌, ◌≤◌, List, length, drop, refl, sym, ap, subst, ◌∙◌, arith, Bool, true, false, ◌==◌}
+use Rattle.nb_model.proofs.Common.{true≢false, or_parts, eqb_tells, kind_of, bit_of, bits_in, entries_in, inventory_place, is_inventory_place, is_system_place, bits-least, SizeFacts, size_facts, inventory_kind, data_kind, owner_in, Draft, drafted, old_page, is_kind, put, set_bit, with_bit, take_page, is_free_page, inventory_of, bit_number, free_from, lowest_free, system_page, system_kind, system_payload, new_within, Page, Image, page_at, image_size, image_scn, with_page}
 use Rattle.nb_model.proofs.BitLaws.{bit_else, bit_behind, one_bit, with_bit_length}
 use Rattle.nb_model.proofs.DraftJoin.{joined_new}
 use Rattle.nb_model.proofs.FitLaws.{IsWhole, form_page}
@@ -183,10 +172,7 @@ pub record IsMade (image : Image) (kind : ℕ) (payload : ℕ → List ℕ) (mad
 
 pub new_is_made : (tries kind : ℕ) (payload : ℕ → List ℕ) (image : Image) → IsWhole image → (kind == 0) ≡ false → ((p : ℕ) → length (payload p) ≤ 1008)
     → (new_within tries kind payload (drafted image)).0.full ≡ false → IsMade image kind payload (new_within tries kind payload (drafted image))
-new_is_made zero kind payload image h some room left = absurd (no_tries (found image h kind payload zero left).tries_is)
-  where
-    no_tries : {n : ℕ} → zero ≡ suc n → ⊥
-    no_tries e = omega (arith, e)
+new_is_made zero kind payload image h some room left = absurd (omega (arith, (found image h kind payload zero left).tries_is))
 new_is_made (suc tries) kind payload image h some room left = by (λ x well full. new_is_made tries kind payload x well some room full) (is_system_place (image_size image) p) refl
   where
     p : ℕ

@@ -1,33 +1,19 @@
 -- Where room is made for a row of the history, its page is held, and each row on it is one that stood on a page of the history.
-use Rattle.std.proofs.Common.{◌≡◌, ◌≢◌, inl, inr, ℕ, ◌+◌, ◌/◌, ◌<◌, ◌≤◌, List, [], ◌∷◌, length, drop, refl, sym, ap, subst, ◌∙◌, arith}
-use Rattle.std.specs.Prelude.{Bool, true, false, Contains, Option, Some, None}
-use Rattle.std.specs.List.{AllByRecursion}
-use Rattle.std.proofs.lemmas.Bool.{true≢false}
-use Rattle.std.proofs.lemmas.Bool.Decides.{eqb_tells}
-use Rattle.nb_fields.specs.Bytes.{bytes_of, with_part}
-use Rattle.nb_fields.specs.Page.{stamped}
-use Rattle.nb_fields.specs.Payloads.{data_payload}
-use Rattle.nb_fields.specs.Places.{bits_in, entries_in, is_inventory_place, is_system_place, most_pages}
-use Rattle.nb_fields.proofs.SizeLaws.{SizeFacts, size_facts}
-use Rattle.nb_fields.specs.Kinds.{data_kind}
-use Rattle.nb_model.specs.Account.{Base}
-use Rattle.nb_model.specs.Backups.{Room, needs_taken, room_in}
-use Rattle.nb_model.specs.Causes.{broken_at, not_of_form, lowest_broken}
-use Rattle.nb_model.specs.Chains.{History, Slot, Spot, next_in, owner_in, is_used, slots_in, spots, pages_of, found_pages, free_spot, is_in_chain, last_of, grown}
-use Rattle.nb_model.specs.Forms.{Draft, drafted, old_page, put, needs, is_free_page, inventory_of, scn_page_of, new_page, wants}
-use Rattle.nb_model.specs.Image.{Page, Image, page_at, image_size, image_scn}
-use Rattle.nb_model.specs.Sound.{HasHeader, IsSoundImage}
+use Rattle.std.proofs.Common.{◌≡◌, ◌≢◌, inl, inr, ℕ, ◌+◌, ◌/◌, ◌<◌, ◌≤◌, List, [], ◌∷◌, length, drop, refl, sym, ap, subst, ◌∙◌, arith, Bool, true, false, Contains, Option, Some, None}
+use Rattle.nb_model.proofs.Common.{AllByRecursion, true≢false, eqb_tells, bytes_of, with_part, stamped, data_payload, bits_in, entries_in, is_inventory_place, is_system_place, most_pages, SizeFacts, size_facts, data_kind, Base, Room, needs_taken, room_in, broken_at, not_of_form, lowest_broken, History, Slot, Spot, next_in, owner_in, is_used, slots_in, spots, pages_of, found_pages, free_spot, is_in_chain, last_of, grown, Draft, drafted, old_page, put, needs, is_free_page, inventory_of, scn_page_of, new_page, wants, Page, Image, page_at, image_size, image_scn, HasHeader, IsSoundImage}
 use Rattle.nb_model.proofs.DraftJoin.{join_put}
 use Rattle.nb_model.proofs.FitLaws.{IsWhole, form_page}
 use Rattle.nb_model.proofs.HeldLaws.{IsHeld, IsOfHistory, IsMade, held_put, new_is_made}
 use Rattle.nb_model.proofs.LeadLaws.{LeadsTo, found_leads, linked_leads}
 use Rattle.nb_model.proofs.NewSound.{stamped_kind}
 use Rattle.nb_model.proofs.PutSound.{IsPlain, needs_image, header_whole}
-use Rattle.nb_model.proofs.RoomLaws.{AnyPage, any_history, in_chain, chain_owner, chain_plain, free_is_spot, IsSpotOf, made_fits, link_plain, link_low, old_there, data_short, put_full, no_system}
+use Rattle.nb_model.proofs.RoomLaws.{AnyPage, any_history, in_chain, chain_owner, chain_plain, free_is_spot, IsSpotOf, made_fits, link_plain, link_low, old_there, data_short, put_full}
 use Rattle.nb_model.proofs.RoundLaws.{IsNew, new_is_new, no_place, bit_by, put_here, put_other, put_size, put_longer, put_inventory}
 use Rattle.nb_model.proofs.SlotLaws.{linked_slots, linked_next, linked_owner, new_slots, new_owner}
 use Rattle.nb_model.proofs.FoundSpots.{found_there}
 use Rattle.nb_model.proofs.SoundLaws.{all_at, inventory_there}
+use Rattle.nb_model.proofs.OnwardTests.{plain_from}
+use Rattle.nb_model.proofs.DraftLaws.{either}
 
 -- A page is held, links of the history lead to it, and what P says holds of each row that it uses.
 pub record HoldsRows (P : Slot → Type 0) (q : ℕ) (image : Image) : Type 0 where
@@ -42,13 +28,9 @@ abbrev pub HasChainRows : (P : Slot → Type 0) → Image → Type 0
 HasChainRows P image = (p : ℕ) → is_in_chain History image p ≡ true → AllByRecursion (λ row. is_used row ≡ true → P row) (slots_in (page_at image p))
 
 -- a page that was needed to be taken is
-needs_image_same : (p : ℕ) (d : Draft) → (needs_taken p d).image ≡ d.image
+pub needs_image_same : (p : ℕ) (d : Draft) → (needs_taken p d).image ≡ d.image
 unfolding needs_taken
-needs_image_same p d = by (is_free_page d.image p)
-  where
-    by : (t : Bool) → (elim t as (λ z. Draft) [ true ↦ record d { broken = p ∷ d.broken } | false ↦ d ]).image ≡ d.image
-    by true = refl
-    by false = refl
+needs_image_same p d = either (λ (x : Draft). x.image ≡ d.image) (is_free_page d.image p) _ _ refl refl
 
 needs_is_taken : (p : ℕ) (d : Draft) → not_of_form (needs_taken p d) ≡ None → is_free_page d.image p ≡ false
 unfolding needs_taken lowest_broken
@@ -79,7 +61,7 @@ module _ (P : Slot → Type 0) (b : Base) (h : HasHeader b.image) (is : IsSoundI
       let facts = in_chain History b.image s.page spot.page in
       record {
         bytes = page_at b.image s.page;
-        held = record { is = refl; behind = plain.place.behind; below = facts.0; plain = no_system (image_size b.image) s.page plain.no_inventory plain.no_scn_page; taken = taken };
+        held = record { is = refl; behind = plain.place.behind; below = facts.0; plain = plain_from (image_size b.image) s.page plain.no_inventory plain.no_scn_page; taken = taken };
         leads = found_leads b.image s.page unbroken among;
         of_history = record { of_kind = facts.1; owner = chain_owner History b.image s.page spot.page };
         rows = rows s.page spot.page;
@@ -170,7 +152,7 @@ module _ (P : Slot → Type 0) (b : Base) (h : HasHeader b.image) (is : IsSoundI
       others : (z : ℕ) → is_in_chain History b.image z ≡ true → z ≢ made.1 → z ≢ last → page_at linked z ≡ page_at b.image z
       others z in_it off apart =
           let its : IsPlain b.image z = chain_plain History b.image z h is in_it in
-          let no_place_of : is_system_place (image_size b.image) z ≡ false = no_system (image_size b.image) z its.no_inventory its.no_scn_page in
+          let no_place_of : is_system_place (image_size b.image) z ≡ false = plain_from (image_size b.image) z its.no_inventory its.no_scn_page in
           put_other made.0.image whole last plain.place 5 link z apart ((no_place made.0.image whole z (ap (λ (s : ℕ). is_system_place s z) new.size ∙ no_place_of)).1 (last / entries_in (image_size made.0.image)))
           ∙ new.others z no_place_of off
 

@@ -1,24 +1,6 @@
 -- A page of the history that is taken stays as it is, whatever statements on pages do.
-use Rattle.std.proofs.Common.{◌≡◌, ◌≢◌, ℕ, ◌+◌, ◌/◌, ◌<◌, List, [], length, refl, sym, ap, subst, ◌∙◌, arith}
-use Rattle.std.specs.Prelude.{true, false, Some, None}
-use Rattle.std.proofs.lemmas.Bool.{true≢false}
-use Rattle.nb_fields.specs.Page.{kind_of}
-use Rattle.nb_fields.specs.Payloads.{text_payload}
-use Rattle.nb_fields.specs.Places.{bits_in, is_inventory_place}
-use Rattle.nb_fields.specs.Kinds.{raw_kind}
-use Rattle.nb_model.specs.declared.statement.Statement.{Statement}
-use Rattle.nb_model.specs.declared.statement.Statement.TheVariants.{CreateDb, OpenDb, PageNew, Write, Free, CreateTable, DropTable, Insert, Update, Delete, Get, Scan, Forced, Access, Reclaim, ShowCache}
-use Rattle.nb_model.specs.Account.{Base}
-use Rattle.nb_model.specs.Causes.{Cause, not_raw}
-use Rattle.nb_model.specs.Forms.{Draft, drafted, put, give_page, new_page}
-use Rattle.nb_model.specs.Image.{Page, Image, page_at, image_size}
-use Rattle.nb_model.specs.Going.{IsNamed}
-use Rattle.nb_model.specs.Outcomes.{Begins, Seen, Outcome, unless, changes}
-use Rattle.nb_model.specs.Pages.{new_turn, write_turn, free_turn, forced_turn, access_turn, cache_turn, byte_strokes}
-use Rattle.nb_model.specs.Sound.{IsSoundImage, HasHeader}
-use Rattle.nb_model.specs.Strokes.{Stroke, on_base, base_after}
-use Rattle.nb_model.specs.Turns.{first_turn}
-use Rattle.nb_model.specs.Well.{is_on_pages}
+use Rattle.std.proofs.Common.{◌≡◌, ◌≢◌, ℕ, ◌+◌, ◌/◌, ◌<◌, List, [], length, refl, sym, ap, subst, ◌∙◌, arith, true, false, Some, None}
+use Rattle.nb_model.proofs.Common.{true≢false, kind_of, text_payload, bits_in, is_inventory_place, raw_kind, Statement, CreateDb, OpenDb, PageNew, Write, Free, CreateTable, DropTable, Insert, Update, Delete, Get, Scan, Forced, Access, Reclaim, ShowCache, Base, Cause, not_raw, Draft, drafted, put, give_page, new_page, Page, Image, page_at, image_size, IsNamed, Begins, Seen, Outcome, unless, changes, new_turn, write_turn, free_turn, forced_turn, access_turn, cache_turn, byte_strokes, IsSoundImage, HasHeader, Stroke, on_base, base_after, first_turn, is_on_pages}
 use Rattle.nb_model.proofs.ToldTurns.{does_more, told_strokes, pages_cases}
 use Rattle.nb_model.proofs.FitLaws.{IsWhole, Fits}
 use Rattle.nb_model.proofs.BitSound.{give_fits}

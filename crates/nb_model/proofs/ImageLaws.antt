@@ -1,14 +1,6 @@
 -- Lists of pages: their bytes joined and cut again, and the pages of zeros at their end.
-use Rattle.std.proofs.Common.{◌≡◌, inl, inr, ℕ, zero, suc, ◌+◌, ◌*◌, ◌<◌, ◌≤◌, List, [], ◌∷◌, ◌++◌, length, take, drop, replicate, refl, sym, ap, ◌∙◌, arith, length-append, append_assoc, suc-mul}
-use Rattle.std.specs.Prelude.{Bool, true, false}
-use Rattle.std.specs.List.{AllByRecursion, flat_map}
-use Rattle.std.proofs.lemmas.Bool.{cases_Bool}
-use Rattle.std.proofs.lemmas.Bool.Decides.{leb_tells}
-use Rattle.std.proofs.lemmas.List.{take_at, drop_at, length-drop, length-take-le, take-append-drop, replicate-append-replicate}
-use Rattle.nb_fields.specs.Bytes.{is_zeros}
-use Rattle.nb_model.specs.Image.{Page, Image, page_at, cut, trimmed}
-use Rattle.nb_model.specs.Levels.{joined}
-use Rattle.nb_model.specs.Sound.{HasNoZeros, IsOfSize}
+use Rattle.std.proofs.Common.{◌≡◌, inl, inr, ℕ, zero, suc, ◌+◌, ◌*◌, ◌<◌, ◌≤◌, List, [], ◌∷◌, ◌++◌, length, take, drop, replicate, refl, sym, ap, ◌∙◌, arith, length-append, append_assoc, suc-mul, Bool, true, false}
+use Rattle.nb_model.proofs.Common.{AllByRecursion, flat_map, cases_Bool, leb_tells, take_at, drop_at, length-drop, length-take-le, take-append-drop, replicate-append-replicate, is_zeros, Page, Image, page_at, cut, trimmed, joined, HasNoZeros, IsOfSize, nil_cons, nil_from_length, first_page}
 
 -- each page is all zeros
 abbrev pub AreZeros : List Page → Type 0
@@ -100,11 +92,7 @@ module _ (size : ℕ) where
     pub is : bytes ≡ joined pages
 
   pub pages_of : (n : ℕ) (bytes : List ℕ) → length bytes ≡ n * size → Pages bytes n
-  pages_of zero bytes long = record { pages = []; count = refl; sizes = tt; is = none bytes (omega arith) }
-    where
-      none : (bytes : List ℕ) → length bytes ≡ 0 → bytes ≡ []
-      none [] h = refl
-      none (b ∷ bs) h = absurd (omega arith)
+  pages_of zero bytes long = record { pages = []; count = refl; sizes = tt; is = nil_from_length bytes (omega arith) }
   pages_of (suc n) bytes long =
       let all : length bytes ≡ n * size + size = omega (arith, suc-mul n size) in
       let rest : Pages (drop size bytes) n = pages_of n (drop size bytes) (omega (arith, length-drop size bytes)) in
@@ -139,7 +127,7 @@ trimmed-cons p ps = by (trimmed ps)
     by [] = refl
     by (q ∷ qs) = refl
 
-trimmed-none : trimmed [] ≡ []
+pub trimmed-none : trimmed [] ≡ []
 unfolding trimmed
 trimmed-none = refl
 
@@ -194,13 +182,10 @@ trimmed-tail p ps h = by (trimmed ps) (sym (trimmed-cons p ps) ∙ h)
   where
     by : (qs : Image) → kept p qs ≡ p ∷ ps → qs ≡ ps
     by [] e = elim (cases_Bool (is_zeros p)) [
-      | inl w ↦ absurd (none_some (sym (kept-zero p w) ∙ e))
+      | inl w ↦ absurd (nil_cons p ps (sym (kept-zero p w) ∙ e))
       | inr w ↦ ap tail (sym (kept-other p [] w) ∙ e)
     ]
       where
-        none_some : [] ≡ p ∷ ps → ⊥
-        none_some h = cc
-
         tail : Image → Image
         tail [] = []
         tail (x ∷ xs) = xs
@@ -235,3 +220,8 @@ trimming (p ∷ ps) = by (trimmed ps) refl (trimming ps)
         let whole : IsTrimmed (q ∷ qs) = ap trimmed (sym e) ∙ t.whole ∙ e in
         found (p ∷ q ∷ qs) t.rest (trimmed-cons p ps ∙ ap (kept p) e) (ap (λ (x : List Page). p ∷ x) (t.is ∙ ap (λ (x : Image). x ++ t.rest) e)) t.zeros
         (trimmed-cons p (q ∷ qs) ∙ ap (kept p) whole)
+
+-- a list of pages is its first, and the others
+pub first_and_rest : (xs : Image) → 1 ≤ length xs → xs ≡ first_page xs ∷ drop 1 xs
+first_and_rest [] some = absurd (omega (arith, some))
+first_and_rest (x ∷ xs) some = refl

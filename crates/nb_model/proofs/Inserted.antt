@@ -1,11 +1,6 @@
 -- A list with one element more, somewhere.
-use Rattle.std.proofs.Common.{◌≡◌, ◌≢◌, ◌⊎◌, inl, inr, ℕ, List, [], ◌∷◌, ◌++◌, map, refl, sym, ap, subst, ◌∙◌}
-use Rattle.std.specs.Prelude.{Bool, true, false}
-use Rattle.std.specs.List.{AllByRecursion}
-use Rattle.std.proofs.lemmas.Bool.{true≢false}
-use Rattle.nb_model.specs.Chains.{Spot, is_used, table_of, found_pages}
-use Rattle.nb_model.specs.Image.{Image}
-use Rattle.nb_model.specs.Rows.{used, table_chains, pages_of_all, names_of, AreDistinct}
+use Rattle.std.proofs.Common.{◌≡◌, ◌≢◌, ◌⊎◌, inl, inr, ℕ, List, [], ◌∷◌, ◌++◌, map, refl, sym, ap, subst, ◌∙◌, Bool, true, false}
+use Rattle.nb_model.proofs.Common.{AllByRecursion, true≢false, Spot, is_used, table_of, found_pages, Image, used, table_chains, pages_of_all, names_of, AreDistinct}
 use Rattle.nb_model.proofs.NeatLaws.{pages_first, tables_first, used_yes, used_not}
 use Rattle.nb_model.proofs.SpotKeys.{ChangesOnce}
 use Rattle.nb_model.proofs.TableCases.{chain_at}
@@ -40,7 +35,7 @@ module _ {X : Type 0} (v : X) where
   inserted_before zs xs ys (behind x ks ls more) = behind x (ks ++ zs) (ls ++ zs) (inserted_before zs ks ls more)
 
 -- The names of slots, and the pages of tables.
-names_first : (u : Spot) (us : List Spot) → names_of (u ∷ us) ≡ table_of u.bytes ∷ names_of us
+pub names_first : (u : Spot) (us : List Spot) → names_of (u ∷ us) ≡ table_of u.bytes ∷ names_of us
 unfolding names_of
 names_first u us = refl
 
@@ -49,7 +44,7 @@ inserted_names v us ws (here _) = subst (Inserted (table_of v.bytes) (names_of u
 inserted_names v us ws (behind x zs xs more) =
     subst (λ (ns : List (List ℕ)). Inserted (table_of v.bytes) ns (names_of ws)) (sym (names_first x zs)) (subst (Inserted (table_of v.bytes) (table_of x.bytes ∷ names_of zs)) (sym (names_first x xs)) (behind (table_of x.bytes) (names_of zs) (names_of xs) (inserted_names v zs xs more)))
 
-tables_pages : (y : Image) (u : Spot) (us : List Spot) → pages_of_all y (table_chains (u ∷ us)) ≡ found_pages (chain_at u) y ++ pages_of_all y (table_chains us)
+pub tables_pages : (y : Image) (u : Spot) (us : List Spot) → pages_of_all y (table_chains (u ∷ us)) ≡ found_pages (chain_at u) y ++ pages_of_all y (table_chains us)
 tables_pages y u us = ap (pages_of_all y) (tables_first y u us) ∙ pages_first y (chain_at u) (table_chains us)
 
 pub inserted_pages : (y : Image) (v : Spot) (n : ℕ) (us ws : List Spot) → found_pages (chain_at v) y ≡ n ∷ [] → Inserted v us ws → Inserted n (pages_of_all y (table_chains us)) (pages_of_all y (table_chains ws))
@@ -89,7 +84,7 @@ module _ (f : Spot → Spot) (s : Spot) (free : is_used s.bytes ≡ false) (fill
           subst (λ (us : List Spot). Inserted (f s) us (used (f x ∷ map f xs))) (sym (used_not x xs (ap (λ (u : Spot). is_used u.bytes) facts.0 ∙ free)))
           (subst (Inserted (f s) (used xs)) (sym (used_yes (f x) (map f xs) (ap (λ (u : Spot). is_used (f u).bytes) facts.0 ∙ filled) ∙ ap (λ (us : List Spot). f x ∷ used us) (still xs facts.1) ∙ ap (λ (u : Spot). f u ∷ used xs) facts.0)) (here (used xs)))
 
-used_nothing : used [] ≡ []
+pub used_nothing : used [] ≡ []
 unfolding used
 used_nothing = refl
 

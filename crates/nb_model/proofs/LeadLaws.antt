@@ -1,18 +1,8 @@
 -- The links of the history lead to a page: where the history is of the form, the page is one of it. Strokes that write no page of the history
 -- leave that so, also where they break it.
-use Rattle.std.proofs.Common.{◌≡◌, ◌≢◌, ◌⊎◌, inl, inr, ℕ, zero, suc, ◌<◌, ◌≤◌, List, [], ◌∷◌, length, refl, sym, ap, subst, ◌∙◌, arith}
-use Rattle.std.specs.Prelude.{true, false, ◌==◌, nat_lt, Contains, Ok, None}
-use Rattle.std.proofs.lemmas.Bool.{true≢false, cases_lt, and_from, and_parts, eq-eqb, false_from_ne_true, ltb-true}
-use Rattle.std.proofs.lemmas.Bool.Decides.{eqb_tells}
-use Rattle.nb_fields.specs.Page.{kind_of}
-use Rattle.nb_fields.specs.Kinds.{data_kind}
-use Rattle.nb_model.specs.Account.{Base}
-use Rattle.nb_model.specs.Causes.{broken_at}
-use Rattle.nb_model.specs.Chains.{History, first_of, owner_in, next_in, is_in_chain, walk, pages_of, found_pages, last_of}
-use Rattle.nb_model.specs.Image.{Page, Image, page_at, with_page}
-use Rattle.nb_model.specs.Stands.{is_history_page}
-use Rattle.nb_model.specs.Strokes.{Stroke, page, on_base, base_after, merged_page}
-use Rattle.nb_model.proofs.ChainWalks.{HasForm, form_there, there_by, IsWalk, ends, leads, Walks, walk_cases, walk_zero, err_ok, ok_found}
+use Rattle.std.proofs.Common.{◌≡◌, ◌≢◌, ◌⊎◌, inl, inr, ℕ, zero, suc, ◌<◌, ◌≤◌, List, [], ◌∷◌, length, refl, sym, ap, subst, ◌∙◌, arith, true, false, ◌==◌, nat_lt, Contains, Ok, None}
+use Rattle.nb_model.proofs.Common.{true≢false, cases_lt, and_from, and_parts, eq-eqb, false_from_ne_true, ltb-true, eqb_tells, kind_of, data_kind, Base, broken_at, History, first_of, owner_in, next_in, is_in_chain, walk, pages_of, found_pages, last_of, Page, Image, page_at, with_page, is_history_page, Stroke, page, on_base, base_after, merged_page, err_ok}
+use Rattle.nb_model.proofs.ChainWalks.{HasForm, form_there, there_by, IsWalk, ends, leads, Walks, walk_cases, walk_zero, ok_found}
 use Rattle.nb_model.proofs.FitLaws.{IsWhole, IsFitting, AreFitting, whole_one}
 use Rattle.nb_model.proofs.NoRows.{HasNoRows}
 use Rattle.nb_model.proofs.SoundLaws.{FitsAt, written_other, with_page_length}

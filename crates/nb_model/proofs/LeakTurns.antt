@@ -1,27 +1,8 @@
 -- Leaked pages are given back: the strokes fit, each at its point, and a page that the history leads to stays taken.
-use Rattle.std.proofs.Common.{◌≡◌, ◌≢◌, inl, inr, ℕ, zero, suc, ◌+◌, ◌<◌, ◌≤◌, List, [], ◌∷◌, ◌++◌, length, refl, sym, ap, subst, ◌∙◌, arith}
-use Rattle.std.specs.Prelude.{Bool, true, false, cond, ◌||◌, ◌==◌, not, nat_eq, Contains, Some, None}
-use Rattle.std.specs.List.{AllByRecursion, filter, range_with_len}
-use Rattle.std.proofs.lemmas.List.Elements.{Contains-append_left, Contains-append_right}
-use Rattle.std.proofs.lemmas.Bool.{and_parts, cases_Bool, true≢false, eqb-true, or_cases}
-use Rattle.nb_fields.specs.Page.{kind_of}
-use Rattle.nb_fields.specs.Places.{is_inventory_place, is_scn_place, is_system_place}
-use Rattle.nb_fields.specs.Kinds.{data_kind}
-use Rattle.nb_model.specs.Account.{Base}
-use Rattle.nb_model.specs.declared.reply.Reply.TheVariants.{Freed, Refused}
-use Rattle.nb_model.specs.Causes.{Cause, broken_at}
-use Rattle.nb_model.specs.Chains.{Catalogue, History, pages_of, found_pages}
-use Rattle.nb_model.specs.Checks.{reclaim_cause, reclaimed, reclaim_turn}
-use Rattle.nb_model.specs.Forms.{Draft, drafted, give_page, is_free_page}
-use Rattle.nb_model.specs.Image.{Page, Image, page_at, first_page, image_size}
-use Rattle.nb_model.specs.Leaks.{is_among, is_taken_data, is_leaked, leaked, reached}
-use Rattle.nb_model.specs.Outcomes.{Seen, Outcome, says, unless}
-use Rattle.nb_model.specs.Rows.{used, table_chains, chains, pages_of_all}
-use Rattle.nb_model.specs.Sound.{HasHeader, IsSoundImage}
-use Rattle.nb_model.specs.Strokes.{Stroke, base_after}
-use Rattle.nb_model.specs.Tables.{all_given}
+use Rattle.std.proofs.Common.{◌≡◌, ◌≢◌, inl, inr, ℕ, zero, suc, ◌+◌, ◌<◌, ◌≤◌, List, [], ◌∷◌, ◌++◌, length, refl, sym, ap, subst, ◌∙◌, arith, Bool, true, false, cond, ◌||◌, ◌==◌, not, nat_eq, Contains, Some, None}
+use Rattle.nb_model.proofs.Common.{AllByRecursion, filter, range_with_len, Contains-append_left, Contains-append_right, and_parts, cases_Bool, true≢false, eqb-true, or_cases, kind_of, is_inventory_place, is_scn_place, is_system_place, data_kind, Base, Freed, Refused, Cause, broken_at, Catalogue, History, pages_of, found_pages, reclaim_cause, reclaimed, reclaim_turn, Draft, drafted, give_page, is_free_page, Page, Image, page_at, first_page, image_size, is_among, is_taken_data, is_leaked, leaked, reached, Seen, Outcome, says, unless, used, table_chains, chains, pages_of_all, HasHeader, IsSoundImage, Stroke, base_after, all_given, not_true}
 use Rattle.nb_model.proofs.BitSound.{bit_put}
-use Rattle.nb_model.proofs.DropTurns.{join_given}
+use Rattle.nb_model.proofs.DropTurns.{join_given, given_none}
 use Rattle.nb_model.proofs.FitLaws.{IsWhole, AreFitting, Fits, fits_first, fitting_append}
 use Rattle.nb_model.proofs.HeldLaws.{IsHeld, held_bit}
 use Rattle.nb_model.proofs.LeadLaws.{LeadsTo, leads_found}
@@ -44,10 +25,6 @@ longer_givable x y (p ∷ ps) longer all = (record { two = all.0.two; below = le
 pub given_first : (p : ℕ) (ps : List ℕ) (z : Image) → (all_given (p ∷ ps) (drafted z)).strokes ≡ (give_page p (drafted z)).strokes ++ (all_given ps (drafted (give_page p (drafted z)).image)).strokes
 unfolding all_given
 given_first p ps z = ap (λ (d : Draft). d.strokes) (join_given ps (give_page p (drafted z)))
-
-pub given_none : (z : Image) → (all_given [] (drafted z)).strokes ≡ []
-unfolding all_given
-given_none z = refl
 
 module _ (b : Base) (h : IsWhole b.image) (p : ℕ) (at : IsGivable b.image p) where
   abbrev one : Draft
@@ -181,10 +158,7 @@ module _ (s : Seen) (header : HasHeader s.base.image) (is : IsSoundImage s.base.
 
   off_history : (q : ℕ) → Contains (found_pages History image) q → AllByRecursion (λ (p : ℕ). q ≢ p) (leaked image)
   off_history q at = all_leaked image (λ (p : ℕ). q ≢ p) (λ p low holds e.
-      absurd (true≢false (sym (history_reached image q at) ∙ ap (λ (n : ℕ). is_among n (reached image)) e ∙ not_from (and_parts _ _ holds).1)))
-    where
-      not_from : {t : Bool} → not t ≡ true → t ≡ false
-      not_from {t} e = elim (cases_Bool t) [ inl holds ↦ absurd (true≢false (sym e ∙ ap not holds)) | inr fails ↦ fails ]
+      absurd (true≢false (sym (history_reached image q at) ∙ ap (λ (n : ℕ). is_among n (reached image)) e ∙ not_true _ (and_parts _ _ holds).1)))
 
   pub reclaim_holds : (q : ℕ) (bytes : Page) → LeadsTo image q → IsHeld q bytes image → IsHeld q bytes (base_after s.base (reclaim_turn s).strokes).image
   unfolding reclaim_turn unless base_after

@@ -1,15 +1,6 @@
 -- Reading a level file gives what was written, in both versions. So bytes spell one level file at most.
-use Rattle.std.proofs.Common.{◌≡◌, inl, inr, ℕ, zero, suc, ◌+◌, ◌<◌, ◌≤◌, ◌⊎◌, List, [], ◌∷◌, ◌++◌, length, take, drop, refl, sym, ap, subst, ◌∙◌, arith, length-append, append_assoc}
-use Rattle.std.specs.Prelude.{Bool, true, false, not, ◌&&◌, ◌||◌, ◌==◌, nat_lt, nat_le, None, Result, Ok, Err}
-use Rattle.std.proofs.lemmas.Bool.{true≢false, eqb-true, or_cases}
-use Rattle.std.proofs.lemmas.Bool.Decides.{leb_tells}
-use Rattle.std.proofs.lemmas.List.{take_at, drop_at, drop-drop}
-use Rattle.nb_fields.specs.Bytes.{number_of, bytes_of, number_in, part}
-use Rattle.nb_fields.specs.Places.{is_page_size, most_pages}
-use Rattle.nb_fields.proofs.NumberLaws.{number_of-bytes_of}
-use Rattle.nb_fields.proofs.SizeLaws.{size_facts}
-use Rattle.nb_model.specs.Image.{Numbered}
-use Rattle.nb_model.specs.Levels.{Head, IsHead, IsLevel, Contents, Test, Stretch, AreRising, AreOfSize, first_fault, ends_before, head_then, head_in, begins_level, body_bytes, single_bytes, run_bytes, runs_of, runs_behind, joined, end_bytes, end_mark, level_bytes, read_level, read_pages, read_singles, read_runs, with_head, is_first_page}
+use Rattle.std.proofs.Common.{◌≡◌, inl, inr, ℕ, zero, suc, ◌+◌, ◌<◌, ◌≤◌, ◌⊎◌, List, [], ◌∷◌, ◌++◌, length, take, drop, refl, sym, ap, subst, ◌∙◌, arith, length-append, append_assoc, Bool, true, false, not, ◌&&◌, ◌||◌, ◌==◌, nat_lt, nat_le, None, Result, Ok, Err}
+use Rattle.nb_model.proofs.Common.{true≢false, eqb-true, or_cases, leb_tells, take_at, drop_at, drop-drop, number_of, bytes_of, number_in, part, is_page_size, most_pages, number_of-bytes_of, size_facts, Numbered, Head, IsHead, IsLevel, Contents, Test, Stretch, AreRising, AreOfSize, first_fault, ends_before, head_then, head_in, begins_level, body_bytes, single_bytes, run_bytes, runs_of, runs_behind, joined, end_bytes, end_mark, level_bytes, read_level, read_pages, read_singles, read_runs, with_head, is_first_page}
 use Rattle.nb_model.proofs.ReadLaws.{AreClear, clear_none, lt_no, lt_yes, IsRun, single_read, singles_end}
 use Rattle.nb_model.proofs.GatherLaws.{AreRuns, total, one_numbered, gathered_pages, gathered_runs, gathered_total, runs_read}
 
@@ -86,7 +77,7 @@ read_step bytes version h e f clear =
     ∙ ap (λ v. with_head v (head_in bytes) (read_pages v (head_in bytes) bytes)) e ∙ ap (λ x. with_head version x (read_pages version x bytes)) f
 
 -- rising numbers below the most are few
-rising_few : (least : ℕ) (rs : List Numbered) → least ≤ most_pages → AreRising least rs → least + length rs ≤ most_pages
+pub rising_few : (least : ℕ) (rs : List Numbered) → least ≤ most_pages → AreRising least rs → least + length rs ≤ most_pages
 rising_few least [] low h = omega arith
 rising_few least (r ∷ rs) low h =
     let rest = rising_few (r.0 + 1) rs (omega (arith, h.1)) h.2 in

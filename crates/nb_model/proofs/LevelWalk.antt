@@ -1,12 +1,6 @@
 -- The walk over the pages of a level file that is read: what holds at its end, and of pages before others that it holds of, holds of all.
-use Rattle.std.proofs.Common.{◌≡◌, ◌≢◌, inl, inr, ℕ, zero, suc, ◌+◌, ◌*◌, ◌<◌, ◌≤◌, List, [], ◌∷◌, ◌++◌, length, drop, refl, sym, ap, subst, ◌∙◌, arith}
-use Rattle.std.specs.Prelude.{Bool, true, false, not, ◌&&◌, ◌||◌, ◌==◌, nat_lt, nat_le, Option, Some, None, Result, Ok, Err}
-use Rattle.std.proofs.lemmas.Bool.{true≢false, eqb-true, or_parts}
-use Rattle.std.proofs.lemmas.Bool.Decides.{eqb_tells, leb_tells}
-use Rattle.nb_fields.specs.Bytes.{number_in, part}
-use Rattle.nb_fields.specs.Places.{most_pages}
-use Rattle.nb_model.specs.Image.{Numbered}
-use Rattle.nb_model.specs.Levels.{Head, Test, first_fault, behind, end_mark, read_end, read_singles, read_runs, pages_in, barred_after, is_bad_number, is_first_page}
+use Rattle.std.proofs.Common.{◌≡◌, ◌≢◌, inl, inr, ℕ, zero, suc, ◌+◌, ◌*◌, ◌<◌, ◌≤◌, List, [], ◌∷◌, ◌++◌, length, drop, refl, sym, ap, subst, ◌∙◌, arith, Bool, true, false, not, ◌&&◌, ◌||◌, ◌==◌, nat_lt, nat_le, Option, Some, None, Result, Ok, Err}
+use Rattle.nb_model.proofs.Common.{true≢false, eqb-true, or_parts, eqb_tells, leb_tells, number_in, part, most_pages, Numbered, Head, Test, first_fault, behind, end_mark, read_end, read_singles, read_runs, pages_in, barred_after, is_bad_number, is_first_page, not_le, err_not_ok, ok_same}
 use Rattle.nb_model.proofs.ReadLaws.{AreClear, single_tests, run_tests, single_there, run_there}
 
 -- where no test fails each is passed
@@ -22,18 +16,8 @@ none_clear (t ∷ ts) e = let h = clear_head t ts e in (h.0, none_clear ts h.1)
 pub not_long : (a b : ℕ) → nat_lt a b ≡ false → b ≤ a
 not_long a b e = elim (leb_tells (suc a) b) [ inl w ↦ absurd (true≢false (sym w.0 ∙ e)) | inr w ↦ omega arith ]
 
-pub long_yes : (a b : ℕ) → nat_lt a b ≡ true → a < b
-long_yes a b e = elim (leb_tells (suc a) b) [ inl w ↦ w.1 | inr w ↦ absurd (true≢false (sym e ∙ w.0)) ]
-
-pub not_low : (a b : ℕ) → nat_le a b ≡ false → b < a
-not_low a b e = elim (leb_tells a b) [ inl w ↦ absurd (true≢false (sym w.0 ∙ e)) | inr w ↦ omega arith ]
-
 pub not_same : (a b : ℕ) → (a == b) ≡ false → a ≢ b
 not_same a b e = elim (eqb_tells a b) [ inl w ↦ absurd (true≢false (sym w.0 ∙ e)) | inr w ↦ w.1 ]
-
-pub not_not : (b : Bool) → not b ≡ false → b ≡ true
-not_not true e = refl
-not_not false e = absurd (true≢false e)
 
 -- a test of page 0 alone
 pub zero_tells : (n : ℕ) (b : Bool) → (n == 0 && not b) ≡ false → n ≡ 0 → b ≡ true
@@ -50,18 +34,7 @@ pub good : (count least n : ℕ) → is_bad_number count least n ≡ false → I
 good count least n e =
     let parts = or_parts (count == 0 && not (n == 0)) (nat_lt n least || nat_le most_pages n) e in
     let ends = or_parts (nat_lt n least) (nat_le most_pages n) parts.1 in
-    record { begins = λ none. eqb-true n 0 (zero_tells count (n == 0) parts.0 none); low = not_long n least ends.0; small = not_low most_pages n ends.1 }
-
--- what is answered is answered once
-abbrev pub held : Result (List Numbered) ℕ → List Numbered
-held (Ok rs) = rs
-held (Err at) = []
-
-pub ok_is : (x : Result (List Numbered) ℕ) (xs ys : List Numbered) → x ≡ Ok xs → x ≡ Ok ys → xs ≡ ys
-ok_is x xs ys e f = ap held (sym e ∙ f)
-
-pub no_pages : (x : Result (List Numbered) ℕ) (at : ℕ) (rs : List Numbered) → x ≡ Err at → x ≡ Ok rs → ⊥
-no_pages x at rs e f = cc
+    record { begins = λ none. eqb-true n 0 (zero_tells count (n == 0) parts.0 none); low = not_long n least ends.0; small = not_le most_pages n ends.1 }
 
 -- what is read after pages
 record IsBehind (rs : List Numbered) (rest : Result (List Numbered) ℕ) (all : List Numbered) : Type 0 where
@@ -70,8 +43,8 @@ record IsBehind (rs : List Numbered) (rest : Result (List Numbered) ℕ) (all : 
   pub is : all ≡ rs ++ more
 
 read_behind : (rs : List Numbered) (rest : Result (List Numbered) ℕ) (all : List Numbered) → behind rs rest ≡ Ok all → IsBehind rs rest all
-read_behind rs (Ok more) all e = record { more = more; read = refl; is = sym (ok_is (Ok (rs ++ more)) (rs ++ more) all refl e) }
-read_behind rs (Err at) all e = absurd (no_pages (Err at) at all refl e)
+read_behind rs (Ok more) all e = record { more = more; read = refl; is = sym (ok_same (rs ++ more) all (Ok (rs ++ more)) refl e) }
+read_behind rs (Err at) all e = absurd (err_not_ok at all (Err at) refl e)
 
 -- the first page of a file is page 0
 abbrev pub FirstIsZero : Head → List Numbered → Type 0
@@ -112,7 +85,7 @@ module _ (h : Head) (P : (count least : ℕ) (rest : List ℕ) (rs : List Number
       taken clear later = subst (P count least rest) (sym later.is) (on at count least rest later.more clear (again (at + 4 + h.size) (count + 1) (n + 1) (drop (4 + h.size) rest) later.more later.read))
 
       by_tests : nat_lt (length rest) 4 ≡ false → (n == end_mark) ≡ false → (x : Option ℕ) → first_fault (single_tests h at count least rest n) ≡ x → P count least rest rs
-      by_tests long other (Some place) is = absurd (no_pages _ place rs (singles_bad left h at count least rest place long other is) e)
+      by_tests long other (Some place) is = absurd (err_not_ok place rs _ (singles_bad left h at count least rest place long other is) e)
       by_tests long other None is = taken (none_clear (single_tests h at count least rest n) is) (read_behind ((n, part 4 h.size rest) ∷ []) _ rs (sym (single_there left h at count least rest long other is) ∙ e))
 
       by_mark : nat_lt (length rest) 4 ≡ false → (b : Bool) → (n == end_mark) ≡ b → P count least rest rs
@@ -120,11 +93,11 @@ module _ (h : Head) (P : (count least : ℕ) (rest : List ℕ) (rs : List Number
       by_mark long false is = by_tests long is (first_fault (single_tests h at count least rest n)) refl
 
       by_long : (b : Bool) → nat_lt (length rest) 4 ≡ b → P count least rest rs
-      by_long true is = absurd (no_pages _ (at + length rest) rs (singles_short left h at count least rest is) e)
+      by_long true is = absurd (err_not_ok (at + length rest) rs _ (singles_short left h at count least rest is) e)
       by_long false is = by_mark is (number_in 0 4 rest == end_mark) refl
 
   pub singles_are : (left : ℕ) → SinglesAre left
-  singles_are zero at count least rest rs e = absurd (no_pages _ at rs (singles_none h at count least rest) e)
+  singles_are zero at count least rest rs e = absurd (err_not_ok at rs _ (singles_none h at count least rest) e)
   singles_are (suc left) at count least rest rs e = singles_more left (singles_are left) at count least rest rs e
 
 runs_short : (left : ℕ) (h : Head) (at count least barred : ℕ) (rest : List ℕ) → nat_lt (length rest) 4 ≡ true → read_runs (suc left) h at count least barred rest ≡ Err (at + length rest)
@@ -168,7 +141,7 @@ module _ (h : Head) (P : (count least barred : ℕ) (rest : List ℕ) (rs : List
       taken clear later = subst (P count least barred rest) (sym later.is) (on at count least barred rest later.more clear (again (at + 8 + m * h.size) (count + m) (n + m) (barred_after n m) (drop far rest) later.more later.read))
 
       by_tests : nat_lt (length rest) 4 ≡ false → (n == end_mark) ≡ false → (x : Option ℕ) → first_fault (run_tests h at count least barred rest n m) ≡ x → P count least barred rest rs
-      by_tests long other (Some place) is = absurd (no_pages _ place rs (runs_bad left h at count least barred rest place long other is) e)
+      by_tests long other (Some place) is = absurd (err_not_ok place rs _ (runs_bad left h at count least barred rest place long other is) e)
       by_tests long other None is = taken (none_clear (run_tests h at count least barred rest n m) is) (read_behind (pages_in h.size m n (drop 8 rest)) _ rs (sym (run_there left h at count least barred rest long other is) ∙ e))
 
       by_mark : nat_lt (length rest) 4 ≡ false → (b : Bool) → (n == end_mark) ≡ b → P count least barred rest rs
@@ -176,9 +149,9 @@ module _ (h : Head) (P : (count least barred : ℕ) (rest : List ℕ) (rs : List
       by_mark long false is = by_tests long is (first_fault (run_tests h at count least barred rest n m)) refl
 
       by_long : (b : Bool) → nat_lt (length rest) 4 ≡ b → P count least barred rest rs
-      by_long true is = absurd (no_pages _ (at + length rest) rs (runs_short left h at count least barred rest is) e)
+      by_long true is = absurd (err_not_ok (at + length rest) rs _ (runs_short left h at count least barred rest is) e)
       by_long false is = by_mark is (number_in 0 4 rest == end_mark) refl
 
   pub runs_are : (left : ℕ) → RunsAre left
-  runs_are zero at count least barred rest rs e = absurd (no_pages _ at rs (runs_none h at count least barred rest) e)
+  runs_are zero at count least barred rest rs e = absurd (err_not_ok at rs _ (runs_none h at count least barred rest) e)
   runs_are (suc left) at count least barred rest rs e = runs_more left (runs_are left) at count least barred rest rs e

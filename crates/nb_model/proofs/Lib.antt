@@ -135,3 +135,4 @@ pub mod BehindLaws
 pub mod WayLaws
 pub mod ForcedLaws
 mod TableNameLaws
+mod Common

@@ -1,16 +1,6 @@
 -- The files of a line of backups give the image of its last.
-use Rattle.std.proofs.Common.{◌≡◌, ℕ, zero, suc, ◌+◌, ◌-◌, ◌<◌, ◌≤◌, List, [], ◌∷◌, ◌++◌, length, drop, refl, sym, ap, ◌∙◌, arith, length-append, append_assoc}
-use Rattle.std.proofs.lemmas.List.{append-nil, get_or_append_left}
-use Rattle.std.specs.Prelude.{true}
-use Rattle.nb_fields.specs.Bytes.{is_zeros}
-use Rattle.nb_fields.specs.Page.{stamp_of}
-use Rattle.nb_model.specs.Image.{Image, page_at, image_size, trimmed, written_at, overwritten}
-use Rattle.nb_model.specs.Account.{Kept}
-use Rattle.nb_model.specs.Levels.{taken, numbered_from}
-use Rattle.nb_model.specs.Restoring.{all_over, applied}
-use Rattle.nb_model.specs.Follows.{Follows}
-use Rattle.nb_model.specs.Sound.{HasNoZeros}
-use Rattle.nb_model.specs.Line.{IsLine, last_in, AreZeroPages, first_file, next_files}
+use Rattle.std.proofs.Common.{◌≡◌, ℕ, zero, suc, ◌+◌, ◌-◌, ◌<◌, ◌≤◌, List, [], ◌∷◌, ◌++◌, length, drop, refl, sym, ap, ◌∙◌, arith, length-append, append_assoc, true}
+use Rattle.nb_model.proofs.Common.{append-nil, get_or_append_left, is_zeros, stamp_of, Image, page_at, image_size, trimmed, written_at, overwritten, Kept, taken, numbered_from, all_over, applied, Follows, HasNoZeros, IsLine, last_in, AreZeroPages, first_file, next_files}
 use Rattle.nb_model.proofs.FollowsLaws.{meets, overwrites, written_end}
 use Rattle.nb_model.proofs.ImageLaws.{all-drop, trimmed-no_zeros, trimmed-append_zeros}
 
@@ -19,7 +9,7 @@ pub trimmed_all : (ps zs : Image) → HasNoZeros ps → AreZeroPages zs → trim
 trimmed_all ps zs h z = trimmed-append_zeros ps zs z ∙ trimmed-no_zeros ps h
 
 -- all pages written give the image
-writes_all : (size n : ℕ) (front a : Image) → length front ≡ n → overwritten size (numbered_from n a) front ≡ front ++ a
+pub writes_all : (size n : ℕ) (front a : Image) → length front ≡ n → overwritten size (numbered_from n a) front ≡ front ++ a
 unfolding overwritten numbered_from
 writes_all size n front [] e = sym (append-nil front)
 writes_all size n front (p ∷ ps) e =

@@ -1,12 +1,6 @@
 -- Lineage of mixtures: a mixture goes on from what all images go on from, and names what one of them names.
-use Rattle.std.proofs.Common.{◌≡◌, ℕ, List, sym, subst, ◌∙◌, arith}
-use Rattle.std.specs.Prelude.{Contains}
-use Rattle.nb_model.specs.Image.{Image, page_at, image_guid}
-use Rattle.nb_model.specs.Account.{Base, Kept}
-use Rattle.nb_model.specs.Sound.{IsSoundImage}
-use Rattle.nb_model.specs.Stands.{IsKeptAs, GoesOn, HasRows, NamesPast}
-use Rattle.nb_model.specs.Follows.{Follows}
-use Rattle.nb_model.specs.Trail.{images, IsMixture}
+use Rattle.std.proofs.Common.{◌≡◌, ℕ, List, sym, subst, ◌∙◌, arith, Contains}
+use Rattle.nb_model.proofs.Common.{Image, page_at, image_guid, Base, Kept, IsSoundImage, IsKeptAs, GoesOn, HasRows, NamesPast, Follows, images, IsMixture}
 use Rattle.nb_model.proofs.FollowsLaws.{follows_mixed}
 use Rattle.nb_model.proofs.PastLaws.{rows_with}
 use Rattle.nb_model.proofs.MixtureLaws.{all_images, mixed_size, mixed_scn, mixed_guid, mixture_mixed}

@@ -1,36 +1,15 @@
 -- The files go on to stand for the account where a backup or a copy makes files.
-use Rattle.std.proofs.Common.{◌≡◌, ◌≢◌, ◌≤◌, ◌⊎◌, inl, inr, ℕ, zero, suc, List, [], ◌∷◌, length, take, refl, sym, ap, subst, ◌∙◌, arith}
-use Rattle.std.specs.Prelude.{Bool, true, false, if◌then◌else◌, ◌==◌, Option, Some, None, Result, Ok, Err, IsTrue, Contains}
-use Rattle.std.specs.Cmp.Lexicographic.{told_text}
-use Rattle.std.proofs.lemmas.Bool.{true≢false, and_parts}
-use Rattle.std.proofs.lemmas.Bool.Decides.{eqb_tells}
-use Rattle.std.proofs.lemmas.List.{append-nil, take_at}
-use Rattle.nb_fields.specs.Bytes.{bytes_of, number_in, part}
-use Rattle.nb_fields.specs.Free.{is_free_file}
-use Rattle.nb_fields.specs.Header.{is_header, state_of, guid_of}
-use Rattle.nb_fields.proofs.NumberLaws.{number_of-bytes_of}
-use Rattle.nb_fields.proofs.PartLaws.{part-take, length-part}
-use Rattle.nb_fields.specs.States.{stalled_state, applying_state}
-use Rattle.nb_host.specs.Files.{File, Files, with_file}
-use Rattle.nb_host.specs.Names.{same_name, is_delta}
-use Rattle.nb_host.specs.declared.refusals.Refusal.{Refusal}
-use Rattle.nb_host.specs.declared.refusals.Refusal.TheVariants.{NoFile}
-use Rattle.nb_model.specs.Image.{Image, Numbered, first_page}
-use Rattle.nb_model.specs.Account.{Ask, Kept, Base, Entry, Plain, IsBase, Account, with_entry}
-use Rattle.nb_model.specs.Causes.{Cause, not_database}
-use Rattle.nb_model.specs.Levels.{Head, Contents, first_fault, head_for, head_in, head_then, joined, changed, level_bytes, file_for, file_of, read_level, read_pages, with_head}
-use Rattle.nb_model.specs.Making.{MadeFile, IsNoneOf, IsOfKept, its_file, its_pages, IsNoBackup}
-use Rattle.nb_model.specs.Owner.{delta_name, owner, owner_in, owner_with, entry_in, entry_of_files}
-use Rattle.nb_model.specs.Stands.{IsKeptAs, IsBegun, IsFileOf, IsCopyOf, IsSpan, HoldsItsRecord, is_applying, Stands}
+use Rattle.std.proofs.Common.{◌≡◌, ◌≢◌, ◌≤◌, ◌⊎◌, inl, inr, ℕ, zero, suc, List, [], ◌∷◌, length, take, refl, sym, ap, subst, ◌∙◌, arith, Bool, true, false, if◌then◌else◌, ◌==◌, Option, Some, None, Result, Ok, Err, IsTrue, Contains}
+use Rattle.nb_model.proofs.Common.{told_text, true≢false, and_parts, eqb_tells, append-nil, take_at, bytes_of, number_in, part, is_free_file, is_header, state_of, guid_of, number_of-bytes_of, part-take, length-part, stalled_state, applying_state, File, Files, with_file, same_name, is_delta, Refusal, NoFile, Image, Numbered, first_page, Ask, Kept, Base, Entry, Plain, IsBase, Account, with_entry, Cause, not_database, Head, Contents, first_fault, head_for, head_in, head_then, joined, changed, level_bytes, file_for, file_of, read_level, read_pages, with_head, MadeFile, IsNoneOf, IsOfKept, its_file, its_pages, IsNoBackup, delta_name, owner, owner_with, entry_in, entry_of_files, IsKeptAs, IsBegun, IsFileOf, IsCopyOf, IsSpan, HoldsItsRecord, is_applying, Stands, decide, same_self, some_same, err_not_ok, err_ok}
+use Rattle.nb_model.specs.Owner.{owner_in}
 use Rattle.nb_model.proofs.FreeLaws.{closed_under, free_under, stands_files}
 use Rattle.nb_model.proofs.FrontLaws.{owner_of_entry}
 use Rattle.nb_model.proofs.HeaderLaws.{header-long, same-header, same-number}
 use Rattle.nb_model.proofs.LevelLaws.{begins_there}
 use Rattle.nb_model.proofs.MainLaws.{owner-formed, owner-refused, owner-none}
 use Rattle.nb_model.proofs.OpenedLaws.{joined_front, has_main}
-use Rattle.nb_model.proofs.RunLaws.{same_self}
 use Rattle.nb_model.proofs.SoundLaws.{kind_of_header}
-use Rattle.nb_model.proofs.StandsLaws.{names_tell, delta_named, no_main, StandsUnder, formed_header, no_level_begins, header_no_level, state_of_applying, stands_with_both}
+use Rattle.nb_model.proofs.StandsLaws.{delta_named, no_main, StandsUnder, formed_header, no_level_begins, header_no_level, state_of_applying, stands_with_both}
 
 -- Whole, the file holds the record that it names, isn't opened without a difference file, and waits for no merge.
 pub record IsWholeFile (kept : List Kept) (bytes : List ℕ) : Type 0 where
@@ -43,12 +22,6 @@ pub data IsInMaking (kept : List Kept) (file : File) : Type 0 where
   is_free : is_free_file file ≡ true → IsInMaking kept file
   unfinished : ((bytes : List ℕ) → file ≡ Some bytes → IsNoBackup bytes) → IsInMaking kept file
   whole : (bytes : List ℕ) → file ≡ Some bytes → IsWholeFile kept bytes → IsInMaking kept file
-
-some_same : (a b : List ℕ) → Some a ≡ Some b → a ≡ b
-some_same a b e = cc
-
-err_ok : (answer : Result Base Refusal) (r : Refusal) (b : Base) → answer ≡ Err r → answer ≡ Ok b → ⊥
-err_ok answer r b e f = cc
 
 -- bytes that are opened have a header
 opened_header : (name bytes : List ℕ) (delta : File) (b : Base) → owner name (Some bytes) delta ≡ Ok b → is_header bytes ≡ true
@@ -70,16 +43,13 @@ read_head : (bytes : List ℕ) (c : Contents) → read_level bytes ≡ Ok c → 
 unfolding read_level
 read_head bytes c reads = by (first_fault _) reads
   where
-    err_ok : (at : ℕ) → Err at ≡ Ok c → ⊥
-    err_ok at e = cc
-
     of_pages : (pages : Result (List Numbered) ℕ) → with_head (number_in 4 2 bytes) (head_in bytes) pages ≡ Ok c → (c.version ≡ number_in 4 2 bytes) × (c.head ≡ head_in bytes)
-    of_pages (Err at) e = absurd (err_ok at e)
+    of_pages (Err at) e = absurd (err_ok at c e)
     of_pages (Ok rs) e = let same : record { version = number_in 4 2 bytes; head = head_in bytes; pages = rs } ≡ c = cc in (ap (λ (x : Contents). x.version) (sym same), ap (λ (x : Contents). x.head) (sym same))
 
     by : (fault : Option ℕ) → elim fault as (λ z. Result Contents ℕ) [ Some place ↦ Err place | None ↦ with_head (number_in 4 2 bytes) (head_in bytes) (read_pages (number_in 4 2 bytes) (head_in bytes) bytes) ] ≡ Ok c
         → (c.version ≡ number_in 4 2 bytes) × (c.head ≡ head_in bytes)
-    by (Some place) e = absurd (err_ok place e)
+    by (Some place) e = absurd (err_ok place c e)
     by None e = of_pages (read_pages (number_in 4 2 bytes) (head_in bytes) bytes) e
 
 -- the bytes of a level begin with no header, and spell the version and the GUID
@@ -96,7 +66,7 @@ unfolding level_bytes head_in head_then bytes_of
 level_guid h rs sixteen = take_at h.guid _ 16 sixteen
 
 none_opened : (name : List ℕ) (b : Base) → owner name None None ≡ Ok b → ⊥
-none_opened name b opens = err_ok (owner name None None) (NoFile name) b (owner-none name None) opens
+none_opened name b opens = err_not_ok (NoFile name) b (owner name None None) (owner-none name None) opens
 
 -- in the stalled state a file isn't opened without a difference file
 stalled_alone : (name bytes : List ℕ) → owner_in 1 name bytes None ≡ Err (NoFile (delta_name name))
@@ -127,9 +97,9 @@ module _ (all kept : List Kept) (among : (r : Kept) → Contains kept r → Cont
       }
     where
       alone : (name : List ℕ) (b : Base) (c : Cause) → not_database (joined r.image) ≡ c → state_of (joined r.image) ≡ stalled_state → owner name (Some (joined r.image)) None ≡ Ok b → ⊥
-      alone name b (Some x) is stalled opens = err_ok _ x b (owner-refused name (joined r.image) None x is) opens
+      alone name b (Some x) is stalled opens = err_not_ok x b _ (owner-refused name (joined r.image) None x is) opens
       alone name b None is stalled opens =
-          err_ok _ (NoFile (delta_name name)) b (owner-formed name (joined r.image) None is ∙ ap (λ (n : ℕ). owner_in n name (joined r.image) None) stalled ∙ stalled_alone name (joined r.image)) opens
+          err_not_ok (NoFile (delta_name name)) b _ (owner-formed name (joined r.image) None is ∙ ap (λ (n : ℕ). owner_in n name (joined r.image) None) stalled ∙ stalled_alone name (joined r.image)) opens
 
   -- the bytes of a level of a record, where they are its file or that of a span of it
   spelled_whole : (r : Kept) (ask : Ask) (bytes : List ℕ) → Contains all r → bytes ≡ level_bytes 102 (head_for r ask) (changed ask.previous_scn r.image) → IsFileOf kept 102 r bytes → IsWholeFile kept bytes
@@ -300,7 +270,7 @@ stands_those new (f ∷ fs) old account stands each others =
         ∙ ap (λ (x : File). entry_of_files f.0 (new f.0) x) (mid_delta f.0 ∙ sym (others (delta_name f.0) (no_delta old new account.kept (f ∷ fs) each f.0)))
 
     rest : (m : List ℕ) → IsNoneOf fs m → new m ≡ mid m
-    rest m none = elim (names_tell m f.0) [
+    rest m none = elim (decide m f.0) [
       | inl same ↦ ap new same ∙ sym (ap mid same ∙ file_same old f.0 (new f.0))
       | inr off ↦ others m (none_then off) ∙ sym (file_other old f.0 m (new f.0) off)
     ]

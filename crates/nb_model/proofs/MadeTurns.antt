@@ -1,22 +1,8 @@
 -- The files that turns make are those of records that are kept: of the backup that is under way, or of the one that stands stalled.
-use Rattle.std.proofs.Common.{◌≡◌, ⊎_elim, ℕ, zero, suc, ◌-◌, List, [], ◌∷◌, ◌++◌, map, take, get_or, refl, sym, ap, subst, ◌∙◌, arith}
-use Rattle.std.specs.Prelude.{Contains, true}
-use Rattle.std.proofs.lemmas.List.Elements.{Contains-append_left, Contains-append_cases}
-use Rattle.nb_model.specs.declared.statement.Statement.{Statement}
-use Rattle.nb_model.specs.Account.{Kept, Base}
-use Rattle.nb_model.specs.Going.{AreBeginnings, AreNamed, Runs, IsGoing}
-use Rattle.nb_model.specs.Image.{image_state}
-use Rattle.nb_model.specs.Levels.{joined}
-use Rattle.nb_model.specs.Making.{MadeFile, kept_of, making, IsOfKept, its_file, its_pages}
-use Rattle.nb_model.specs.Outcomes.{Turn, Begins, Copies, ClosesBackup, ClosesCopy, Ends, Merges, Finishes}
-use Rattle.nb_model.specs.Run.{Now, Event, Played, base_now, one_turn, play, begun, files_made, strokes_of}
-use Rattle.nb_model.specs.Steps.{Step, after_steps, steps_of, strokes_in}
-use Rattle.nb_model.specs.Strokes.{records_after}
-use Rattle.nb_model.specs.Trail.{Trail, settled}
-use Rattle.nb_model.specs.Well.{IsOfRecord}
-use Rattle.nb_model.specs.WellTrail.{IsWellTrail}
+use Rattle.std.proofs.Common.{◌≡◌, ⊎_elim, ℕ, zero, suc, ◌-◌, List, [], ◌∷◌, ◌++◌, map, take, get_or, refl, sym, ap, subst, ◌∙◌, arith, Contains, true}
+use Rattle.nb_model.proofs.Common.{Contains-append_left, Contains-append_cases, Statement, Kept, Base, AreBeginnings, AreNamed, Runs, IsGoing, image_state, joined, MadeFile, kept_of, making, IsOfKept, its_file, its_pages, Turn, Begins, Copies, ClosesBackup, ClosesCopy, Ends, Merges, Finishes, Now, Event, Played, base_now, one_turn, play, begun, files_made, strokes_of, Step, after_steps, steps_of, strokes_in, records_after, Trail, settled, IsOfRecord, IsWellTrail, none_in}
 use Rattle.nb_model.proofs.GuidLaws.{strokes_in_steps}
-use Rattle.nb_model.proofs.GoingLaws.{begun_at, going_turn, named_turn}
+use Rattle.nb_model.proofs.GoingLaws.{begun_at, going_turn, named_turn, none_made}
 use Rattle.nb_model.proofs.MakingLaws.{to_make, made_append, made_among}
 use Rattle.nb_model.proofs.SteadyLaws.{WellAlong, along_front, kept_along, kept_append, kept_is, along_last}
 use Rattle.nb_model.proofs.SteadyTurns.{beginnings_recorded, AreRecorded, AllRecorded, StaysWell, one_well, play_along}
@@ -42,13 +28,10 @@ of_kept_more kept more bytes (its_pages r there is) = its_pages r (Contains-appe
 pub of_kept_along : (kept : List Kept) (t : Trail) (ss : List Step) (bytes : List ℕ) → IsOfKept kept bytes → IsOfKept (kept_along kept t ss) bytes
 of_kept_along kept t ss bytes is = subst (λ (rs : List Kept). IsOfKept rs bytes) (sym (kept_is kept t ss)) (of_kept_more kept (records_after t.base (strokes_in ss)) bytes is)
 
-none_there : (f : MadeFile) → Contains [] f → ⊥
-none_there f there = absurd (omega (arith, there.1))
-
 -- of turns that close recorded backups, and copies of the pages of a record
 of_turns : (kept : List Kept) (t : Trail) (turns : List Turn) → AreRecorded kept t turns → IsOfKept kept (joined t.base.frozen) → (f : MadeFile) → Contains (making t.base.frozen turns) f → IsOfKept kept f.1
 unfolding making
-of_turns kept t [] recorded pages f there = absurd (none_there f there)
+of_turns kept t [] recorded pages f there = absurd (none_in f there)
 of_turns kept t (ClosesBackup b ∷ turns) recorded pages f (zero, low, is) = subst (λ (g : MadeFile). IsOfKept kept g.1) is (its_file (kept_of b t.base.frozen) recorded.0.there refl)
 of_turns kept t (ClosesBackup b ∷ turns) recorded pages f (suc k, low, is) = of_turns kept t turns recorded.1 pages f (k, omega (arith, low), is)
 of_turns kept t (ClosesCopy name ∷ turns) recorded pages f (zero, low, is) = subst (λ (g : MadeFile). IsOfKept kept g.1) is pages
@@ -72,15 +55,11 @@ module _ (kept : List Kept) (t : Trail) (now : Now) (base : t.base ≡ base_now 
   pub made_of_kept : (session : ℕ) (f : MadeFile) → Contains (files_made (one_turn session now).0) f → IsOfKept kept f.1
   made_of_kept session f there = place_of_kept (session - 1) f (made_among session now going f there)
 
-none_made : files_made [] ≡ []
-unfolding files_made
-none_made = refl
-
 -- So is all that turns in an order make.
 pub play_of_kept : (order : List ℕ) (kept : List Kept) (t : Trail) (now : Now) → t.base ≡ base_now now → IsWellTrail kept t → IsGoing true now → AreNamed now → AllRecorded kept t now
     → (f : MadeFile) → Contains (files_made (play order now).0) f → IsOfKept (kept_along kept t (steps_of (play order now).0)) f.1
 unfolding play
-play_of_kept [] kept t now base w going named recorded f there = absurd (none_there f (subst (λ (fs : List MadeFile). Contains fs f) none_made there))
+play_of_kept [] kept t now base w going named recorded f there = absurd (none_in f (subst (λ (fs : List MadeFile). Contains fs f) none_made there))
 play_of_kept (x ∷ xs) kept t now base w going named recorded f there =
     let es : List Event = (one_turn x now).0 in
     let mid : Now = (one_turn x now).1 in

@@ -1,25 +1,8 @@
 -- A main file in the normal state: the database of it, and where its pages stand.
-use Rattle.std.proofs.Common.{◌≡◌, ◌≢◌, ◌⊎◌, inl, inr, ℕ, zero, suc, ◌*◌, ◌<◌, ◌≤◌, List, [], ◌∷◌, ◌++◌, length, take, drop, refl, sym, ap, subst, ◌∙◌, arith, append_assoc, length-append, length-take-le, take-take, mul-le-mul_left}
-use Rattle.std.specs.Prelude.{Bool, true, false, IsTrue, ◌==◌, Option, Some, None, Result, Ok, Err, max}
-use Rattle.std.proofs.lemmas.Bool.{eqb-false}
-use Rattle.std.proofs.lemmas.Bool.Decides.{leb_tells}
-use Rattle.std.proofs.lemmas.List.{take-append-le, take_at}
-use Rattle.nb_fields.specs.Bytes.{is_zeros}
-use Rattle.nb_fields.specs.Header.{is_header, state_of, size_of}
-use Rattle.nb_fields.specs.Places.{is_page_size, most_pages}
+use Rattle.std.proofs.Common.{◌≡◌, ◌≢◌, ◌⊎◌, inl, inr, ℕ, zero, suc, ◌*◌, ◌<◌, ◌≤◌, List, [], ◌∷◌, ◌++◌, length, take, drop, refl, sym, ap, subst, ◌∙◌, arith, append_assoc, length-append, length-take-le, take-take, mul-le-mul_left, Bool, true, false, IsTrue, ◌==◌, Option, Some, None, Result, Ok, Err, max}
+use Rattle.nb_model.proofs.Common.{eqb-false, leb_tells, take-append-le, take_at, is_zeros, is_header, state_of, size_of, is_page_size, most_pages, size_facts, normal_state, stalled_state, merge_state, File, Refusal, NoFile, BadDelta, Unfinished, Page, Image, page_at, first_page, image_size, image_state, image_in, cut, trimmed, Cause, not_database, joined, IsOfSize, Base, base_of, delta_name, entry_for, behind_entries, slot_page, main_page, owned_page, owned_from, owned, diverted_base, owner_with, owner, HoldsMain, ok_same, err_ok}
 use Rattle.nb_fields.specs.Table.{table_of}
-use Rattle.nb_fields.proofs.SizeLaws.{size_facts}
-use Rattle.nb_fields.specs.States.{normal_state, stalled_state, merge_state}
-use Rattle.nb_host.specs.Files.{File}
-use Rattle.nb_host.specs.declared.refusals.Refusal.{Refusal}
-use Rattle.nb_host.specs.declared.refusals.Refusal.TheVariants.{NoFile, BadDelta, Unfinished}
-use Rattle.nb_model.specs.Image.{Page, Image, page_at, first_page, image_size, image_state, image_in, cut, trimmed}
-use Rattle.nb_model.specs.Causes.{Cause, not_database}
-use Rattle.nb_model.specs.Levels.{joined}
-use Rattle.nb_model.specs.Sound.{IsOfSize}
-use Rattle.nb_model.specs.Account.{Base, base_of}
-use Rattle.nb_model.specs.Owner.{delta_name, entry_for, behind_entries, slot_page, main_page, owned_page, owned_from, owned, diverted_base, owner_with, owner_in, owner}
-use Rattle.nb_model.specs.Main.{HoldsMain}
+use Rattle.nb_model.specs.Owner.{owner_in}
 use Rattle.nb_model.proofs.FormLaws.{Formed, formed, no_cause}
 use Rattle.nb_model.proofs.HeaderLaws.{header-long, header-state, header-other, same-header, same-number}
 use Rattle.nb_model.proofs.ImageLaws.{AreZeros, IsTrimmed, Pages, pages_of, cut-joined, page-joined, length-joined, trimming, trimmed-other, trimmed-append_zeros, all-append, all-left}
@@ -53,18 +36,12 @@ whole_laid image bytes out whole = record { rest = out.rest; is = out.is; size =
 
 -- an image with a header has a page
 pub some_page : (image : Image) → is_header (first_page image) ≡ true → 1 ≤ length image
-some_page [] h = absurd (none (header-long [] h))
-  where
-    none : 64 ≤ 0 → ⊥
-    none k = omega arith
+some_page [] h = absurd (let few : 64 ≤ 0 = header-long [] h in omega (arith, few))
 some_page (p ∷ ps) h = omega arith
 
 -- its first 64 bytes are those of the file
 pub laid-front : (image : Image) (bytes : List ℕ) → IsLaid image bytes → take 64 bytes ≡ take 64 (first_page image)
-laid-front [] bytes laid = absurd (none (some_page [] laid.header))
-  where
-    none : 1 ≤ 0 → ⊥
-    none k = omega arith
+laid-front [] bytes laid = absurd (let few : 1 ≤ 0 = some_page [] laid.header in omega (arith, few))
 laid-front (p ∷ ps) bytes laid = ap (take 64) laid.is ∙ take-append-le 64 p (joined (ps ++ laid.rest)) (header-long p laid.header)
 
 pub laid-wide : (image : Image) (bytes : List ℕ) → IsLaid image bytes → 1024 ≤ image_size image
@@ -238,9 +215,6 @@ pub owner-refused : (name bytes : List ℕ) (delta : File) (r : Refusal) → not
 unfolding owner
 owner-refused name bytes delta r e = rw (e, owner) refl
 
-pub ok_same : (a b : Base) (answer : Result Base Refusal) → answer ≡ Ok a → answer ≡ Ok b → a ≡ b
-ok_same a b answer e f = cc
-
 -- the image of a database whose difference file is there
 abbrev by_table : (bytes delta : List ℕ) → Result (List ℕ) ℕ → Result Base Refusal
 by_table bytes delta found = elim found [ Err page ↦ Err (BadDelta page) | Ok table ↦ Ok (diverted_base bytes delta table) ]
@@ -256,18 +230,12 @@ record Diverts (bytes : List ℕ) (base : Base) : Type 0 where
   is : diverted_base bytes delta table ≡ base
 
 table-base : (bytes delta : List ℕ) (found : Result (List ℕ) ℕ) (base : Base) → by_table bytes delta found ≡ Ok base → Diverts bytes base
-table-base bytes delta (Err page) base e = absurd (err_ok e)
-  where
-    err_ok : Err (BadDelta page) ≡ Ok base → ⊥
-    err_ok h = cc
+table-base bytes delta (Err page) base e = absurd (err_ok (BadDelta page) base e)
 table-base bytes delta (Ok table) base e = record { delta = delta; table = table; is = ok_same (diverted_base bytes delta table) base (by_table bytes delta (Ok table)) refl e }
 
 with-base : (name bytes : List ℕ) (delta : File) (base : Base) → owner_with name bytes delta ≡ Ok base → Diverts bytes base
 unfolding owner_with
-with-base name bytes None base e = absurd (err_ok e)
-  where
-    err_ok : Err (NoFile (delta_name name)) ≡ Ok base → ⊥
-    err_ok h = cc
+with-base name bytes None base e = absurd (err_ok (NoFile (delta_name name)) base e)
 with-base name bytes (Some delta) base e = table-base bytes delta (table_of (size_of bytes) delta) base e
 
 in-base : (k : ℕ) (name bytes : List ℕ) (delta : File) (base : Base) → owner_in (suc k) name bytes delta ≡ Ok base → Diverts bytes base × ((k == 2) ≡ false)
@@ -275,10 +243,7 @@ unfolding owner_in
 in-base k name bytes delta base = by (k == 2) refl
   where
     by : (t : Bool) → (k == 2) ≡ t → elim t as (λ z. Result Base Refusal) [ true ↦ Err Unfinished | false ↦ owner_with name bytes delta ] ≡ Ok base → Diverts bytes base × ((k == 2) ≡ false)
-    by true is e = absurd (err_ok e)
-      where
-        err_ok : Err Unfinished ≡ Ok base → ⊥
-        err_ok h = cc
+    by true is e = absurd (err_ok Unfinished base e)
     by false is e = (with-base name bytes delta base e, is)
 
 -- The database of a main file and the difference file beside it, in the stalled or the merge state.
@@ -294,10 +259,7 @@ pub record IsDiverted (base : Base) (file : File) : Type 0 where
 
 -- a database that can be opened is of a main file in the normal state, or has a difference file
 pub owner_cases : (name : List ℕ) (base : Base) (m d : File) → owner name m d ≡ Ok base → HoldsMain base.image m ⊎ IsDiverted base m
-owner_cases name base None d e = absurd (err_ok (sym (owner-none name d) ∙ e))
-  where
-    err_ok : Err (NoFile name) ≡ Ok base → ⊥
-    err_ok h = cc
+owner_cases name base None d e = absurd (err_ok (NoFile name) base (sym (owner-none name d) ∙ e))
 owner_cases name base (Some bytes) d e = by_cause (not_database bytes) refl
   where
     by_state : not_database bytes ≡ None → (state : ℕ) → state_of bytes ≡ state → owner_in state name bytes d ≡ Ok base → HoldsMain base.image (Some bytes) ⊎ IsDiverted base (Some bytes)
@@ -325,10 +287,7 @@ owner_cases name base (Some bytes) d e = by_cause (not_database bytes) refl
         one_or_two (suc (suc (suc k))) is most other = absurd (omega arith)
 
     by_cause : (cause : Cause) → not_database bytes ≡ cause → HoldsMain base.image (Some bytes) ⊎ IsDiverted base (Some bytes)
-    by_cause (Some r) none = absurd (err_ok (sym (owner-refused name bytes d r none) ∙ e))
-      where
-        err_ok : Err r ≡ Ok base → ⊥
-        err_ok h = cc
+    by_cause (Some r) none = absurd (err_ok r base (sym (owner-refused name bytes d r none) ∙ e))
     by_cause None none = by_state none (state_of bytes) refl (sym (owner-formed name bytes d none) ∙ e)
 
 -- so one whose image is in the normal state is that of a main file in the normal state

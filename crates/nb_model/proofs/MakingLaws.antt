@@ -1,27 +1,7 @@
 -- The files that turns make: each was to be made before, under a name that was free, and each but once.
-use Rattle.std.proofs.Common.{◌≡◌, ◌≢◌, inl, inr, ⊎_elim, ◌⊎◌, ℕ, zero, suc, ◌-◌, List, [], ◌∷◌, ◌++◌, take, replicate, get_or, refl, sym, ap, subst, ◌∙◌, arith, append_assoc}
-use Rattle.std.specs.Prelude.{Bool, Option, Some, None, true, false, ◌==◌, Contains}
-use Rattle.std.proofs.lemmas.Bool.{true≢false, and_parts, false_from_ne_true}
-use Rattle.std.proofs.lemmas.Bool.Decides.{eqb_tells}
-use Rattle.std.proofs.lemmas.List.{append-nil}
-use Rattle.std.proofs.lemmas.List.Elements.{Contains-append_left, Contains-append_right, Contains-append_cases}
-use Rattle.nb_fields.specs.Free.{is_free_file}
-use Rattle.nb_fields.specs.Header.{is_header}
-use Rattle.nb_fields.specs.States.{stalled_state}
-use Rattle.nb_model.specs.declared.reply.Reply.{Reply}
-use Rattle.nb_model.specs.declared.statement.Statement.{Statement}
-use Rattle.nb_model.specs.Account.{Base, Plain, IsBase}
-use Rattle.nb_model.specs.Backups.{close_backup, close_copy}
-use Rattle.nb_model.specs.Causes.{is_free_entry}
-use Rattle.nb_model.specs.Going.{AreBeginnings, AreMerging, AreNamed, Runs, IsAt, waits, backs_up, copies, ends as ending, merges, IsGoing, IsMaking}
-use Rattle.nb_model.specs.Image.{Image, Numbered, first_page, image_state}
-use Rattle.nb_model.specs.Levels.{Head, head_then, level_bytes, head_for, changed, file_for, file_of, joined}
-use Rattle.nb_model.specs.Making.{MadeFile, kept_of, making, making_by, making_all, under_way, AreAmong, NamesOnce}
-use Rattle.nb_model.specs.Outcomes.{Turn, Begins, Copies, ClosesBackup, ClosesCopy, Ends, Merges, Finishes, Backing, Seen, Outcome}
-use Rattle.nb_model.specs.Pages.{ends_by}
-use Rattle.nb_model.specs.Run.{Now, Event, Played, base_now, with_made, account_after, outcome, stands_then, one_turn, play, event_of, files_made, AreFinished}
-use Rattle.nb_model.specs.Strokes.{base_in, base_after}
-use Rattle.nb_model.specs.Turns.{first_turn, turn}
+use Rattle.std.proofs.Common.{◌≡◌, ◌≢◌, inl, inr, ⊎_elim, ◌⊎◌, ℕ, zero, suc, ◌-◌, List, [], ◌∷◌, ◌++◌, take, replicate, get_or, refl, sym, ap, subst, ◌∙◌, arith, append_assoc, Bool, Option, Some, None, true, false, ◌==◌, Contains}
+use Rattle.nb_model.proofs.Common.{true≢false, and_parts, false_from_ne_true, eqb_tells, append-nil, Contains-append_left, Contains-append_right, Contains-append_cases, is_free_file, is_header, stalled_state, Reply, Statement, Base, Plain, IsBase, close_backup, close_copy, is_free_entry, AreBeginnings, AreMerging, AreNamed, Runs, IsAt, waits, backs_up, copies, merges, IsGoing, IsMaking, Image, Numbered, first_page, image_state, Head, head_then, level_bytes, head_for, changed, file_for, file_of, joined, MadeFile, kept_of, making, making_by, making_all, under_way, AreAmong, NamesOnce, Turn, Begins, Copies, ClosesBackup, ClosesCopy, Ends, Merges, Finishes, Backing, Seen, Outcome, ends_by, Now, Event, Played, base_now, with_made, account_after, outcome, stands_then, one_turn, play, event_of, files_made, AreFinished, base_in, base_after, first_turn, turn, decide, none_in}
+use Rattle.nb_model.specs.Going.{ends as ending}
 use Rattle.nb_model.proofs.FreeLaws.{free_cases}
 use Rattle.nb_model.proofs.GoingLaws.{IsUndisturbed, one_runs, one_cases, own_in_use, own_todo, then_base, going_turn, named_turn, making_turn, others_stay, none_made}
 use Rattle.nb_model.proofs.HeaderLaws.{first_byte, same-header, same-number}
@@ -30,16 +10,13 @@ use Rattle.nb_model.proofs.OpeningLaws.{in_use}
 use Rattle.nb_model.proofs.RunLaws.{entry_same}
 use Rattle.nb_model.proofs.SoundLaws.{kind_of_header}
 use Rattle.nb_model.proofs.SoundTurns.{seen_now}
-use Rattle.nb_model.proofs.StandsLaws.{names_tell, entry_other}
+use Rattle.nb_model.proofs.StandsLaws.{entry_other}
 use Rattle.nb_model.proofs.TurnCases.{begin_either, end_either, backup_either, since_either, copy_either, pages_once, statement_cases}
 
 -- one element
-one_held : (f g : MadeFile) → Contains (f ∷ []) g → f ≡ g
+pub one_held : (f g : MadeFile) → Contains (f ∷ []) g → f ≡ g
 one_held f g (zero, low, is) = is
 one_held f g (suc i, low, is) = absurd (omega (arith, low))
-
-none_held : (f : MadeFile) → Contains [] f → ⊥
-none_held f h = omega (arith, h.1)
 
 held_as : (xs ys : List MadeFile) (f : MadeFile) → xs ≡ ys → Contains xs f → Contains ys f
 held_as xs ys f e h = subst (λ (l : List MadeFile). Contains l f) e h
@@ -60,13 +37,13 @@ one_making : (frozen : Image) (t : Turn) (f g : MadeFile) → Contains (making f
 unfolding making
 one_making frozen (ClosesBackup backing) f g a b = sym (one_held _ f a) ∙ one_held _ g b
 one_making frozen (ClosesCopy name) f g a b = sym (one_held _ f a) ∙ one_held _ g b
-one_making frozen (Begins statement) f g a b = absurd (none_held f a)
-one_making frozen Copies f g a b = absurd (none_held f a)
-one_making frozen (Ends reply) f g a b = absurd (none_held f a)
-one_making frozen Merges f g a b = absurd (none_held f a)
-one_making frozen (Finishes reply) f g a b = absurd (none_held f a)
+one_making frozen (Begins statement) f g a b = absurd (none_in f a)
+one_making frozen Copies f g a b = absurd (none_in f a)
+one_making frozen (Ends reply) f g a b = absurd (none_in f a)
+one_making frozen Merges f g a b = absurd (none_in f a)
+one_making frozen (Finishes reply) f g a b = absurd (none_in f a)
 
-beginnings_make : (frozen : Image) (ts : List Turn) → AreBeginnings ts → making frozen ts ≡ []
+pub beginnings_make : (frozen : Image) (ts : List Turn) → AreBeginnings ts → making frozen ts ≡ []
 unfolding making
 beginnings_make frozen [] all = refl
 beginnings_make frozen (Begins statement ∷ ts) all = beginnings_make frozen ts all.1
@@ -127,25 +104,25 @@ module _ (now : Now) (place : ℕ) where
   at_makes ts (merges turns runs) = inl (merging_makes frozen_now ts turns)
 
   pub to_make : {sound : Bool} (ts : List Turn) (f : MadeFile) → IsAt sound now place ts → Contains (making frozen_now ts) f → IsToMake now place ts f
-  to_make ts f at held = ⊎_elim (λ none. absurd (none_held f (held_as (making frozen_now ts) [] f none held)))
+  to_make ts f at held = ⊎_elim (λ none. absurd (none_in f (held_as (making frozen_now ts) [] f none held)))
       (λ one. subst (IsToMake now place ts) (one_held one.0 f (held_as (making frozen_now ts) (one.0 ∷ []) f one.1.only held)) one.1) (at_makes ts at)
 
   -- where one is to be made after the next turn, that one copies a page
   copies_before : {sound : Bool} (u : Turn) (rest : List Turn) (f : MadeFile) → IsAt sound now place (u ∷ rest) → Contains (making frozen_now rest) f → u ≡ Copies
-  copies_before u rest f (waits all) held = absurd (none_held f (held_as (making frozen_now rest) [] f (beginnings_make frozen_now rest all.1) held))
+  copies_before u rest f (waits all) held = absurd (none_in f (held_as (making frozen_now rest) [] f (beginnings_make frozen_now rest all.1) held))
   copies_before u rest f (backs_up left b tail e all runs room free) held = by left e
     where
       by : (n : ℕ) → u ∷ rest ≡ replicate n Copies ++ ClosesBackup b ∷ tail → u ≡ Copies
-      by zero e = let same : rest ≡ tail = cc in absurd (none_held f (held_as (making frozen_now rest) [] f (ap (making frozen_now) same ∙ beginnings_make frozen_now tail all) held))
+      by zero e = let same : rest ≡ tail = cc in absurd (none_in f (held_as (making frozen_now rest) [] f (ap (making frozen_now) same ∙ beginnings_make frozen_now tail all) held))
       by (suc n) e = cc
   copies_before u rest f (copies left name tail e all runs free) held = by left e
     where
       by : (n : ℕ) → u ∷ rest ≡ replicate n Copies ++ ClosesCopy name ∷ tail → u ≡ Copies
-      by zero e = let same : rest ≡ tail = cc in absurd (none_held f (held_as (making frozen_now rest) [] f (ap (making frozen_now) same ∙ beginnings_make frozen_now tail all) held))
+      by zero e = let same : rest ≡ tail = cc in absurd (none_in f (held_as (making frozen_now rest) [] f (ap (making frozen_now) same ∙ beginnings_make frozen_now tail all) held))
       by (suc n) e = cc
   copies_before u rest f (ending reply tail e all runs) held =
-      let same : rest ≡ tail = cc in absurd (none_held f (held_as (making frozen_now rest) [] f (ap (making frozen_now) same ∙ beginnings_make frozen_now tail all) held))
-  copies_before u rest f (merges turns runs) held = absurd (none_held f (held_as (making frozen_now rest) [] f (none u turns) held))
+      let same : rest ≡ tail = cc in absurd (none_in f (held_as (making frozen_now rest) [] f (ap (making frozen_now) same ∙ beginnings_make frozen_now tail all) held))
+  copies_before u rest f (merges turns runs) held = absurd (none_in f (held_as (making frozen_now rest) [] f (none u turns) held))
     where
       none : (u : Turn) → AreMerging (u ∷ rest) → making frozen_now rest ≡ []
       none Merges turns = merging_makes frozen_now rest turns
@@ -155,14 +132,14 @@ module _ (now : Now) (place : ℕ) where
 -- What is under way is to be made by the session at one place.
 under_at : (frozen : Image) (todo : List (List Turn)) (place : ℕ) (f : MadeFile) → Contains (making frozen (get_or todo place [])) f → Contains (making_all frozen todo) f
 unfolding making_all making
-under_at frozen [] zero f h = absurd (none_held f h)
-under_at frozen [] (suc place) f h = absurd (none_held f h)
+under_at frozen [] zero f h = absurd (none_in f h)
+under_at frozen [] (suc place) f h = absurd (none_in f h)
 under_at frozen (ts ∷ todo) zero f h = Contains-append_left (making frozen ts) (making_all frozen todo) f h
 under_at frozen (ts ∷ todo) (suc place) f h = Contains-append_right (making frozen ts) (making_all frozen todo) f (under_at frozen todo place f h)
 
 pub under_place : (frozen : Image) (todo : List (List Turn)) (f : MadeFile) → Contains (making_all frozen todo) f → (place : ℕ) × Contains (making frozen (get_or todo place [])) f
 unfolding making_all
-under_place frozen [] f h = absurd (none_held f h)
+under_place frozen [] f h = absurd (none_in f h)
 under_place frozen (ts ∷ todo) f h =
     ⊎_elim (λ here. (zero, here)) (λ later. let rest = under_place frozen todo f later in (suc rest.0, rest.1)) (Contains-append_cases (making frozen ts) (making_all frozen todo) f h)
 
@@ -255,11 +232,11 @@ module _ (frozen : Image) (header : is_header (first_page frozen) ≡ true) (sta
   unfolding making
   turn_used (ClosesBackup b) f held = ap (λ (x : MadeFile). is_free_file (Some x.1)) (sym (one_held _ f held)) ∙ backup_used b
   turn_used (ClosesCopy name) f held = ap (λ (x : MadeFile). is_free_file (Some x.1)) (sym (one_held _ f held)) ∙ joined_used frozen header stalled
-  turn_used (Begins statement) f held = absurd (none_held f held)
-  turn_used Copies f held = absurd (none_held f held)
-  turn_used (Ends reply) f held = absurd (none_held f held)
-  turn_used Merges f held = absurd (none_held f held)
-  turn_used (Finishes reply) f held = absurd (none_held f held)
+  turn_used (Begins statement) f held = absurd (none_in f held)
+  turn_used Copies f held = absurd (none_in f held)
+  turn_used (Ends reply) f held = absurd (none_in f held)
+  turn_used Merges f held = absurd (none_in f held)
+  turn_used (Finishes reply) f held = absurd (none_in f held)
 
 -- The entries after an outcome.
 module _ {sound : Bool} (session : ℕ) (rest : List Turn) (o : Outcome) (now : Now) (going : IsGoing sound now) where
@@ -279,13 +256,13 @@ module _ {sound : Bool} (session : ℕ) (rest : List Turn) (o : Outcome) (now : 
   -- a name that isn't free stays so, where the file that is made has a free one
   used_then : ((f : MadeFile) → o.made ≡ Some f → is_free_entry (now.account.entry f.0) ≡ true) → (n : List ℕ) → is_free_entry (now.account.entry n) ≡ false → is_free_entry (last.account.entry n) ≡ false
   unfolding with_made
-  used_then free n used = ⊎_elim (own_entry n) (λ off. ap is_free_entry (other_entry n off) ∙ by o.made refl) (names_tell n now.name)
+  used_then free n used = ⊎_elim (own_entry n) (λ off. ap is_free_entry (other_entry n off) ∙ by o.made refl) (decide n now.name)
     where
       by : (made : Option MadeFile) → o.made ≡ made → is_free_entry ((with_made made now.account).entry n) ≡ false
       by None is = used
       by (Some f) is = ⊎_elim
           (λ same. absurd (true≢false (sym (free f is) ∙ ap (λ (m : List ℕ). is_free_entry (now.account.entry m)) (sym same) ∙ used)))
-          (λ other. ap is_free_entry (entry_other f.0 n (Plain f.1 None) now.account other) ∙ used) (names_tell n f.0)
+          (λ other. ap is_free_entry (entry_other f.0 n (Plain f.1 None) now.account other) ∙ used) (decide n f.0)
 
   -- and that of the file that is made isn't free
   made_then : (f : MadeFile) → o.made ≡ Some f → is_free_entry (now.account.entry f.0) ≡ true → is_free_file (Some f.1) ≡ false → is_free_entry (last.account.entry f.0) ≡ false
@@ -327,12 +304,12 @@ module _ {sound : Bool} (session : ℕ) (now : Now) (going : IsGoing sound now) 
   held_made f held = by o.made (held_as (making frozen_then (u ∷ [])) (of_made o.made) f (sym made_is) held)
     where
       by : (made : Option MadeFile) → Contains (of_made made) f → made ≡ Some f
-      by None h = absurd (none_held f h)
+      by None h = absurd (none_in f h)
       by (Some g) h = ap Some (one_held g f h)
 
 -- One turn makes what its session was to make.
 pub made_among : {sound : Bool} (session : ℕ) (now : Now) → IsGoing sound now → AreAmong (files_made (one_turn session now).0) (making_by session now)
-made_among session now going = one_cases (λ p. AreAmong (files_made p.0) (making_by session now)) session now (λ f held. absurd (none_held f (held_as (files_made []) [] f none_made held)))
+made_among session now going = one_cases (λ p. AreAmong (files_made p.0) (making_by session now)) session now (λ f held. absurd (none_in f (held_as (files_made []) [] f none_made held)))
     (λ u rest is f held. subst (λ (ts : List Turn). Contains (making (base_now now).frozen ts) f) (sym is) (own_held session now going u rest is f (event_held session now going u rest is f held)))
 
 copying_base : (session : ℕ) (rest : List Turn) (now : Now) → base_now (stands_then session rest (outcome session Copies now) now) ≡ base_now now
@@ -457,7 +434,7 @@ under_play (x ∷ xs) now named going f held =
 -- The name of a file that was made isn't free,
 pub made_used : (session : ℕ) (now : Now) → IsMaking now → (f : MadeFile) → Contains (files_made (one_turn session now).0) f → is_free_entry ((one_turn session now).1.account.entry f.0) ≡ false
 made_used session now m f = one_cases (λ p. Contains (files_made p.0) f → is_free_entry (p.1.account.entry f.0) ≡ false) session now
-    (λ held. absurd (none_held f (held_as (files_made []) [] f none_made held))) (λ u rest is held.
+    (λ held. absurd (none_in f (held_as (files_made []) [] f none_made held))) (λ u rest is held.
     let own : Contains (making (base_now now).frozen (u ∷ [])) f = event_held session now m.going u rest is f held in
     let t : IsToMake now (session - 1) (u ∷ rest) f = own_to_make session now m.going u rest is f own in
     made_then session rest (outcome session u now) now m.going f (held_made session now m.going u rest is f own) t.free
@@ -465,7 +442,7 @@ made_used session now m f = one_cases (λ p. Contains (files_made p.0) f → is_
 
 pub played_used : (order : List ℕ) (now : Now) → IsMaking now → (f : MadeFile) → Contains (files_made (play order now).0) f → is_free_entry ((play order now).1.account.entry f.0) ≡ false
 unfolding play
-played_used [] now m f held = absurd (none_held f (held_as (files_made []) [] f none_made held))
+played_used [] now m f held = absurd (none_in f (held_as (files_made []) [] f none_made held))
 played_used (x ∷ xs) now m f held =
     let q : Played = one_turn x now in
     let next : IsMaking q.1 = making_turn x now m in
@@ -475,7 +452,7 @@ played_used (x ∷ xs) now m f held =
 -- and so no name comes twice.
 made_one : {sound : Bool} (session : ℕ) (now : Now) → IsGoing sound now → (f g : MadeFile) → Contains (files_made (one_turn session now).0) f → Contains (files_made (one_turn session now).0) g → f ≡ g
 made_one session now going f g = one_cases (λ p. Contains (files_made p.0) f → Contains (files_made p.0) g → f ≡ g) session now
-    (λ a b. absurd (none_held f (held_as (files_made []) [] f none_made a)))
+    (λ a b. absurd (none_in f (held_as (files_made []) [] f none_made a)))
     (λ u rest is a b. one_making (base_now now).frozen u f g (event_held session now going u rest is f a) (event_held session now going u rest is g b))
 
 pub names_once : (order : List ℕ) (now : Now) → IsMaking now → NamesOnce (files_made (play order now).0 ++ under_way (play order now).1)

@@ -1,21 +1,6 @@
 -- Laws of mixtures: what they share with what was seen last, and that a mixture of sound images is sound.
-use Rattle.std.proofs.Common.{◌≡◌, ℕ, zero, suc, ◌/◌, ◌%◌, ◌<◌, List, [], ◌∷◌, length, take, drop, refl, sym, ap, subst, ◌∙◌, arith}
-use Rattle.std.specs.Prelude.{Bool, true, false, not, ◌==◌, ◌||◌, Contains}
-use Rattle.nb_fields.specs.Bytes.{is_zeros, number_in}
-use Rattle.nb_fields.specs.Places.{is_inventory_place, is_scn_place, inventory_place, scn_place, bits_in, entries_in}
-use Rattle.nb_fields.specs.Payloads.{bit_of, entry_of}
-use Rattle.nb_fields.specs.Page.{kind_of, stamp_of}
-use Rattle.nb_fields.specs.Header.{state_of, size_of, scn_of, guid_of}
-use Rattle.nb_fields.specs.States.{stalled_state}
-use Rattle.nb_model.specs.Image.{Page, Image, page_at, first_page, image_size, image_state, image_scn, image_guid, is_forced, is_read_only}
-use Rattle.nb_model.specs.Account.{Base}
-use Rattle.nb_model.specs.Forms.{inventory_of, scn_page_of, bit_number, entry_number, scn_entry, is_free_page, has_entry}
-use Rattle.nb_model.specs.Sound.{SoundInventory, HasSystemPages, HasBitsBelow, HasEntries, HasStamps, IsSoundImage}
-use Rattle.nb_model.specs.Follows.{IsMixed}
-use Rattle.nb_model.specs.Stands.{IsRaised}
-use Rattle.nb_model.specs.Pagewise.{IsPagewise}
-use Rattle.nb_model.specs.Trail.{images, IsMixture}
-use Rattle.nb_model.specs.Earlier.{IsEarlier}
+use Rattle.std.proofs.Common.{◌≡◌, ℕ, zero, suc, ◌/◌, ◌%◌, ◌<◌, List, [], ◌∷◌, length, take, drop, refl, sym, ap, subst, ◌∙◌, arith, Bool, true, false, not, ◌==◌, ◌||◌, Contains}
+use Rattle.nb_model.proofs.Common.{is_zeros, number_in, is_inventory_place, is_scn_place, inventory_place, scn_place, bits_in, entries_in, bit_of, entry_of, kind_of, stamp_of, state_of, size_of, scn_of, guid_of, stalled_state, Page, Image, page_at, first_page, image_size, image_state, image_scn, image_guid, is_forced, is_read_only, Base, inventory_of, scn_page_of, bit_number, entry_number, scn_entry, is_free_page, has_entry, SoundInventory, HasSystemPages, HasBitsBelow, HasEntries, HasStamps, IsSoundImage, IsMixed, IsRaised, IsPagewise, images, IsMixture, IsEarlier}
 use Rattle.nb_model.proofs.SoundLaws.{all_from, all_at}
 
 -- where bits and entries stand goes by the page size alone

@@ -1,14 +1,8 @@
 -- A page write and mixtures: whether it is kept or lost, what is left is a mixture with the database after it.
-use Rattle.std.proofs.Common.{◌≡◌, ◌≢◌, inl, inr, ℕ, ◌+◌, ◌<◌, ◌≤◌, List, [], ◌∷◌, ◌++◌, length, sym, ap, subst, ◌∙◌, arith}
-use Rattle.std.specs.Prelude.{max}
-use Rattle.std.proofs.lemmas.Bool.Decides.{eqb_tells}
-use Rattle.std.proofs.lemmas.List.Elements.{Contains-append_left}
-use Rattle.nb_model.specs.Image.{Page, Image, page_at, with_page}
-use Rattle.nb_model.specs.Account.{Base}
-use Rattle.nb_model.specs.Trail.{HasPage, IsMixture}
+use Rattle.std.proofs.Common.{◌≡◌, ◌≢◌, inl, inr, ℕ, ◌+◌, ◌<◌, ◌≤◌, List, [], ◌∷◌, ◌++◌, length, sym, ap, subst, ◌∙◌, arith, max}
+use Rattle.nb_model.proofs.Common.{eqb_tells, Contains-append_left, Page, Image, page_at, with_page, Base, HasPage, IsMixture, Contains-push}
 use Rattle.nb_model.proofs.SoundLaws.{with_page_length}
 use Rattle.nb_model.proofs.StrokeLaws.{with_page_same, with_page_other}
-use Rattle.nb_model.proofs.TrailLaws.{last_there}
 
 one_more : (bases : List Base) (new : Base) (p : ℕ) (bytes : Page) → HasPage bases p bytes → HasPage (bases ++ new ∷ []) p bytes
 one_more bases new p bytes has = record { base = has.base; there = Contains-append_left bases (new ∷ []) has.base has.there; below = has.below; same = has.same }
@@ -38,7 +32,7 @@ module _ (bases : List Base) (now image : Image) (mixed : IsMixture bases now im
     each = λ q inside. elim (eqb_tells q p) [
       | inl w ↦ record {
         base = new;
-        there = last_there bases new;
+        there = Contains-push bases new;
         below = omega (arith, w.1, long);
         same = ap (page_at (with_page p bytes image)) w.1 ∙ with_page_same p bytes image low_mixed ∙ sym new_same ∙ sym (ap (page_at new.image) w.1);
       }

@@ -1,22 +1,13 @@
 -- An image stays neat where the slot of a table in the catalogue is emptied: the table is gone then, and the others stay.
-use Rattle.std.proofs.Common.{◌≡◌, ◌≢◌, ◌⊎◌, inl, inr, ⊎_elim, ℕ, List, [], ◌∷◌, ◌++◌, map, refl, sym, ap, subst, ◌∙◌, append_assoc}
-use Rattle.std.specs.Prelude.{Bool, true, false, ◌&&◌, Option, Some, None, Ok}
-use Rattle.std.specs.List.{AllByRecursion}
-use Rattle.std.specs.Cmp.Lexicographic.{told_text}
-use Rattle.std.proofs.lemmas.Bool.{true≢false, and_parts, and_left}
-use Rattle.nb_host.specs.Names.{same_name}
-use Rattle.nb_model.specs.Chains.{Chain, Catalogue, History, Spot, is_used, table_of, first_such, pages_of, found_pages, spots, table_spot}
-use Rattle.nb_model.specs.Forms.{is_free_page}
-use Rattle.nb_model.specs.Image.{Image}
-use Rattle.nb_model.specs.RowChanges.{GivesRows}
-use Rattle.nb_model.specs.Rows.{rows_in, rows, used, table_chains, chains, pages_of_all, AreDistinct, names_of, IsNeat}
-use Rattle.nb_model.proofs.HeldChains.{split_all, join_all}
+use Rattle.std.proofs.Common.{◌≡◌, ◌≢◌, ◌⊎◌, inl, inr, ⊎_elim, ℕ, List, [], ◌∷◌, ◌++◌, map, refl, sym, ap, subst, ◌∙◌, append_assoc, Bool, true, false, ◌&&◌, Option, Some, None, Ok}
+use Rattle.nb_model.proofs.Common.{AllByRecursion, told_text, true≢false, and_parts, and_left, same_name, Chain, Catalogue, History, Spot, is_used, table_of, first_such, pages_of, found_pages, spots, table_spot, is_free_page, Image, GivesRows, rows_in, rows, used, table_chains, chains, pages_of_all, AreDistinct, names_of, IsNeat, some_same, all_parts, all_append, all_go, all_both}
 use Rattle.nb_model.proofs.NeatGrows.{apart_front, distinct_both}
-use Rattle.nb_model.proofs.NeatLaws.{all_go, all_both, pages_first, tables_first, distinct_left, distinct_right, chains_are, each_table, tables_each, table_found, IsFoundTable, used_each, used_yes, used_not, rows_of_none, rows_of_some, ChangesChain, same_pages, same_all}
+use Rattle.nb_model.proofs.NeatLaws.{pages_first, distinct_left, distinct_right, chains_are, each_table, tables_each, table_found, IsFoundTable, used_each, used_yes, used_not, rows_of_none, rows_of_some, ChangesChain, same_pages, same_all}
 use Rattle.nb_model.proofs.RoomLaws.{first_passes}
 use Rattle.nb_model.proofs.SpotKeys.{keys_in, Absent}
-use Rattle.nb_model.proofs.SpotMaps.{ChangesOne, all_spots, both_spots, none_found, others_found, first_true, first_false, same_some}
+use Rattle.nb_model.proofs.SpotMaps.{ChangesOne, none_found, others_found, first_true, first_false}
 use Rattle.nb_model.proofs.TableCases.{chain_at}
+use Rattle.nb_model.proofs.Inserted.{names_first, tables_pages, used_nothing}
 
 -- the test of a name
 abbrev pub has_name : List ℕ → Spot → Bool
@@ -28,10 +19,6 @@ name_of table s is = let parts = and_parts (is_used s.bytes) (same_name (table_o
 -- names that aren't there
 abbrev NoName : List ℕ → List (List ℕ) → Type 0
 NoName name ns = AllByRecursion (λ (m : List ℕ). name ≢ m) ns
-
-names_first : (u : Spot) (us : List Spot) → names_of (u ∷ us) ≡ table_of u.bytes ∷ names_of us
-unfolding names_of
-names_first u us = refl
 
 names_used : (u : Spot) (us : List Spot) → is_used u.bytes ≡ true → names_of (used (u ∷ us)) ≡ table_of u.bytes ∷ names_of (used us)
 names_used u us is = ap names_of (used_yes u us is) ∙ names_first u (used us)
@@ -61,11 +48,7 @@ once_name table (x ∷ xs) s distinct found = by (λ d h. once_name table xs s d
     by rest false is = ((λ e. absurd (true≢false (sym e ∙ is))), rest behind (sym (first_false (has_name table) x xs is) ∙ found))
     by rest true is =
         let its = name_of table x is in
-        ((λ e. same_some x s (sym (first_true (has_name table) x xs is) ∙ found)), never (table_of x.bytes) its.1 xs (subst AreDistinct (names_used x xs its.0) distinct).0)
-
-used_none : used [] ≡ []
-unfolding used
-used_none = refl
+        ((λ e. some_same x s (sym (first_true (has_name table) x xs is) ∙ found)), never (table_of x.bytes) its.1 xs (subst AreDistinct (names_used x xs its.0) distinct).0)
 
 module _ (f : Spot → Spot) (s : Spot) (empty : is_used (f s).bytes ≡ false) where
   -- What holds of the used slots holds of those that are left, and none of them is the one that was emptied.
@@ -86,7 +69,7 @@ module _ (f : Spot → Spot) (s : Spot) (empty : is_used (f s).bytes ≡ false) 
           subst (AllByRecursion P) (sym (used_not (f x) (map f xs) (ap (λ (u : Spot). is_used (f u).bytes) one ∙ empty))) (rest (subst (AllByRecursion P) (used_not x xs is) holds))
 
   pub left_other : (xs : List Spot) → AllByRecursion (ChangesOne f s) xs → is_used s.bytes ≡ true → AllByRecursion (λ u. u ≢ s) (used (map f xs))
-  left_other [] all old = subst (AllByRecursion (λ u. u ≢ s)) (sym used_none) tt
+  left_other [] all old = subst (AllByRecursion (λ u. u ≢ s)) (sym used_nothing) tt
   left_other (x ∷ xs) all old = by all.0 (is_used x.bytes) refl (left_other xs all.1 old)
     where
       by : ChangesOne f s x → (t : Bool) → is_used x.bytes ≡ t → AllByRecursion (λ u. u ≢ s) (used (map f xs)) → AllByRecursion (λ u. u ≢ s) (used (f x ∷ map f xs))
@@ -123,27 +106,15 @@ module _ (f : Spot → Spot) (s : Spot) (empty : is_used (f s).bytes ≡ false) 
       by (inr one) true is rest = subst (λ (us : List Spot). AreDistinct (names_of us)) (sym (used_not (f x) (map f xs) (ap (λ (u : Spot). is_used (f u).bytes) one ∙ empty))) (rest (subst AreDistinct (names_used x xs is) distinct).1)
       by (inr one) false is rest = subst (λ (us : List Spot). AreDistinct (names_of us)) (sym (used_not (f x) (map f xs) (ap (λ (u : Spot). is_used (f u).bytes) one ∙ empty))) (rest (subst (λ (us : List Spot). AreDistinct (names_of us)) (used_not x xs is) distinct))
 
--- The pages of tables.
-pages_used : (x : Image) (u : Spot) (us : List Spot) → pages_of_all x (table_chains (u ∷ us)) ≡ found_pages (chain_at u) x ++ pages_of_all x (table_chains us)
-pages_used x u us = ap (pages_of_all x) (tables_first x u us) ∙ pages_first x (chain_at u) (table_chains us)
-
 -- what holds of all pages holds of those of each table, and the other way round
 pages_each : (x : Image) (P : ℕ → Type 0) (us : List Spot) → AllByRecursion P (pages_of_all x (table_chains us)) → AllByRecursion (λ u. AllByRecursion P (found_pages (chain_at u) x)) us
 pages_each x P [] all = tt
-pages_each x P (u ∷ us) all = let both = split (found_pages (chain_at u) x) (pages_of_all x (table_chains us)) (subst (AllByRecursion P) (pages_used x u us) all) in (both.0, pages_each x P us both.1)
-  where
-    split : (ks ls : List ℕ) → AllByRecursion P (ks ++ ls) → AllByRecursion P ks × AllByRecursion P ls
-    split [] ls h = (tt, h)
-    split (z ∷ ks) ls h = let rest = split ks ls h.1 in ((h.0, rest.0), rest.1)
+pages_each x P (u ∷ us) all = let both = all_parts P (found_pages (chain_at u) x) (pages_of_all x (table_chains us)) (subst (AllByRecursion P) (tables_pages x u us) all) in (both.0, pages_each x P us both.1)
 
 pub each_pages : (x : Image) (P : ℕ → Type 0) (us : List Spot) → AllByRecursion (λ u. AllByRecursion P (found_pages (chain_at u) x)) us → AllByRecursion P (pages_of_all x (table_chains us))
 unfolding table_chains pages_of_all
 each_pages x P [] all = tt
-each_pages x P (u ∷ us) all = join (found_pages (chain_at u) x) (pages_of_all x (table_chains us)) all.0 (each_pages x P us all.1)
-  where
-    join : (ks ls : List ℕ) → AllByRecursion P ks → AllByRecursion P ls → AllByRecursion P (ks ++ ls)
-    join [] ls a b = b
-    join (z ∷ ks) ls a b = (a.0, join ks ls a.1 b)
+each_pages x P (u ∷ us) all = all_append P (found_pages (chain_at u) x) (pages_of_all x (table_chains us)) all.0 (each_pages x P us all.1)
 
 module _ (x : Image) (f : Spot → Spot) (s : Spot) (empty : is_used (f s).bytes ≡ false) where
   pub left_pages : (P : ℕ → Type 0) (xs : List Spot) → AllByRecursion (ChangesOne f s) xs → AllByRecursion P (pages_of_all x (table_chains (used xs))) → AllByRecursion P (pages_of_all x (table_chains (used (map f xs))))
@@ -157,13 +128,13 @@ module _ (x : Image) (f : Spot → Spot) (s : Spot) (empty : is_used (f s).bytes
       fewer zs none = all_go (λ q. Absent q (pages_of_all x (table_chains (used xs)))) (λ q. Absent q (pages_of_all x (table_chains (used (map f xs))))) zs (λ q absent. left_pages (λ r. q ≢ r) xs all.1 absent) none
 
       before : is_used u.bytes ≡ true → AreDistinct (found_pages (chain_at u) x ++ pages_of_all x (table_chains (used xs)))
-      before is = subst AreDistinct (pages_used x u (used xs)) (subst (λ (us : List Spot). AreDistinct (pages_of_all x (table_chains us))) (used_yes u xs is) distinct)
+      before is = subst AreDistinct (tables_pages x u (used xs)) (subst (λ (us : List Spot). AreDistinct (pages_of_all x (table_chains us))) (used_yes u xs is) distinct)
 
       by : ChangesOne f s u → (t : Bool) → is_used u.bytes ≡ t → (AreDistinct (pages_of_all x (table_chains (used xs))) → AreDistinct (pages_of_all x (table_chains (used (map f xs))))) → AreDistinct (pages_of_all x (table_chains (used (f u ∷ map f xs))))
       by (inl same) true is rest =
           subst (λ (w : Spot). AreDistinct (pages_of_all x (table_chains (used (w ∷ map f xs))))) (sym same)
           (subst (λ (us : List Spot). AreDistinct (pages_of_all x (table_chains us))) (sym (used_yes u (map f xs) is))
-          (subst AreDistinct (sym (pages_used x u (used (map f xs))))
+          (subst AreDistinct (sym (tables_pages x u (used (map f xs))))
           (distinct_both (found_pages (chain_at u) x) (pages_of_all x (table_chains (used (map f xs)))) (distinct_left (found_pages (chain_at u) x) (pages_of_all x (table_chains (used xs))) (before is))
           (rest (distinct_right (found_pages (chain_at u) x) (pages_of_all x (table_chains (used xs))) (before is))) (fewer (found_pages (chain_at u) x) (apart_front (found_pages (chain_at u) x) (pages_of_all x (table_chains (used xs))) (before is))))))
       by (inl same) false is rest =
@@ -218,8 +189,8 @@ module _ (x y : Image) (neat : IsNeat x) (changes : ChangesChain Catalogue x y) 
 
   pub left_hold : (P : ℕ → Type 0) → AllByRecursion P (pages_of_all x (chains x)) → AllByRecursion P before
   left_hold P holds =
-      let parts = split_all P front (pages_of_all x (table_chains (used xs))) (subst (AllByRecursion P) (ap (pages_of_all x) (chains_are x) ∙ fronted (used xs)) holds) in
-      subst (AllByRecursion P) (sym (fronted left)) (join_all P front (pages_of_all x (table_chains left)) parts.0 (left_pages x f s empty P xs all parts.1))
+      let parts = all_parts P front (pages_of_all x (table_chains (used xs))) (subst (AllByRecursion P) (ap (pages_of_all x) (chains_are x) ∙ fronted (used xs)) holds) in
+      subst (AllByRecursion P) (sym (fronted left)) (all_append P front (pages_of_all x (table_chains left)) parts.0 (left_pages x f s empty P xs all parts.1))
 
   apart_then : AreDistinct before
   apart_then =
@@ -258,8 +229,8 @@ module _ (x y : Image) (neat : IsNeat x) (changes : ChangesChain Catalogue x y) 
   pub gone : table_spot table y ≡ None
   unfolding table_spot
   gone = ap (first_such (has_name table)) slots ∙ none_found f s (has_name table) xs
-      (all_spots (λ u. ChangesOne f s u × (has_name table u ≡ true → u ≡ s)) (λ u. has_name table (f u) ≡ false) xs (λ u facts. one u facts.0 facts.1)
-      (both_spots (ChangesOne f s) (λ u. has_name table u ≡ true → u ≡ s) xs all (once_name table xs s neat.names found)))
+      (all_go {X = Spot} (λ u. ChangesOne f s u × (has_name table u ≡ true → u ≡ s)) (λ u. has_name table (f u) ≡ false) xs (λ u facts. one u facts.0 facts.1)
+      (all_both {X = Spot} (ChangesOne f s) (λ u. has_name table u ≡ true → u ≡ s) xs all (once_name table xs s neat.names found)))
     where
       one : (u : Spot) → ChangesOne f s u → (has_name table u ≡ true → u ≡ s) → has_name table (f u) ≡ false
       one u (inr is) once = ap (λ (v : Spot). has_name table (f v)) is ∙ gone_name table

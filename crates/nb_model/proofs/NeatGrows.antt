@@ -1,14 +1,8 @@
 -- An image stays neat where a chain of rows gets one page more.
-use Rattle.std.proofs.Common.{◌≡◌, ◌≢◌, ◌⊎◌, inl, inr, ⊎_elim, ℕ, zero, suc, List, [], ◌∷◌, ◌++◌, refl, sym, ap, subst, ◌∙◌, arith}
-use Rattle.std.specs.Prelude.{true, false, ◌&&◌, Option, Some, None, Result, Ok, Err, Contains}
-use Rattle.std.specs.List.{AllByRecursion}
-use Rattle.nb_host.specs.Names.{same_name}
-use Rattle.nb_model.specs.Chains.{Chain, Catalogue, History, Spot, is_used, table_of, first_such, pages_of, found_pages, spots, table_spot}
-use Rattle.nb_model.specs.Forms.{is_free_page}
-use Rattle.nb_model.specs.Image.{Image}
-use Rattle.nb_model.specs.Rows.{rows_in, rows, used, table_chains, chains, pages_of_all, AreDistinct, names_of, IsNeat}
+use Rattle.std.proofs.Common.{◌≡◌, ◌≢◌, ◌⊎◌, inl, inr, ⊎_elim, ℕ, zero, suc, List, [], ◌∷◌, ◌++◌, refl, sym, ap, subst, ◌∙◌, arith, true, false, ◌&&◌, Option, Some, None, Result, Ok, Err, Contains}
+use Rattle.nb_model.proofs.Common.{AllByRecursion, same_name, Chain, Catalogue, History, Spot, is_used, table_of, first_such, pages_of, found_pages, spots, table_spot, is_free_page, Image, rows_in, rows, used, table_chains, chains, pages_of_all, AreDistinct, names_of, IsNeat, all_go, all_both}
 use Rattle.nb_model.proofs.ChainWalks.{found_is}
-use Rattle.nb_model.proofs.NeatLaws.{all_go, all_both, apart_lists, pages_first, pages_among, distinct_left, distinct_right, chains_are, tables_each, table_found, used_each, rows_of_none, rows_of_some}
+use Rattle.nb_model.proofs.NeatLaws.{apart_lists, pages_first, pages_among, distinct_left, distinct_right, chains_are, tables_each, table_found, used_each, rows_of_none, rows_of_some}
 use Rattle.nb_model.proofs.RoomLaws.{first_passes}
 use Rattle.nb_model.proofs.SpotKeys.{keys_in, Absent}
 use Rattle.nb_model.proofs.TableCases.{chain_at}

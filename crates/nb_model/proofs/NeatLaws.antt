@@ -1,33 +1,15 @@
 -- An image stays neat, and the rows of its tables stay, where the pages of its chains stay, or where one chain of rows changes.
-use Rattle.std.proofs.Common.{◌≡◌, ◌≢◌, ◌⊎◌, inl, inr, ⊎_elim, ℕ, zero, suc, ◌≤◌, List, [], ◌∷◌, ◌++◌, length, refl, sym, ap, subst, ◌∙◌, arith}
-use Rattle.std.specs.Prelude.{Bool, true, false, ◌&&◌, Option, Some, None, Result, Ok, Err, Contains}
-use Rattle.std.specs.List.{AllByRecursion}
-use Rattle.std.specs.Cmp.Lexicographic.{told_text}
-use Rattle.std.proofs.lemmas.Bool.{true≢false, and_parts}
-use Rattle.std.proofs.lemmas.List.Elements.{Contains-append_left, Contains-append_right}
-use Rattle.nb_host.specs.Names.{same_name}
-use Rattle.nb_model.specs.Chains.{Chain, Catalogue, History, RowsFrom, Spot, is_used, table_of, first_in, first_such, pages_of, found_pages, spots, table_spot}
-use Rattle.nb_model.specs.Forms.{is_free_page}
-use Rattle.nb_model.specs.Image.{Image}
-use Rattle.nb_model.specs.Rows.{RowMap, rows_in, rows, used, table_chains, chains, pages_of_all, AreDistinct, names_of, IsNeat}
+use Rattle.std.proofs.Common.{◌≡◌, ◌≢◌, ◌⊎◌, inl, inr, ⊎_elim, ℕ, zero, suc, ◌≤◌, List, [], ◌∷◌, ◌++◌, length, refl, sym, ap, subst, ◌∙◌, arith, Bool, true, false, ◌&&◌, Option, Some, None, Result, Ok, Err, Contains}
+use Rattle.nb_model.proofs.Common.{AllByRecursion, told_text, true≢false, and_parts, Contains-append_left, Contains-append_right, same_name, Chain, Catalogue, History, RowsFrom, Spot, is_used, table_of, first_in, first_such, pages_of, found_pages, spots, table_spot, is_free_page, Image, RowMap, rows_in, rows, used, table_chains, chains, pages_of_all, AreDistinct, names_of, IsNeat, decide, none_in, all_go, all_both}
 use Rattle.nb_model.proofs.ChainWalks.{StaysLinked, pages_stay, found_is}
 use Rattle.nb_model.proofs.RoomLaws.{first_passes}
 use Rattle.nb_model.proofs.SpotKeys.{keys_in}
 use Rattle.nb_model.proofs.SpotMaps.{such_passes}
-use Rattle.nb_model.proofs.StandsLaws.{names_tell}
 use Rattle.nb_model.proofs.TableCases.{chain_at}
 
--- what holds of each
-pub all_go : {X : Type 0} (P R : X → Type 0) (xs : List X) → ((x : X) → P x → R x) → AllByRecursion P xs → AllByRecursion R xs
-all_go P R [] goes all = tt
-all_go P R (x ∷ xs) goes all = (goes x all.0, all_go P R xs goes all.1)
-
-pub all_both : {X : Type 0} (P R : X → Type 0) (xs : List X) → AllByRecursion P xs → AllByRecursion R xs → AllByRecursion (λ x. P x × R x) xs
-all_both P R [] a b = tt
-all_both P R (x ∷ xs) a b = ((a.0, b.0), all_both P R xs a.1 b.1)
-
-pub none_in : {X : Type 0} (x : X) → Contains [] x → ⊥
-none_in x h = absurd (omega (arith, h.1))
+-- the catalogue is no history
+pub no_catalogue_history : Catalogue ≢ History
+no_catalogue_history e = cc
 
 -- no two lists with nothing twice share an element
 pub apart_lists : (xs ys : List ℕ) (q : ℕ) → AreDistinct (xs ++ ys) → Contains xs q → Contains ys q → ⊥
@@ -185,7 +167,7 @@ pub table_found : (image : Image) (table : List ℕ) (u : Spot) → table_spot t
 unfolding table_spot
 table_found image table u found =
     let parts = and_parts (is_used u.bytes) (same_name (table_of u.bytes) table) (such_passes _ (spots Catalogue image) u found) in
-    record { held = found_used _ (spots Catalogue image) u found parts.0; its_use = parts.0; named = elim (names_tell (table_of u.bytes) table) [ inl w ↦ w | inr w ↦ absurd (not_same (table_of u.bytes) table w parts.1) ] }
+    record { held = found_used _ (spots Catalogue image) u found parts.0; its_use = parts.0; named = elim (decide (table_of u.bytes) table) [ inl w ↦ w | inr w ↦ absurd (not_same (table_of u.bytes) table w parts.1) ] }
   where
     not_same : (m n : List ℕ) → m ≢ n → same_name m n ≡ true → ⊥
     not_same m n other is = other (told_text m n true (sym is))

@@ -1,17 +1,10 @@
 -- An image stays neat where the catalogue names one table more, which has a page of its own without a row.
-use Rattle.std.proofs.Common.{◌≡◌, ◌≢◌, ◌⊎◌, ⊎_elim, ℕ, List, [], ◌∷◌, ◌++◌, refl, sym, ap, subst, ◌∙◌}
-use Rattle.std.specs.Prelude.{Bool, true, false, Option, Some, None, Result, Ok, Err}
-use Rattle.std.specs.List.{AllByRecursion}
-use Rattle.std.proofs.lemmas.List.{append-nil}
-use Rattle.nb_model.specs.Chains.{Chain, Catalogue, History, Spot, is_used, table_of, key_of, text_in, pages_of, found_pages, spots, table_spot}
-use Rattle.nb_model.specs.Forms.{is_free_page}
-use Rattle.nb_model.specs.Image.{Image}
-use Rattle.nb_model.specs.RowChanges.{GivesRows}
-use Rattle.nb_model.specs.Rows.{RowMap, with_row, rows_in, rows, used, table_chains, chains, pages_of_all, AreDistinct, names_of, keys_of, IsNeat}
+use Rattle.std.proofs.Common.{◌≡◌, ◌≢◌, ◌⊎◌, ⊎_elim, ℕ, List, [], ◌∷◌, ◌++◌, refl, sym, ap, subst, ◌∙◌, Bool, true, false, Option, Some, None, Result, Ok, Err}
+use Rattle.nb_model.proofs.Common.{AllByRecursion, append-nil, Chain, Catalogue, History, Spot, is_used, table_of, key_of, text_in, pages_of, found_pages, spots, table_spot, is_free_page, Image, GivesRows, RowMap, with_row, rows_in, rows, used, table_chains, chains, pages_of_all, AreDistinct, names_of, keys_of, IsNeat, all_go, all_both}
 use Rattle.nb_model.proofs.ChainWalks.{found_is}
 use Rattle.nb_model.proofs.Inserted.{Inserted, inserted_each, inserted_apart, inserted_last, inserted_behind, inserted_before, inserted_names, inserted_pages, none_used}
 use Rattle.nb_model.proofs.NeatDrops.{has_name}
-use Rattle.nb_model.proofs.NeatLaws.{all_go, all_both, pages_first, chains_are, each_table, tables_each, table_found, used_each, rows_of_none, rows_of_some}
+use Rattle.nb_model.proofs.NeatLaws.{pages_first, chains_are, each_table, tables_each, table_found, used_each, rows_of_none, rows_of_some}
 use Rattle.nb_model.proofs.RoomLaws.{first_passes}
 use Rattle.nb_model.proofs.SpotKeys.{keys_in, Absent}
 use Rattle.nb_model.proofs.TableCases.{chain_at}

@@ -1,11 +1,6 @@
 -- The pages that a change needs: the first that isn't of its kind.
-use Rattle.std.proofs.Common.{◌≡◌, inl, inr, ℕ, zero, suc, ◌+◌, ◌/◌, ◌<◌, ◌≤◌, List, [], ◌∷◌, ◌++◌, refl, sym, ap, ◌∙◌, arith}
-use Rattle.std.specs.Prelude.{Bool, true, false, ◌==◌, ◌||◌, Option, Some, None}
-use Rattle.std.proofs.lemmas.Bool.Decides.{eqb_tells}
-use Rattle.nb_fields.specs.Places.{entries_in, inventory_place, scn_place, is_scn_place}
-use Rattle.nb_fields.specs.Kinds.{inventory_kind, scn_kind}
-use Rattle.nb_model.specs.Image.{Image, image_size}
-use Rattle.nb_model.specs.Forms.{HasItsEntry, is_kind, scn_page_of, has_entry, Need, first_not, maps_from, entry_page}
+use Rattle.std.proofs.Common.{◌≡◌, inl, inr, ℕ, zero, suc, ◌+◌, ◌/◌, ◌<◌, ◌≤◌, List, [], ◌∷◌, ◌++◌, refl, sym, ap, ◌∙◌, arith, Bool, true, false, ◌==◌, ◌||◌, Option, Some, None}
+use Rattle.nb_model.proofs.Common.{eqb_tells, entries_in, inventory_place, scn_place, is_scn_place, inventory_kind, scn_kind, Image, image_size, HasItsEntry, is_kind, scn_page_of, has_entry, Need, first_not, maps_from, entry_page, some_none}
 
 -- the first that isn't of its kind, of pages after others
 pub first_behind : Option ℕ → Option ℕ → Option ℕ
@@ -44,9 +39,6 @@ unfolding first_not maps_from
 maps_all x size zero k none j low high = absurd (omega (arith, low, high))
 maps_all x size (suc count) k none j low high = by (λ rest more. maps_all x size count (k + 1) rest j more (omega (arith, high))) (is_kind x inventory_kind (inventory_place size k)) refl none
   where
-    some_none : (q : ℕ) → Some q ≡ None → ⊥
-    some_none q e = cc
-
     by : (first_not x (maps_from size count (k + 1)) ≡ None → k + 1 ≤ j → is_kind x inventory_kind (inventory_place size j) ≡ true) → (t : Bool) → is_kind x inventory_kind (inventory_place size k) ≡ t
         → (elim t as (λ z. Option ℕ) [ true ↦ first_not x (maps_from size count (k + 1)) | false ↦ Some (inventory_place size k) ]) ≡ None → is_kind x inventory_kind (inventory_place size j) ≡ true
     by again true e rest = elim (eqb_tells j k) [
@@ -113,9 +105,6 @@ ready_none x q there = by (has_entry x q) refl
 pub none_ready : (x : Image) (q : ℕ) → first_not x (entry_page x q) ≡ None → HasItsEntry x q
 none_ready x q none has = by (is_kind x scn_kind (scn_page_of x q)) refl
   where
-    some_none : (r : ℕ) → Some r ≡ None → ⊥
-    some_none r e = cc
-
     by : (u : Bool) → is_kind x scn_kind (scn_page_of x q) ≡ u → is_kind x scn_kind (scn_page_of x q) ≡ true
     by true e = e
     by false e = absurd (some_none (scn_page_of x q)
@@ -126,6 +115,3 @@ pub both_none : (a b : Option ℕ) → first_behind a b ≡ None → (a ≡ None
 unfolding first_behind
 both_none None b e = (refl, e)
 both_none (Some q) b e = absurd (some_none q e)
-  where
-    some_none : (q : ℕ) → Some q ≡ None → ⊥
-    some_none q e = cc

@@ -1,17 +1,6 @@
 -- The slots of a new data page: its first holds what it was made with, and the others are free.
-use Rattle.std.proofs.Common.{◌≡◌, ℕ, zero, suc, ◌+◌, ◌-◌, ◌/◌, ◌≤◌, List, [], ◌∷◌, ◌++◌, length, take, drop, replicate, refl, sym, ap, ◌∙◌, arith}
-use Rattle.std.specs.Prelude.{Bool, true, false, ◌&&◌, ◌||◌, ◌==◌, slice_index}
-use Rattle.std.specs.List.{AllByRecursion}
-use Rattle.std.proofs.lemmas.Bool.{and_parts, eq-eqb, eqb-true, ne_eqb}
-use Rattle.std.proofs.lemmas.List.{take_at, drop_at, drop-drop}
-use Rattle.nb_fields.specs.Bytes.{bytes_of, number_of, number_in, part, padded, is_zeros}
-use Rattle.nb_fields.specs.Page.{stamped}
-use Rattle.nb_fields.specs.Payloads.{data_payload}
-use Rattle.nb_fields.proofs.NumberLaws.{number_of-bytes_of}
-use Rattle.nb_fields.proofs.PageLaws.{drop-page_of}
-use Rattle.nb_fields.specs.Kinds.{data_kind}
-use Rattle.nb_model.specs.Chains.{Chain, Slot, is_used, is_filled, is_slot, next_in, slots_from, slots_in}
-use Rattle.nb_model.specs.Image.{Page}
+use Rattle.std.proofs.Common.{◌≡◌, ℕ, zero, suc, ◌+◌, ◌-◌, ◌/◌, ◌≤◌, List, [], ◌∷◌, ◌++◌, length, take, drop, replicate, refl, sym, ap, ◌∙◌, arith, Bool, true, false, ◌&&◌, ◌||◌, ◌==◌, slice_index}
+use Rattle.nb_model.proofs.Common.{AllByRecursion, and_parts, eq-eqb, eqb-true, ne_eqb, take_at, drop_at, drop-drop, bytes_of, number_of, number_in, part, padded, is_zeros, stamped, data_payload, number_of-bytes_of, drop-page_of, data_kind, Chain, Slot, is_used, is_filled, is_slot, next_in, slots_from, slots_in, Page}
 use Rattle.nb_model.proofs.ImageLaws.{zeros-are}
 use Rattle.nb_model.proofs.SlotLaws.{front_zeros, rest_zeros, stamped_long}
 

@@ -1,22 +1,6 @@
 -- Each stroke of a new page fits at its point, also where system pages are made on the way.
-use Rattle.std.proofs.Common.{◌≡◌, inl, inr, ℕ, zero, suc, ◌+◌, ◌-◌, ◌*◌, ◌/◌, ◌%◌, ◌^◌, ◌<◌, ◌≤◌, List, [], ◌∷◌, length, refl, sym, ap, subst, ◌∙◌, arith}
-use Rattle.std.specs.Prelude.{Bool, true, false, ◌==◌, nat_lt, IsTrue, max, Option, Some, None}
-use Rattle.std.proofs.lemmas.Bool.{true≢false, and_parts, and_from, or_parts, or_cases, ltb-true, eq-eqb, eqb-false}
-use Rattle.std.proofs.lemmas.Bool.Decides.{leb_tells}
-use Rattle.nb_fields.specs.declared.kinds.PageKind.TheVariants.{Inventory, ScnInventory}
-use Rattle.nb_fields.specs.Bytes.{bytes_of}
-use Rattle.nb_fields.specs.Kinds.{code_of, inventory_kind, raw_kind, scn_kind}
-use Rattle.nb_fields.specs.Places.{is_page_size, entries_in, bits_in, inventory_place, is_inventory_place, is_scn_place, is_system_place, most_pages}
-use Rattle.nb_fields.specs.Page.{page_of, kind_of, generation_of, stamped}
-use Rattle.nb_fields.specs.Payloads.{inventory_payload, scn_payload, text_payload, bit_of, entry_of}
-use Rattle.nb_fields.proofs.FreshLaws.{taken_bits-free, bit_of-inventory, entry_of-scn}
-use Rattle.nb_fields.proofs.PageLaws.{kind_of-page_of}
-use Rattle.nb_fields.proofs.SizeLaws.{SizeFacts, size_facts}
-use Rattle.nb_fields.proofs.PlaceLaws.{bits-least, entries-least}
-use Rattle.nb_model.specs.Image.{Page, Image, page_at, image_size, image_scn}
-use Rattle.nb_model.specs.Account.{Base}
-use Rattle.nb_model.specs.Forms.{Draft, drafted, old_page, is_kind, put, scn_page_of, bit_number, entry_number, scn_entry, has_entry, is_free_page, take_page, free_from, lowest_free, first_not, needed_at, system_kind, system_payload, system_page, no_page, new_within, new_page}
-use Rattle.nb_model.specs.Sound.{IsSoundImage, HasHeader}
+use Rattle.std.proofs.Common.{◌≡◌, inl, inr, ℕ, zero, suc, ◌+◌, ◌-◌, ◌*◌, ◌/◌, ◌%◌, ◌^◌, ◌<◌, ◌≤◌, List, [], ◌∷◌, length, refl, sym, ap, subst, ◌∙◌, arith, Bool, true, false, ◌==◌, nat_lt, IsTrue, max, Option, Some, None}
+use Rattle.nb_model.proofs.Common.{true≢false, and_parts, and_from, or_parts, or_cases, ltb-true, eq-eqb, eqb-false, leb_tells, Inventory, ScnInventory, bytes_of, code_of, inventory_kind, raw_kind, scn_kind, is_page_size, entries_in, bits_in, inventory_place, is_inventory_place, is_scn_place, is_system_place, most_pages, page_of, kind_of, generation_of, stamped, inventory_payload, scn_payload, text_payload, bit_of, entry_of, taken_bits-free, bit_of-inventory, entry_of-scn, kind_of-page_of, SizeFacts, size_facts, bits-least, entries-least, Page, Image, page_at, image_size, image_scn, Base, Draft, drafted, old_page, is_kind, put, scn_page_of, bit_number, entry_number, scn_entry, has_entry, is_free_page, take_page, free_from, lowest_free, first_not, needed_at, system_kind, system_payload, system_page, no_page, new_within, new_page, IsSoundImage, HasHeader}
 use Rattle.nb_model.proofs.SoundLaws.{inventory_there, scn_page_there, HasFields, FitsAt, scn_no_entry, with_page_length}
 use Rattle.nb_model.proofs.FreshSound.{kind_inventory, kind_scn, inventory_length, scn_length}
 use Rattle.nb_model.proofs.FitLaws.{IsWhole, Fits, fits_first, fits_full, fits_broken, form_page}

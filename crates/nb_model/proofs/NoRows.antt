@@ -1,12 +1,6 @@
 -- Pages that have no rows of the history.
-use Rattle.std.proofs.Common.{◌≡◌, ◌≢◌, ℕ, sym, ◌∙◌}
-use Rattle.std.specs.Prelude.{false, ◌==◌}
-use Rattle.std.proofs.lemmas.Bool.{and_left, and_right, ne_eqb}
-use Rattle.nb_fields.specs.Page.{kind_of}
-use Rattle.nb_fields.specs.Kinds.{data_kind}
-use Rattle.nb_model.specs.Chains.{owner_in}
-use Rattle.nb_model.specs.Image.{Page}
-use Rattle.nb_model.specs.Stands.{is_history_page}
+use Rattle.std.proofs.Common.{◌≡◌, ◌≢◌, ℕ, sym, ◌∙◌, false, ◌==◌}
+use Rattle.nb_model.proofs.Common.{and_left, and_right, ne_eqb, kind_of, data_kind, owner_in, Page, is_history_page}
 use Rattle.nb_model.proofs.PastLaws.{no_history}
 
 abbrev pub HasNoRows : Page → Type 0

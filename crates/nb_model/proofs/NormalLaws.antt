@@ -1,10 +1,6 @@
 -- Page strokes leave a database in the normal state as its image tells it, and keep no record.
-use Rattle.std.proofs.Common.{◌≡◌, ℕ, List, [], refl, ap}
-use Rattle.std.specs.Prelude.{true, false, ◌==◌}
-use Rattle.nb_fields.specs.States.{normal_state}
-use Rattle.nb_model.specs.Image.{image_state}
-use Rattle.nb_model.specs.Account.{Base, base_of}
-use Rattle.nb_model.specs.Strokes.{Stroke, make, page, begin, ends, finish, fix, merge, noted, on_base, records_of}
+use Rattle.std.proofs.Common.{◌≡◌, ℕ, List, [], refl, ap, true, false, ◌==◌}
+use Rattle.nb_model.proofs.Common.{normal_state, image_state, Base, base_of, Stroke, make, page, begin, ends, finish, fix, merge, noted, on_base, records_of}
 
 -- the stroke is of a page
 abbrev pub IsPage : Stroke → Type 0

@@ -1,19 +1,11 @@
 -- How far the search for a new page has come, told on the image as it stood before: what it needs there next is the same.
-use Rattle.std.proofs.Common.{◌≡◌, ◌≢◌, inl, inr, ℕ, suc, ◌+◌, ◌-◌, ◌*◌, ◌/◌, ◌<◌, ◌≤◌, length, refl, sym, ap, subst, ◌∙◌, arith, mul-le-mul_right}
-use Rattle.std.specs.Prelude.{Bool, true, false, ◌==◌, ◌&&◌, nat_lt, IsTrue, max}
-use Rattle.std.proofs.Math.Nat.{div-eq_of_lt, div-mul-le_self}
-use Rattle.std.proofs.lemmas.Bool.Decides.{eqb_tells, leb_tells}
-use Rattle.nb_fields.specs.Places.{is_page_size, bits_in, inventory_place, is_inventory_place, is_scn_place}
-use Rattle.nb_fields.specs.Page.{kind_of}
-use Rattle.nb_fields.proofs.PlaceLaws.{bits-least}
-use Rattle.nb_fields.specs.Kinds.{inventory_kind, scn_kind}
-use Rattle.nb_model.specs.Image.{Image, page_at, image_size}
-use Rattle.nb_model.specs.Forms.{HasItsEntry, is_kind, inventory_of, scn_page_of, is_free_page}
-use Rattle.nb_model.specs.Way.{IsMadeBehind, same_made, made_here, IsFreshBehind, same_fresh, fresh_here}
+use Rattle.std.proofs.Common.{◌≡◌, ◌≢◌, inl, inr, ℕ, suc, ◌+◌, ◌-◌, ◌*◌, ◌/◌, ◌<◌, ◌≤◌, length, refl, sym, ap, subst, ◌∙◌, arith, mul-le-mul_right, Bool, true, false, ◌==◌, ◌&&◌, nat_lt, IsTrue, max}
+use Rattle.nb_model.proofs.Common.{div-eq_of_lt, div-mul-le_self, eqb_tells, leb_tells, is_page_size, bits_in, inventory_place, is_inventory_place, is_scn_place, kind_of, bits-least, inventory_kind, scn_kind, Image, page_at, image_size, HasItsEntry, is_kind, inventory_of, scn_page_of, is_free_page, IsMadeBehind, same_made, made_here, IsFreshBehind, same_fresh, fresh_here}
 use Rattle.nb_model.proofs.SoundLaws.{inventory_place_some, inventory_there}
 use Rattle.nb_model.proofs.NewSound.{inventory_before}
-use Rattle.nb_model.proofs.StepLaws.{IsShaped, IsVisited, kind_from, scn_page_moves, map_entry_before}
+use Rattle.nb_model.proofs.StepLaws.{IsShaped, IsVisited, scn_page_moves, map_entry_before}
 use Rattle.nb_model.proofs.PlaceOrder.{div_rises, map_places_from, map_place_is, map_behind}
+use Rattle.nb_model.proofs.RoundLaws.{kind_found}
 
 -- `now` is the image after a search that started at `old`, has come up to page `from`, and went past places without their system pages:
 -- the last of an SCN page was `made`, the last of an inventory page `fresh`, 0 for none.
@@ -108,7 +100,7 @@ module _ (old now next : Image) (from made fresh p kind m f : ℕ) (way : IsOnTh
   same_kind k r ne = kind_same now next p kind k r on there ne
 
   here_kind : is_kind next kind p ≡ true
-  here_kind = kind_from next kind p (omega (arith, on.long)) on.of_kind
+  here_kind = kind_found next kind p (omega (arith, on.long)) on.of_kind
 
   -- the inventory pages up to that of page p don't stand at p
   map_not_here : (k : ℕ) → k ≤ p / w → inventory_place size k ≢ p

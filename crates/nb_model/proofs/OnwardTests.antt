@@ -1,15 +1,7 @@
 -- What the search for a new page needs next, told on the image as it stood before.
-use Rattle.std.proofs.Common.{◌≡◌, ◌≢◌, inl, inr, ℕ, ◌+◌, ◌-◌, ◌/◌, ◌<◌, ◌≤◌, List, [], ◌++◌, length, refl, sym, ap, subst, ◌∙◌, arith}
-use Rattle.std.specs.Prelude.{Bool, true, false, ◌==◌, ◌||◌, ◌&&◌, nat_lt, IsTrue, Option}
-use Rattle.std.proofs.lemmas.Bool.{eqb-true, eqb-false, ltb-true, ltb-false}
-use Rattle.std.proofs.lemmas.Bool.Decides.{eqb_tells, leb_tells}
-use Rattle.nb_fields.specs.Places.{is_page_size, entries_in, bits_in, inventory_place, is_inventory_place, is_scn_place, is_system_place, most_pages}
-use Rattle.nb_fields.proofs.PlaceLaws.{bits-least}
-use Rattle.nb_fields.specs.Kinds.{inventory_kind, scn_kind}
-use Rattle.nb_model.specs.Image.{Image, image_size}
-use Rattle.nb_model.specs.Forms.{HasItsEntry, is_kind, inventory_of, scn_page_of, lowest_free, free_from, Need, first_not, maps_from, entry_page, is_kept, needed_at}
-use Rattle.nb_model.specs.Way.{next_place, maps_on, entry_on, map_entry_on, needed_on}
-use Rattle.nb_model.proofs.SoundLaws.{inventory_place_some, scn_place_some, scn_page_there, inventory_there}
+use Rattle.std.proofs.Common.{◌≡◌, ◌≢◌, inl, inr, ℕ, ◌+◌, ◌-◌, ◌/◌, ◌<◌, ◌≤◌, List, [], ◌++◌, length, refl, sym, ap, subst, ◌∙◌, arith, Bool, true, false, ◌==◌, ◌||◌, ◌&&◌, nat_lt, IsTrue, Option}
+use Rattle.nb_model.proofs.Common.{eqb-true, eqb-false, ltb-true, ltb-false, eqb_tells, leb_tells, is_page_size, entries_in, bits_in, inventory_place, is_inventory_place, is_scn_place, is_system_place, most_pages, bits-least, scn_place-some, inventory_kind, scn_kind, Image, image_size, HasItsEntry, is_kind, inventory_of, scn_page_of, lowest_free, free_from, Need, first_not, maps_from, entry_page, is_kept, needed_at, next_place, maps_on, entry_on, map_entry_on, needed_on}
+use Rattle.nb_model.proofs.SoundLaws.{inventory_place_some, scn_page_there, inventory_there}
 use Rattle.nb_model.proofs.NeedLaws.{first_behind, first_append, behind_none, maps_found, maps_alike, maps_split, entry_moves, first_none, entry_found, entry_alike, ready_none}
 use Rattle.nb_model.proofs.FirstFree.{IsLowestFree, free_from_is, lowest_one, lowest_is}
 use Rattle.nb_model.proofs.PlaceOrder.{div_rises, map_places_from, map_place_is, maps_rise, map_behind, scn_behind}
@@ -80,14 +72,14 @@ module _ (old now : Image) (from made fresh : ℕ) (way : IsOnTheWay old now fro
 
       later : s ≢ made → made < s
       later other = elim (eqb_tells made 0) [
-        | inl e ↦ omega (arith, e.1, scn_place_some size (q / entries_in size) is_size)
+        | inl e ↦ omega (arith, e.1, scn_place-some size (q / entries_in size) is_size)
         | inr e ↦ omega (arith, scn_behind size made q is_size (way.made_place e.1) behind, other)
       ]
 
       by : (t : Bool) → (scn_page_of old q == made) ≡ t → first_not now (entry_page old q) ≡ first_not old (elim t as (λ z. List Need) [ true ↦ [] | false ↦ entry_page old q ])
       by true e =
           let same : s ≡ made = eqb-true s made e in
-          let some : made ≢ 0 = λ none. absurd (omega (arith, none, same, scn_place_some size (q / entries_in size) is_size)) in
+          let some : made ≢ 0 = λ none. absurd (omega (arith, none, same, scn_place-some size (q / entries_in size) is_size)) in
           entry_found now old q (ap (is_kind now scn_kind) same ∙ way.made_page some) ∙ sym (first_none old)
       by false e = entry_alike now old q (way.entries s at (later (eqb-false s made e)))
 

@@ -1,26 +1,6 @@
 -- A database that files stand for is well in its state, and settled it is a well trail; and files stand for a well database.
-use Rattle.std.proofs.Common.{◌≡◌, ◌≢◌, inl, inr, ℕ, ◌+◌, ◌-◌, ◌*◌, ◌%◌, ◌<◌, ◌≤◌, List, [], ◌∷◌, ◌++◌, length, take, replicate, refl, sym, ap, subst, ◌∙◌, arith, length-append, add-mul, le_of_mul-le-mul_right}
-use Rattle.std.specs.Prelude.{true, false, ◌==◌, Some, None, Ok, Contains}
-use Rattle.std.proofs.lemmas.Bool.{and_parts, and_from}
-use Rattle.std.proofs.lemmas.List.{take-append-le, length-replicate}
-use Rattle.std.proofs.Math.Nat.{mul-mod_left}
-use Rattle.nb_fields.specs.Bytes.{part, is_zeros}
-use Rattle.nb_fields.specs.Header.{is_header, state_of, size_of, guid_of}
-use Rattle.nb_fields.proofs.PartLaws.{part-take}
-use Rattle.nb_fields.proofs.SizeLaws.{size_facts}
-use Rattle.nb_fields.specs.States.{stalled_state, merge_state, applying_state}
-use Rattle.nb_host.specs.Files.{File, Files}
-use Rattle.nb_host.specs.Names.{is_delta}
-use Rattle.nb_model.specs.Image.{Page, Image, first_page, image_size, image_state, image_scn, image_guid, image_in}
-use Rattle.nb_model.specs.Account.{Kept, Base, IsBase, Account, with_entry}
-use Rattle.nb_model.specs.Causes.{not_database}
-use Rattle.nb_model.specs.Levels.{joined}
-use Rattle.nb_model.specs.Owner.{delta_name, diverted_base, owner}
-use Rattle.nb_model.specs.Sound.{IsSoundImage}
-use Rattle.nb_model.specs.Stands.{to_base, to_record, IsKeptAs, IsRaised, IsCopyOf, HoldsItsRecord, HasOldEntries, NamesItsPast, Stands}
-use Rattle.nb_model.specs.Trail.{Trail, settled, StandsOn, StandsIn}
-use Rattle.nb_model.specs.Well.{IsOfRecord, IsWellBaseIn}
-use Rattle.nb_model.specs.WellTrail.{IsWellTrail}
+use Rattle.std.proofs.Common.{◌≡◌, ◌≢◌, inl, inr, ℕ, ◌+◌, ◌-◌, ◌*◌, ◌%◌, ◌<◌, ◌≤◌, List, [], ◌∷◌, ◌++◌, length, take, replicate, refl, sym, ap, subst, ◌∙◌, arith, length-append, add-mul, le_of_mul-le-mul_right, true, false, ◌==◌, Some, None, Ok, Contains}
+use Rattle.nb_model.proofs.Common.{and_parts, and_from, take-append-le, length-replicate, mul-mod_left, part, is_zeros, is_header, state_of, size_of, guid_of, part-take, size_facts, stalled_state, merge_state, applying_state, File, Files, is_delta, Page, Image, first_page, image_size, image_state, image_scn, image_guid, image_in, Kept, Base, IsBase, Account, with_entry, not_database, joined, delta_name, diverted_base, owner, IsSoundImage, to_base, to_record, IsKeptAs, IsRaised, IsCopyOf, HoldsItsRecord, HasOldEntries, NamesItsPast, Stands, Trail, settled, StandsOn, StandsIn, IsOfRecord, IsWellBaseIn, IsWellTrail, some_same}
 use Rattle.nb_model.proofs.FormLaws.{Formed, formed}
 use Rattle.nb_model.proofs.FrontLaws.{owner_of_entry}
 use Rattle.nb_model.proofs.HeadSound.{all_zeros}
@@ -32,11 +12,11 @@ use Rattle.nb_model.proofs.StandsLaws.{header_no_level, state_of_applying, opene
 use Rattle.nb_model.proofs.WellTrailLaws.{settled_well, left_well}
 
 -- zeros after zeros
-zeros_join : (xs ys : List ℕ) → is_zeros xs ≡ true → is_zeros ys ≡ true → is_zeros (xs ++ ys) ≡ true
+pub zeros_join : (xs ys : List ℕ) → is_zeros xs ≡ true → is_zeros ys ≡ true → is_zeros (xs ++ ys) ≡ true
 zeros_join [] ys h k = k
 zeros_join (x ∷ xs) ys h k = let parts = and_parts (x == 0) (is_zeros xs) h in and_from (x == 0) (is_zeros (xs ++ ys)) parts.0 (zeros_join xs ys parts.1 k)
 
-pages_zeros : (zs : List Page) → AreZeros zs → is_zeros (joined zs) ≡ true
+pub pages_zeros : (zs : List Page) → AreZeros zs → is_zeros (joined zs) ≡ true
 pages_zeros [] h = refl
 pages_zeros (z ∷ zs) h = zeros_join z (joined zs) h.0 (pages_zeros zs h.1)
 
@@ -195,10 +175,7 @@ module _ (files : Files) (kept : List Kept) (name : List ℕ) (b : Base) (opens 
   its_state = same_state b (files name) its_main
 
   its_bytes : (bytes : List ℕ) → files name ≡ Some bytes → its_main.bytes ≡ bytes
-  its_bytes bytes there = some_same (sym its_main.there ∙ there)
-    where
-      some_same : Some its_main.bytes ≡ Some bytes → its_main.bytes ≡ bytes
-      some_same h = cc
+  its_bytes bytes there = some_same its_main.bytes bytes (sym its_main.there ∙ there)
 
   its_base : (c : Base) → IsBase b ≡ IsBase c → b ≡ c
   its_base c e = cc

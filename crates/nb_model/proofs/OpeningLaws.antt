@@ -1,42 +1,18 @@
 -- The first statement of a run: whether its name is free, and what it makes.
-use Rattle.std.proofs.Common.{◌≡◌, ◌≢◌, inl, inr, ℕ, List, [], ◌∷◌, ◌++◌, take, refl, sym, ap, subst, ◌∙◌}
-use Rattle.std.specs.Prelude.{Bool, true, false, not, ◌&&◌, ◌||◌, ◌==◌, Option, Some, None, Result, Ok, Err, is_some, is_none}
-use Rattle.std.proofs.lemmas.Bool.Decides.{eqb_tells}
-use Rattle.std.proofs.lemmas.List.{append-nil}
-use Rattle.nb_fields.specs.Bytes.{is_zeros}
-use Rattle.nb_fields.specs.Fresh.{fresh, fresh_count}
-use Rattle.nb_fields.specs.Free.{is_free_file}
-use Rattle.nb_fields.specs.Header.{is_header, state_of, pending_of}
-use Rattle.nb_fields.proofs.HeaderLaws.{is_header-take}
-use Rattle.nb_fields.specs.States.{applying_state}
-use Rattle.nb_host.specs.Files.{File, Files}
-use Rattle.nb_host.specs.Names.{is_delta}
-use Rattle.nb_host.specs.declared.refusals.Refusal.{Refusal}
-use Rattle.nb_host.specs.declared.refusals.Refusal.TheVariants.{FileExists, Unfinished}
-use Rattle.nb_model.specs.declared.reply.Reply.{Reply}
-use Rattle.nb_model.specs.declared.reply.Reply.TheVariants.{Pages, Refused}
-use Rattle.nb_model.specs.declared.statement.Statement.{Statement}
-use Rattle.nb_model.specs.declared.statement.Statement.TheVariants.{CreateDb}
-use Rattle.nb_model.specs.Image.{Image}
-use Rattle.nb_model.specs.Account.{Base, base_of, Kept, Entry, Plain, IsBase, Account, with_entry}
-use Rattle.nb_model.specs.Strokes.{Stroke, make, on_base, records_of, base_in, base_after, records_after}
-use Rattle.nb_model.specs.Causes.{Cause, not_database, when, is_free_entry}
-use Rattle.nb_model.specs.Owner.{delta_name, owner, owner_in, entry_of_files}
-use Rattle.nb_model.specs.Outcomes.{Given}
-use Rattle.nb_model.specs.Run.{Now, Event, base_now, with_made, account_after, IsPlayed, Opening, begun, refused_opening, done_opening, opening_unless, opening, IsRest, IsRun}
-use Rattle.nb_model.specs.Stands.{IsSameImage}
+use Rattle.std.proofs.Common.{◌≡◌, ◌≢◌, inl, inr, ℕ, List, [], ◌∷◌, ◌++◌, take, refl, sym, ap, subst, ◌∙◌, Bool, true, false, not, ◌&&◌, ◌||◌, ◌==◌, Option, Some, None, Result, Ok, Err, is_some, is_none}
+use Rattle.nb_model.proofs.Common.{eqb_tells, append-nil, is_zeros, fresh, fresh_count, is_free_file, is_header, state_of, pending_of, is_header-take, applying_state, File, Files, is_delta, Refusal, FileExists, Unfinished, Reply, Pages, Refused, Statement, CreateDb, Image, Base, base_of, Kept, Entry, Plain, IsBase, Account, with_entry, Stroke, make, on_base, records_of, base_in, base_after, records_after, Cause, not_database, when, is_free_entry, delta_name, owner, entry_of_files, Given, Now, Event, base_now, with_made, account_after, IsPlayed, Opening, begun, refused_opening, done_opening, opening_unless, opening, IsRun, IsSameImage, err_not_ok}
+use Rattle.nb_model.specs.Owner.{owner_in}
+use Rattle.nb_model.specs.Run.{IsRest}
 use Rattle.nb_model.proofs.HeaderLaws.{header-other}
 use Rattle.nb_model.proofs.MainLaws.{owner-formed, owner-refused}
 use Rattle.nb_model.proofs.RunLaws.{entry_same, base_in_base}
 use Rattle.nb_model.proofs.StandsLaws.{entry_other, formed_header}
+use Rattle.nb_fields.proofs.Rows.{no_file}
 
 -- in the applying state it isn't opened
-owner_applying : (name bytes : List ℕ) (delta : File) → owner_in 3 name bytes delta ≡ Err Unfinished
+pub owner_applying : (name bytes : List ℕ) (delta : File) → owner_in 3 name bytes delta ≡ Err Unfinished
 unfolding owner_in
 owner_applying name bytes delta = refl
-
-err_ok : (answer : Result Base Refusal) (r : Refusal) (b : Base) → answer ≡ Err r → answer ≡ Ok b → ⊥
-err_ok answer r b e f = cc
 
 -- a file in use: a header in another state
 pub in_use : (bytes : List ℕ) → is_header bytes ≡ true → (state_of bytes == applying_state) ≡ false → is_free_file (Some bytes) ≡ false
@@ -50,20 +26,16 @@ pub opened_in_use : (name bytes : List ℕ) (delta : File) (b : Base) → owner 
 opened_in_use name bytes delta b opens = by (not_database bytes) refl
   where
     by : (c : Cause) → not_database bytes ≡ c → is_free_file (Some bytes) ≡ false
-    by (Some r) is = absurd (err_ok (owner name (Some bytes) delta) r b (owner-refused name bytes delta r is) opens)
+    by (Some r) is = absurd (err_not_ok r b (owner name (Some bytes) delta) (owner-refused name bytes delta r is) opens)
     by None is = elim (eqb_tells (state_of bytes) 3) [
-      | inl w ↦ absurd (err_ok (owner name (Some bytes) delta) Unfinished b (owner-formed name bytes delta is ∙ ap (λ n. owner_in n name bytes delta) w.1 ∙ owner_applying name bytes delta) opens)
+      | inl w ↦ absurd (err_not_ok Unfinished b (owner name (Some bytes) delta) (owner-formed name bytes delta is ∙ ap (λ n. owner_in n name bytes delta) w.1 ∙ owner_applying name bytes delta) opens)
       | inr w ↦ in_use bytes (formed_header bytes is) w.0
     ]
-
-pub missing_free : is_free_file None ≡ true
-unfolding is_free_file
-missing_free = refl
 
 -- whether a name is free, by its two files
 free_of_files : (name : List ℕ) (main delta : File) → is_free_entry (entry_of_files name main delta) ≡ (is_free_file main && not (is_some delta))
 unfolding entry_of_files is_free_entry
-free_of_files name None delta = rw (missing_free) (alone delta)
+free_of_files name None delta = rw (no_file) (alone delta)
   where
     alone : (delta : File) → is_none delta ≡ not (is_some delta)
     alone None = refl

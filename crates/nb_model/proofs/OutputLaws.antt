@@ -1,12 +1,6 @@
 -- What runs say and what of it is acknowledged, where one run goes on from another.
-use Rattle.std.proofs.Common.{◌≡◌, ℕ, ◌-◌, ◌≤◌, List, [], ◌∷◌, ◌++◌, length, take, decimal, max, refl, sym, ap, ◌∙◌, arith, length-append, append_assoc}
-use Rattle.std.specs.Prelude.{Option, Some, None}
-use Rattle.std.proofs.lemmas.List.{take-append-le, append-nil}
-use Rattle.std.proofs.Math.Seq.{take-append-add}
-use Rattle.nb_model.specs.declared.reply.Reply.{Reply}
-use Rattle.nb_model.specs.Lines.{line_text, spaced, reply_words}
-use Rattle.nb_model.specs.Run.{Event, strokes_of, replies_of}
-use Rattle.nb_model.specs.Output.{text_of, output, status_after, status_of, acked_in}
+use Rattle.std.proofs.Common.{◌≡◌, ℕ, ◌-◌, ◌≤◌, List, [], ◌∷◌, ◌++◌, length, take, decimal, max, refl, sym, ap, ◌∙◌, arith, length-append, append_assoc, Option, Some, None}
+use Rattle.nb_model.proofs.Common.{take-append-le, append-nil, take-append-add, Reply, line_text, spaced, reply_words, Event, strokes_of, replies_of, text_of, output, status_after, status_of, acked_in, cons_nil, tail_same}
 use Rattle.nb_model.proofs.AckedLaws.{quiet, lined}
 
 -- the reply of an event, if it has one, before other replies
@@ -81,14 +75,8 @@ front_more es fs part is =
   where
     front_low : (part whole : List ℕ) → part ≡ take (length part) whole → length part ≤ length whole
     front_low [] whole e = omega arith
-    front_low (x ∷ xs) [] e = absurd (some_none e)
-      where
-        some_none : x ∷ xs ≡ [] → ⊥
-        some_none h = cc
-    front_low (x ∷ xs) (y ∷ ys) e = let rest = front_low xs ys (tail e) in omega arith
-      where
-        tail : x ∷ xs ≡ y ∷ take (length xs) ys → xs ≡ take (length xs) ys
-        tail h = cc
+    front_low (x ∷ xs) [] e = absurd (cons_nil x xs e)
+    front_low (x ∷ xs) (y ∷ ys) e = let rest = front_low xs ys (tail_same x y xs (take (length xs) ys) e) in omega arith
 
 -- All that the first says and a front of what the second says is a front of what both say.
 pub front_behind : (es fs : List Event) (part : List ℕ) → part ≡ take (length part) (output fs) → output es ++ part ≡ take (length (output es ++ part)) (output (es ++ fs))

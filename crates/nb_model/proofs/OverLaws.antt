@@ -1,17 +1,6 @@
 -- What two files give in the stalled state: what isn't diverted is the frozen image's.
-use Rattle.std.proofs.Common.{◌≡◌, inl, inr, ℕ, zero, suc, ◌+◌, ◌<◌, List, [], length, take, refl, sym, ap, subst, ◌∙◌, arith}
-use Rattle.std.specs.Prelude.{true, false, ◌==◌, Option, Some, None, Ok, max}
-use Rattle.std.proofs.lemmas.Bool.{true≢false}
-use Rattle.std.proofs.lemmas.Bool.Decides.{leb_tells}
-use Rattle.nb_fields.specs.Bytes.{is_zeros}
-use Rattle.nb_fields.specs.Header.{state_of, size_of}
-use Rattle.nb_fields.specs.States.{normal_state, stalled_state}
-use Rattle.nb_host.specs.Files.{File}
-use Rattle.nb_model.specs.Image.{Page, Image, page_at, first_page, image_state, image_in}
-use Rattle.nb_model.specs.Account.{Base}
-use Rattle.nb_model.specs.Owner.{entry_for, behind_entries, slot_page, main_page, owned_page, owned_from, owned, diverted_base, owner}
-use Rattle.nb_model.specs.Sound.{HasNoZeros}
-use Rattle.nb_model.specs.WellTrail.{IsOverFrozen}
+use Rattle.std.proofs.Common.{◌≡◌, inl, inr, ℕ, zero, suc, ◌+◌, ◌<◌, List, [], length, take, refl, sym, ap, subst, ◌∙◌, arith, true, false, ◌==◌, Option, Some, None, Ok, max}
+use Rattle.nb_model.proofs.Common.{true≢false, leb_tells, is_zeros, state_of, size_of, normal_state, stalled_state, File, Page, Image, page_at, first_page, image_state, image_in, Base, entry_for, behind_entries, slot_page, main_page, owned_page, owned_from, owned, diverted_base, owner, HasNoZeros, IsOverFrozen}
 use Rattle.nb_model.proofs.HeaderLaws.{header-long}
 use Rattle.nb_model.proofs.ImageLaws.{zeros-are}
 use Rattle.nb_model.proofs.MainLaws.{IsLaid, laid, some_page, owned-front, owned-first, diverted-image, owner_cases, main_state}
@@ -40,13 +29,13 @@ module _ (size : ℕ) (main : Image) (delta table : List ℕ) where
   owned_at p low = from_at (max (length main) (behind_entries table)) 0 p (omega (arith, low, owned_length)) ∙ ap (owned_page size main delta table) (let e : 0 + p ≡ p = omega arith in e)
 
   -- a page that no entry names
-  owned_rest : (p : ℕ) → entry_for p table ≡ None → owned_page size main delta table p ≡ main_page size main p
+  pub owned-none : (p : ℕ) → entry_for p table ≡ None → owned_page size main delta table p ≡ main_page size main p
   unfolding owned_page
-  owned_rest p none = ap (λ (x : Option ℕ). elim x as (λ z. Page) [ Some k ↦ slot_page size main delta p k | None ↦ main_page size main p ]) none
+  owned-none p none = ap (λ (x : Option ℕ). elim x as (λ z. Page) [ Some k ↦ slot_page size main delta p k | None ↦ main_page size main p ]) none
 
   rest_same : HasNoZeros (owned size main delta table) → (p : ℕ) → p < length (owned size main delta table) → entry_for p table ≡ None → (p < length main) × (page_at (owned size main delta table) p ≡ page_at main p)
   rest_same some p low none =
-      let is : page_at (owned size main delta table) p ≡ main_page size main p = owned_at p low ∙ owned_rest p none in
+      let is : page_at (owned size main delta table) p ≡ main_page size main p = owned_at p low ∙ owned-none p none in
       elim (leb_tells (suc p) (length main)) [
         | inl w ↦ (w.1, is ∙ main_here size main p w.1)
         | inr w ↦

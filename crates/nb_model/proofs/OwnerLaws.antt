@@ -1,11 +1,6 @@
 -- Merging an entry changes no image: the page belongs to the difference file before and after.
-use Rattle.std.proofs.Common.{◌≡◌, ◌≢◌, inl, inr, ℕ, zero, suc, ◌+◌, ◌-◌, ◌<◌, ◌≤◌, List, [], ◌∷◌, ◌++◌, length, get_or, take, drop, replicate, refl, sym, ap, ◌∙◌, arith, length-append, set, length-set, get_or-set_other, get_or-set_same}
-use Rattle.std.specs.Prelude.{Bool, true, false, Option, Some, None, max}
-use Rattle.std.proofs.lemmas.Bool.Decides.{eqb_tells, leb_tells}
-use Rattle.std.proofs.lemmas.List.{get_or_append_left, get_or-append_right, take_at, length-take-le}
-use Rattle.nb_fields.specs.Table.{slot_place, page_in}
-use Rattle.nb_model.specs.Image.{Page, Image, page_at, written_at}
-use Rattle.nb_model.specs.Owner.{entry_for, behind_entries, slot_page, main_page, owned_page, owned_from, owned}
+use Rattle.std.proofs.Common.{◌≡◌, ◌≢◌, inl, inr, ℕ, zero, suc, ◌+◌, ◌-◌, ◌<◌, ◌≤◌, List, [], ◌∷◌, ◌++◌, length, get_or, take, drop, replicate, refl, sym, ap, ◌∙◌, arith, length-append, set, length-set, get_or-set_other, get_or-set_same, Bool, true, false, Option, Some, None, max}
+use Rattle.nb_model.proofs.Common.{eqb_tells, leb_tells, get_or_append_left, get_or-append_right, take_at, length-take-le, slot_place, page_in, Page, Image, page_at, written_at, entry_for, behind_entries, slot_page, main_page, owned_page, owned_from, owned, none_some}
 
 pub zeros_there : (n k : ℕ) (zeros page : Page) → k < n → get_or (replicate n zeros ++ page ∷ []) k [] ≡ zeros
 zeros_there zero k zeros page h = absurd (omega arith)
@@ -91,20 +86,14 @@ slot_kept size k n (suc q) j main delta some long = refl
 -- which page is an entry's
 pub named : (p : ℕ) (table : List ℕ) (k : ℕ) → entry_for p table ≡ Some k → p + 1 ≤ behind_entries table
 unfolding entry_for
-named p [] k e = absurd (none_some e)
-  where
-    none_some : None ≡ Some k → ⊥
-    none_some h = cc
+named p [] k e = absurd (none_some k e)
 named p (q ∷ qs) k e = elim (eqb_tells p q) [
   | inl w ↦ omega (arith, w.1)
   | inr w ↦ by_rest (named p qs) (entry_for p qs) refl (sym (ap (λ (t : Bool). elim t as (λ z. Option ℕ) [ true ↦ Some 0 | false ↦ elim (entry_for p qs) [ None ↦ None | Some i ↦ Some (suc i) ] ]) w.0) ∙ e)
 ]
   where
-    none_some : None ≡ Some k → ⊥
-    none_some h = cc
-
     by_rest : ((i : ℕ) → entry_for p qs ≡ Some i → p + 1 ≤ behind_entries qs) → (x : Option ℕ) → entry_for p qs ≡ x → elim (entry_for p qs) as (λ z. Option ℕ) [ None ↦ None | Some i ↦ Some (suc i) ] ≡ Some k → p + 1 ≤ behind_entries (q ∷ qs)
-    by_rest later None is h = absurd (none_some (ap (λ (y : Option ℕ). elim y as (λ z. Option ℕ) [ None ↦ None | Some i ↦ Some (suc i) ]) (sym is) ∙ h))
+    by_rest later None is h = absurd (none_some k (ap (λ (y : Option ℕ). elim y as (λ z. Option ℕ) [ None ↦ None | Some i ↦ Some (suc i) ]) (sym is) ∙ h))
     by_rest later (Some i) is h = let r = later i is in omega (arith, r)
 
 -- each page of the image
@@ -113,14 +102,11 @@ page_kept : (size k n : ℕ) (main : Image) (delta table : List ℕ) → entry_f
 unfolding owned_page
 page_kept size k n main delta table e some long q = by_entry (entry_for q table) refl
   where
-    none_some : None ≡ Some k → ⊥
-    none_some h = cc
-
     by_entry : (x : Option ℕ) → entry_for q table ≡ x
         → elim x as (λ z. Page) [ Some j ↦ slot_page size (written_at size (n, slot_page size main delta n k) main) delta q j | None ↦ main_page size (written_at size (n, slot_page size main delta n k) main) q ]
         ≡ elim x as (λ z. Page) [ Some j ↦ slot_page size main delta q j | None ↦ main_page size main q ]
     by_entry (Some j) is = slot_kept size k n q j main delta some long
-    by_entry None is = other_page size n (slot_page size main delta n k) main q (λ same. none_some (sym is ∙ ap (λ (x : ℕ). entry_for x table) same ∙ e))
+    by_entry None is = other_page size n (slot_page size main delta n k) main q (λ same. none_some k (sym is ∙ ap (λ (x : ℕ). entry_for x table) same ∙ e))
 
 all_kept : (size : ℕ) (main new : Image) (delta table : List ℕ) → ((q : ℕ) → owned_page size new delta table q ≡ owned_page size main delta table q)
     → (count p : ℕ) → owned_from size new delta table count p ≡ owned_from size main delta table count p

@@ -1,16 +1,6 @@
 -- Each stroke of a statement on pages fits at its point, in whatever state, and writes no rows of the history.
-use Rattle.std.proofs.Common.{◌≡◌, ℕ, List, refl, sym, arith, subst}
-use Rattle.std.specs.Prelude.{Bool, true, Some, None}
-use Rattle.std.proofs.lemmas.Bool.{true≢false}
-use Rattle.nb_model.specs.declared.statement.Statement.{Statement}
-use Rattle.nb_model.specs.declared.statement.Statement.TheVariants.{CreateDb, OpenDb, PageNew, Write, Free, CreateTable, DropTable, Insert, Update, Delete, Get, Scan, Forced, Access, Reclaim, ShowCache}
-use Rattle.nb_model.specs.Causes.{Cause}
-use Rattle.nb_model.specs.Going.{IsNamed}
-use Rattle.nb_model.specs.Outcomes.{Begins, Seen, Outcome, unless, changes}
-use Rattle.nb_model.specs.Pages.{new_turn, write_turn, free_turn, forced_turn, access_turn, cache_turn}
-use Rattle.nb_model.specs.Turns.{first_turn}
-use Rattle.nb_model.specs.Sound.{IsSoundImage, HasHeader}
-use Rattle.nb_model.specs.Well.{is_on_pages}
+use Rattle.std.proofs.Common.{◌≡◌, ℕ, List, refl, sym, arith, subst, Bool, true, Some, None}
+use Rattle.nb_model.proofs.Common.{true≢false, Statement, CreateDb, OpenDb, PageNew, Write, Free, CreateTable, DropTable, Insert, Update, Delete, Get, Scan, Forced, Access, Reclaim, ShowCache, Cause, IsNamed, Begins, Seen, Outcome, unless, changes, new_turn, write_turn, free_turn, forced_turn, access_turn, cache_turn, first_turn, IsSoundImage, HasHeader, is_on_pages}
 use Rattle.nb_model.proofs.ToldTurns.{does_more, told_strokes, pages_cases}
 use Rattle.nb_model.proofs.FitLaws.{AreFitting}
 use Rattle.nb_model.proofs.PutSound.{no_first, short_text, text_fits}

@@ -1,26 +1,9 @@
 -- Where a page is written that fits, the image names the same backups.
-use Rattle.std.proofs.Common.{◌≡◌, ◌≢◌, inl, inr, ℕ, suc, ◌<◌, ◌≤◌, List, [], ◌∷◌, ◌++◌, length, refl, sym, ap, subst, ◌∙◌, arith, set}
-use Rattle.std.specs.Prelude.{true, false, ◌==◌}
-use Rattle.std.specs.List.{AllByRecursion}
-use Rattle.std.proofs.lemmas.Bool.{true≢false, and_left, ne_eqb}
-use Rattle.std.proofs.lemmas.Bool.Decides.{eqb_tells, leb_tells}
-use Rattle.std.proofs.lemmas.List.Elements.{Contains-append_left}
-use Rattle.nb_fields.specs.Page.{kind_of, stamp_of}
-use Rattle.nb_fields.specs.Kinds.{data_kind}
-use Rattle.nb_model.specs.Image.{Page, Image, page_at, image_size, image_guid, with_page}
-use Rattle.nb_model.specs.Account.{Kept}
-use Rattle.nb_model.specs.Sound.{IsSoundImage}
-use Rattle.nb_model.specs.Chains.{Slot, is_used, slots_in, guid_in}
-use Rattle.nb_model.specs.Follows.{Follows}
-use Rattle.nb_model.specs.Stands.{IsKeptAs, is_history_page, GoesOn, IsRemembered, HasRows, NamesPast}
+use Rattle.std.proofs.Common.{◌≡◌, ◌≢◌, inl, inr, ℕ, suc, ◌<◌, ◌≤◌, List, ◌++◌, length, refl, sym, ap, subst, ◌∙◌, arith, set, true, false, ◌==◌}
+use Rattle.nb_model.proofs.Common.{true≢false, and_left, ne_eqb, eqb_tells, leb_tells, Contains-append_left, kind_of, stamp_of, data_kind, Page, Image, page_at, image_size, image_guid, with_page, Kept, IsSoundImage, Slot, is_used, slots_in, guid_in, Follows, IsKeptAs, is_history_page, GoesOn, IsRemembered, HasRows, NamesPast, all_go}
 use Rattle.nb_model.proofs.StrokeLaws.{with_page_same}
 use Rattle.nb_model.proofs.FollowsLaws.{follows_set, follows_add}
 use Rattle.nb_model.proofs.SoundLaws.{written_other, with_page_length, HasFields, FitsAt, size_stays, scn_stays, guid_stays}
-
--- what holds of each row
-pub all_rows : (P R : Slot → Type 0) (rows : List Slot) → ((row : Slot) → P row → R row) → AllByRecursion P rows → AllByRecursion R rows
-all_rows P R [] goes h = tt
-all_rows P R (row ∷ rows) goes h = (goes row h.0, all_rows P R rows goes h.1)
 
 -- a page that fits changes nothing of lineage
 follows_written : (a image : Image) (n p : ℕ) (bytes : Page) → Follows a n image → p ≤ length image → n < stamp_of bytes → 1 ≤ length image → image_size (with_page p bytes image) ≡ image_size image → Follows a n (with_page p bytes image)
@@ -52,7 +35,7 @@ module _ (kept : List Kept) (P R : Kept → Type 0) (goes : (r : Kept) → P r �
 
   pub rows_with : (page : Page) → HasRows kept P page → HasRows kept R page
   rows_with page rows history =
-      all_rows (λ row. is_used row ≡ true → IsRemembered kept P row) (λ row. is_used row ≡ true → IsRemembered kept R row) (slots_in page) (λ row h used. remembered_with row (h used)) (rows history)
+      all_go {X = Slot} (λ row. is_used row ≡ true → IsRemembered kept P row) (λ row. is_used row ≡ true → IsRemembered kept R row) (slots_in page) (λ row h used. remembered_with row (h used)) (rows history)
 
   pub past_with : (image : Image) → NamesPast kept P image → NamesPast kept R image
   past_with image past = record {
@@ -82,7 +65,7 @@ module _ (kept more : List Kept) where
   pub past_more : (P : Kept → Type 0) (image : Image) → NamesPast kept P image → NamesPast (kept ++ more) P image
   past_more P image past = record {
     rows = λ p low history.
-        all_rows (λ row. is_used row ≡ true → IsRemembered kept P row) (λ row. is_used row ≡ true → IsRemembered (kept ++ more) P row) (slots_in (page_at image p))
+        all_go {X = Slot} (λ row. is_used row ≡ true → IsRemembered kept P row) (λ row. is_used row ≡ true → IsRemembered (kept ++ more) P row) (slots_in (page_at image p))
         (λ row h used. let old : IsRemembered kept P row = h used in record { backup = old.backup; kept_as = kept_more (guid_in row) old.backup old.kept_as; scn = old.scn; level = old.level; passes = old.passes })
         (past.rows p low history);
     last = λ some. let old = past.last some in (old.0, kept_more (image_guid image) old.0 old.1, old.2);

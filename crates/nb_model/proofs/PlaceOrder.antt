@@ -1,13 +1,8 @@
 -- The places of system pages rise with the pages that they have.
-use Rattle.std.proofs.Common.{◌≡◌, inl, inr, ℕ, zero, suc, ◌+◌, ◌*◌, ◌/◌, ◌%◌, ◌<◌, ◌≤◌, sym, ap, ◌∙◌, arith, mul-le-mul_right}
-use Rattle.std.specs.Prelude.{true, ◌==◌, IsTrue}
-use Rattle.std.proofs.Math.Nat.{div-mul-le_self, div-eq_of_lt}
+use Rattle.std.proofs.Common.{◌≡◌, inl, inr, ℕ, zero, suc, ◌+◌, ◌*◌, ◌/◌, ◌%◌, ◌<◌, ◌≤◌, sym, ap, ◌∙◌, arith, mul-le-mul_right, true, ◌==◌, IsTrue}
+use Rattle.nb_model.proofs.Common.{div-mul-le_self, div-eq_of_lt, eqb-true, or_cases, eqb_tells, is_page_size, entries_in, bits_in, inventory_place, scn_place, is_inventory_place, is_scn_place, bits-least, entries-least, scn_place-some}
 use Rattle.std.proofs.lemmas.Nat.{le-div}
-use Rattle.std.proofs.lemmas.Bool.{eqb-true, or_cases}
-use Rattle.std.proofs.lemmas.Bool.Decides.{eqb_tells}
-use Rattle.nb_fields.specs.Places.{is_page_size, entries_in, bits_in, inventory_place, scn_place, is_inventory_place, is_scn_place}
-use Rattle.nb_fields.proofs.PlaceLaws.{bits-least, entries-least}
-use Rattle.nb_model.proofs.SoundLaws.{scn_place_some, scn_place_of}
+use Rattle.nb_model.proofs.SoundLaws.{scn_place_of}
 
 pub div_rises : (a b n : ℕ) → 0 < n → a ≤ b → a / n ≤ b / n
 div_rises a b n some le = le-div (a / n) b n some (omega (arith, div-mul-le_self a n, le))
@@ -63,7 +58,7 @@ map_behind size p q is at low = omega (arith, map_place_is size p is at, maps_ri
 
 -- so of SCN pages
 pub scn_places_from : (size j k : ℕ) → IsTrue (is_page_size size) → j ≤ k → scn_place size j ≤ scn_place size k
-scn_places_from size zero k is le = scn_place_some size k is
+scn_places_from size zero k is le = scn_place-some size k is
 scn_places_from size (suc j) zero is le = absurd (omega (arith, le))
 scn_places_from size (suc j) (suc k) is le = mul-le-mul_right (entries_in size) le
 

@@ -1,49 +1,28 @@
 -- The slot of a new table is placed in the catalogue, in an image in which the table's page stands.
-use Rattle.std.proofs.Common.{◌≡◌, ◌≢◌, ◌⊎◌, inl, inr, ⊎_elim, ℕ, zero, suc, ◌+◌, ◌*◌, ◌≤◌, ◌<◌, List, [], ◌∷◌, ◌++◌, length, drop, refl, sym, ap, subst, ◌∙◌, arith}
-use Rattle.std.specs.Prelude.{Bool, true, false, Option, Some, None, is_some, Result, Ok, Contains}
-use Rattle.std.specs.List.{AllByRecursion}
-use Rattle.std.specs.Cmp.Lexicographic.{told_text}
-use Rattle.std.proofs.lemmas.Bool.{true≢false, and_from, and_left, and_right, eq-eqb}
-use Rattle.std.proofs.lemmas.List.{append-nil}
-use Rattle.nb_fields.specs.Bytes.{bytes_of, with_part}
-use Rattle.nb_fields.specs.Payloads.{data_payload}
-use Rattle.nb_fields.specs.Kinds.{data_kind}
-use Rattle.nb_host.specs.Names.{same_name}
-use Rattle.nb_model.specs.Account.{Base}
-use Rattle.nb_model.specs.Causes.{broken_at}
-use Rattle.nb_model.specs.Chains.{Chain, Catalogue, History, RowsFrom, Slot, Spot, owner_of, next_in, is_slot, is_used, table_of, first_in, slots_in, first_such, free_spot, walk, pages_of, found_pages, spots_of, spots, table_spot, table_slot, put_slot, last_of, grown, place_at, place_slot}
-use Rattle.nb_model.specs.Forms.{Draft, drafted, wants, put, raised, new_page}
-use Rattle.nb_model.specs.Image.{Page, Image, page_at}
-use Rattle.nb_model.specs.RowChanges.{GivesRows}
-use Rattle.nb_model.specs.Rows.{used, table_chains, chains, pages_of_all, IsNeat}
-use Rattle.nb_model.specs.Sound.{HasHeader, IsSoundImage}
-use Rattle.nb_model.specs.TableNames.{is_table_name}
+use Rattle.std.proofs.Common.{◌≡◌, ◌≢◌, ◌⊎◌, inl, inr, ⊎_elim, ℕ, zero, suc, ◌+◌, ◌*◌, ◌≤◌, ◌<◌, List, [], ◌∷◌, ◌++◌, length, drop, refl, sym, ap, subst, ◌∙◌, arith, Bool, true, false, Option, Some, None, is_some, Ok, Contains}
+use Rattle.nb_model.proofs.Common.{AllByRecursion, told_text, true≢false, and_from, and_left, and_right, eq-eqb, append-nil, bytes_of, with_part, data_payload, data_kind, same_name, Base, broken_at, Chain, Catalogue, History, RowsFrom, Slot, Spot, owner_of, next_in, is_slot, is_used, table_of, first_in, slots_in, first_such, free_spot, walk, pages_of, found_pages, spots_of, spots, table_spot, table_slot, put_slot, last_of, grown, place_at, place_slot, Draft, drafted, wants, put, raised, new_page, Page, Image, page_at, GivesRows, used, table_chains, chains, pages_of_all, IsNeat, HasHeader, IsSoundImage, is_table_name, some_same, all_go, all_both}
 use Rattle.nb_model.proofs.Along.{Along, put_along}
 use Rattle.nb_model.proofs.ChainWalks.{HasForm, there_by, walk_on_is, onward, found_is, spots_are}
 use Rattle.nb_model.proofs.DraftJoin.{Joins, joined, joined_grouped, join_put, join_wants, join_new}
 use Rattle.nb_model.proofs.GrowthTurns.{free_unused, spots_one, begins, behind, grown_spots, grows, new_spot, y as grown_image, made as made_in, last as last_in_chain, last_in, is_made as is_made_in, keeps_x, grown_along, grown_end}
-use Rattle.nb_model.proofs.HeldChains.{KeepsEach, nothing_changes}
+use Rattle.nb_model.proofs.HeldChains.{KeepsEach, nothing_changes, ok_none}
 use Rattle.nb_model.proofs.HeldLaws.{IsHeld}
-use Rattle.nb_model.proofs.Inserted.{Inserted, inserted_last, inserted_used, used_more, Among}
+use Rattle.nb_model.proofs.Inserted.{Inserted, inserted_last, inserted_used, used_more, Among, used_nothing}
 use Rattle.nb_model.proofs.NeatDrops.{has_name}
 use Rattle.nb_model.proofs.NeatGrows.{GrowsChain}
-use Rattle.nb_model.proofs.NeatLaws.{all_go, all_both, pages_among, chain_apart, chains_are, same_pages, stays_neat, other_rows, rows_of_none, used_yes, used_not, ChangesChain}
+use Rattle.nb_model.proofs.NeatLaws.{pages_among, chain_apart, chains_are, same_pages, stays_neat, other_rows, rows_of_none, used_yes, used_not, ChangesChain, no_catalogue_history}
 use Rattle.nb_model.proofs.NeatMakes.{no_page, a_page, MakesTable, table_made}
 use Rattle.nb_model.proofs.NewSlots.{IsFree}
 use Rattle.nb_model.proofs.FoundSpots.{each_held, found_there}
 use Rattle.nb_model.proofs.SlotPuts.{slot_between, keeps as slot_keeps, IsSlotPut, slot_put}
 use Rattle.nb_model.proofs.SpotKeys.{ChangesOnce, Absent}
 use Rattle.nb_model.proofs.SpotLaws.{IsSpotOn}
-use Rattle.nb_model.proofs.SpotMaps.{ChangesOne, all_spots, both_spots, is_free_slot, free_unused as not_used, none_such, no_such, such_passes, first_true, first_false, others_found, now_found, same_some}
+use Rattle.nb_model.proofs.SpotMaps.{ChangesOne, is_free_slot, free_unused as not_used, none_such, no_such, such_passes, first_true, first_false, others_found, now_found}
 use Rattle.nb_model.proofs.SpotMore.{first_in_front, first_behind}
 use Rattle.nb_model.proofs.SpotWrites.{put_at, put_it, all_change, changes_once}
 use Rattle.nb_model.proofs.TableCases.{chain_at}
 use Rattle.nb_model.proofs.TableSlots.{table_used, table_first, table_name, table_is_slot}
 use Rattle.nb_model.proofs.TableTurns.{table_length, name_short}
-
-nothing_used : used [] ≡ []
-unfolding used
-nothing_used = refl
 
 free_of_catalogue : (image : Image) → free_spot (spots Catalogue image) ≡ free_spot (spots_of image (found_pages Catalogue image))
 unfolding spots
@@ -73,11 +52,11 @@ such_among s free f filled test [] found = cc
 such_among s free f filled test (x ∷ xs) found = by (test x) refl (λ h. such_among s free f filled test xs h)
   where
     by : (t : Bool) → test x ≡ t → (first_such test xs ≡ Some s → Among f s free filled xs) → (x ≡ s) ⊎ Among f s free filled xs
-    by true is rest = inl (same_some x s (sym (first_true test x xs is) ∙ found))
+    by true is rest = inl (some_same x s (sym (first_true test x xs is) ∙ found))
     by false is rest = inr (rest (sym (first_false test x xs is) ∙ found))
 
 used_from : (P : Spot → Type 0) (xs : List Spot) → AllByRecursion P xs → AllByRecursion (λ u. P u × (is_used u.bytes ≡ true)) (used xs)
-used_from P [] all = subst (AllByRecursion (λ u. P u × (is_used u.bytes ≡ true))) (sym nothing_used) tt
+used_from P [] all = subst (AllByRecursion (λ u. P u × (is_used u.bytes ≡ true))) (sym used_nothing) tt
 used_from P (x ∷ xs) all = by (is_used x.bytes) refl (used_from P xs all.1)
   where
     by : (t : Bool) → is_used x.bytes ≡ t → AllByRecursion (λ u. P u × (is_used u.bytes ≡ true)) (used xs) → AllByRecursion (λ u. P u × (is_used u.bytes ≡ true)) (used (x ∷ xs))
@@ -92,9 +71,6 @@ absent_at : (n : ℕ) (qs : List ℕ) (q : ℕ) → Absent n qs → Contains qs 
 absent_at n [] q absent at e = absurd (omega (arith, at.1))
 absent_at n (z ∷ qs) q absent (zero, low, is) e = absent.0 (e ∙ sym is)
 absent_at n (z ∷ qs) q absent (suc k, low, is) e = absent_at n qs q absent.1 (k, omega (arith, low), is) e
-
-ok_unbroken : (r : Result (List ℕ) ℕ) (ps : List ℕ) → r ≡ Ok ps → broken_at r ≡ None
-ok_unbroken r ps is = ap broken_at is
 
 -- The slot of the new table is placed, in an image in which its page stands.
 module _ (c : Base) (header : HasHeader c.image) (is : IsSoundImage c.image) (neat : IsNeat c.image) (n : ℕ) (page : Page) (held : IsHeld n page c.image) (form : HasForm (RowsFrom n) page) (ends : next_in page ≡ 0)
@@ -133,13 +109,10 @@ module _ (c : Base) (header : HasHeader c.image) (is : IsSoundImage c.image) (ne
   pages_are = walked.1 ∙ ap Ok (sym (found_is Catalogue z walked.0 walked.1))
 
   unbroken : broken_at (pages_of Catalogue z) ≡ None
-  unbroken = ok_unbroken (pages_of Catalogue z) ps pages_are
+  unbroken = ok_none (pages_of Catalogue z) ps pages_are
 
   not_of_catalogue : (q : ℕ) → Contains ps q → n ≢ q
   not_of_catalogue q at = absent_at n (pages_of_all z (chains z)) q apart (pages_among z (chains z) Catalogue q of_all at)
-
-  no_catalogue : Catalogue ≢ History
-  no_catalogue e = cc
 
   abbrev Gives : Image → Type 0
   Gives w = GivesRows z w table []
@@ -148,9 +121,9 @@ module _ (c : Base) (header : HasHeader c.image) (is : IsSoundImage c.image) (ne
   still w keeps less =
       let changes : ChangesChain History z w = nothing_changes z header is neat w less keeps in
       record {
-        neat = stays_neat z w neat History no_catalogue changes (λ first e. cc);
-        its = other_rows z w neat History no_catalogue changes table (λ u found e. cc) ∙ rows_of_none z table none;
-        others = λ other ne. other_rows z w neat History no_catalogue changes other (λ u found e. cc);
+        neat = stays_neat z w neat History no_catalogue_history changes (λ first e. cc);
+        its = other_rows z w neat History no_catalogue_history changes table (λ u found e. cc) ∙ rows_of_none z table none;
+        others = λ other ne. other_rows z w neat History no_catalogue_history changes other (λ u found e. cc);
       }
 
   -- its chain, wherever its page is held
@@ -245,7 +218,7 @@ module _ (c : Base) (header : HasHeader c.image) (is : IsSoundImage c.image) (ne
     finds : table_spot table y ≡ Some (f s)
     unfolding table_spot free_spot
     finds = ap (first_such (has_name table)) its_put.spots_then ∙ now_found f s (has_name table) is_free_slot ms found
-        (all_spots (λ u. ChangesOne f s u × (has_name table u ≡ false)) (λ u. is_free_slot u ≡ false → has_name table (f u) ≡ false) ms (λ u facts. one u facts.0 facts.1) (both_spots (ChangesOne f s) (λ u. has_name table u ≡ false) ms all no_name))
+        (all_go {X = Spot} (λ u. ChangesOne f s u × (has_name table u ≡ false)) (λ u. is_free_slot u ≡ false → has_name table (f u) ≡ false) ms (λ u facts. one u facts.0 facts.1) (all_both {X = Spot} (ChangesOne f s) (λ u. has_name table u ≡ false) ms all no_name))
         (has_it (f s) its_bytes)
       where
         one : (u : Spot) → ChangesOne f s u → has_name table u ≡ false → is_free_slot u ≡ false → has_name table (f u) ≡ false
@@ -289,9 +262,9 @@ module _ (c : Base) (header : HasHeader c.image) (is : IsSoundImage c.image) (ne
       where
         still_changes : (w : Image) → ChangesChain History z w → Gives w
         still_changes w changes = record {
-          neat = stays_neat z w neat History no_catalogue changes (λ first e. cc);
-          its = other_rows z w neat History no_catalogue changes table (λ u found e. cc) ∙ rows_of_none z table none;
-          others = λ other ne. other_rows z w neat History no_catalogue changes other (λ u found e. cc);
+          neat = stays_neat z w neat History no_catalogue_history changes (λ first e. cc);
+          its = other_rows z w neat History no_catalogue_history changes table (λ u found e. cc) ∙ rows_of_none z table none;
+          others = λ other ne. other_rows z w neat History no_catalogue_history changes other (λ u found e. cc);
         }
 
   -- Or the catalogue grows by a page.

@@ -1,14 +1,7 @@
 -- A page write to a main file in the normal state: what the file holds then, and what a crash leaves of it.
-use Rattle.std.proofs.Common.{◌≡◌, ◌⊎◌, inl, inr, ℕ, suc, ◌+◌, ◌-◌, ◌*◌, ◌<◌, ◌≤◌, List, [], ◌∷◌, ◌++◌, length, take, drop, replicate, refl, sym, ap, subst, ◌∙◌, arith, length-append, append_assoc, suc-mul, mul-le-mul_right}
-use Rattle.std.specs.Prelude.{true, false, IsTrue, nat_le}
-use Rattle.std.proofs.lemmas.Bool.Decides.{leb_tells}
-use Rattle.std.proofs.lemmas.List.{take-append-le, drop-append-le, take_all, drop_all, drop_at, length-take-le, length-drop, length-replicate, set_split, drop-drop}
-use Rattle.nb_fields.specs.Bytes.{is_zeros}
-use Rattle.nb_fields.specs.Places.{is_page_size, most_pages}
-use Rattle.nb_host.specs.Files.{padded, put_at}
-use Rattle.nb_model.specs.Image.{Page, Image, page_at, first_page, image_size, with_page}
-use Rattle.nb_model.specs.Levels.{joined}
-use Rattle.nb_model.specs.Sound.{IsOfSize}
+use Rattle.std.proofs.Common.{◌≡◌, ◌⊎◌, inl, inr, ℕ, suc, ◌+◌, ◌-◌, ◌*◌, ◌<◌, ◌≤◌, List, [], ◌∷◌, ◌++◌, length, take, drop, replicate, refl, sym, ap, subst, ◌∙◌, arith, length-append, append_assoc, suc-mul, mul-le-mul_right, true, false, IsTrue, nat_le}
+use Rattle.nb_model.proofs.Common.{leb_tells, take-append-le, drop-append-le, take_all, drop_all, drop_at, length-take-le, length-drop, length-replicate, set_split, drop-drop, is_zeros, is_page_size, most_pages, put_at, Page, Image, page_at, first_page, image_size, with_page, joined, IsOfSize}
+use Rattle.nb_host.specs.Files.{padded}
 use Rattle.nb_model.proofs.HeaderLaws.{same-header, same-number}
 use Rattle.nb_model.proofs.ImageLaws.{joined-append, length-joined, take-joined, drop-joined, joined-zeros, zeros-are, all-append, all-take, all-drop, all-replicate}
 use Rattle.nb_model.proofs.StrokeLaws.{with_page_front}

@@ -1,29 +1,10 @@
 -- Each stroke of `put` fits at its point.
-use Rattle.std.proofs.Common.{◌≡◌, ◌≢◌, inl, inr, ℕ, suc, ◌+◌, ◌-◌, ◌*◌, ◌/◌, ◌%◌, ◌^◌, ◌<◌, ◌≤◌, List, ◌∷◌, ◌++◌, length, take, drop, replicate, refl, sym, ap, subst, ◌∙◌, arith, length-drop}
-use Rattle.std.specs.Prelude.{Bool, true, false, not, ◌==◌, nat_le, nat_lt, Some, None}
-use Rattle.std.proofs.lemmas.Bool.{true≢false, cases_lt}
-use Rattle.std.proofs.lemmas.Bool.Decides.{eqb_tells, leb_tells}
-use Rattle.std.proofs.lemmas.List.{length-replicate, drop-drop}
-use Rattle.nb_fields.specs.Bytes.{number_of, bytes_of, number_in, part, with_part, is_zeros, padded}
-use Rattle.nb_fields.specs.Places.{entries_in, bits_in, is_inventory_place, is_scn_place, most_pages}
-use Rattle.nb_fields.specs.Page.{head_of, page_of, kind_of, stamp_of, generation_of, stamped}
-use Rattle.nb_fields.specs.Payloads.{entry_of, text_payload}
-use Rattle.nb_fields.proofs.NumberLaws.{length-bytes_of}
-use Rattle.nb_fields.proofs.PartLaws.{length-with_part, number_in-with_part, number_in-with_part_other}
-use Rattle.nb_fields.proofs.PageLaws.{length-head_of, length-page_of, kind_of-page_of, stamp_of-page_of, padded_whole, part-append}
-use Rattle.nb_fields.proofs.SizeLaws.{SizeFacts, size_facts}
-use Rattle.nb_fields.proofs.PlaceLaws.{entries-least}
-use Rattle.nb_fields.specs.Kinds.{header_kind, raw_kind, scn_kind}
-use Rattle.nb_host.specs.declared.refusals.Refusal.{Refusal}
-use Rattle.nb_model.specs.Image.{Page, Image, page_at, first_page, image_size, image_scn, with_page}
-use Rattle.nb_model.specs.Account.{Base}
-use Rattle.nb_model.specs.Forms.{Draft, drafted, old_page, needs, is_kind, inventory_of, scn_page_of, entry_number, scn_entry, has_entry, entry_written, entry_raised, raised, put}
-use Rattle.nb_model.specs.Causes.{Cause, first_cause, when, not_raw, too_long}
-use Rattle.nb_model.specs.Sound.{IsSoundImage, HasHeader}
+use Rattle.std.proofs.Common.{◌≡◌, ◌≢◌, inl, inr, ℕ, suc, ◌+◌, ◌-◌, ◌*◌, ◌/◌, ◌%◌, ◌^◌, ◌<◌, ◌≤◌, List, ◌∷◌, ◌++◌, length, take, drop, replicate, refl, sym, ap, subst, ◌∙◌, arith, length-drop, Bool, true, false, not, ◌==◌, nat_le, nat_lt, Some, None}
+use Rattle.nb_model.proofs.Common.{true≢false, cases_lt, eqb_tells, leb_tells, length-replicate, drop-drop, number_of, bytes_of, number_in, part, with_part, is_zeros, padded, entries_in, bits_in, is_inventory_place, is_scn_place, most_pages, head_of, page_of, kind_of, stamp_of, generation_of, stamped, entry_of, text_payload, length-bytes_of, length-with_part, number_in-with_part, number_in-with_part_other, length-head_of, length-page_of, kind_of-page_of, stamp_of-page_of, padded_whole, part-append, SizeFacts, size_facts, entries-least, scn_place-some, header_kind, raw_kind, scn_kind, Refusal, Page, Image, page_at, first_page, image_size, image_scn, with_page, Base, Draft, drafted, old_page, needs, is_kind, inventory_of, scn_page_of, entry_number, scn_entry, has_entry, entry_written, entry_raised, raised, put, Cause, first_cause, when, not_raw, too_long, IsSoundImage, HasHeader, some_none}
 use Rattle.nb_model.proofs.DraftLaws.{either}
 use Rattle.nb_model.proofs.FitLaws.{IsWhole, Fits, fits_first, fits_needs, form_page, written_image, fits_more}
 use Rattle.nb_model.proofs.HeaderLaws.{header-size}
-use Rattle.nb_model.proofs.SoundLaws.{all_at, page_no_zeros, inventory_there, scn_page_there, scn_place_some, scn_place_before, with_page_length, HasFields, FitsAt, scn_no_entry, size_stays, scn_stays, entry_here, kind_of_header, written_other}
+use Rattle.nb_model.proofs.SoundLaws.{all_at, page_no_zeros, inventory_there, scn_page_there, scn_place_before, with_page_length, HasFields, FitsAt, scn_no_entry, size_stays, scn_stays, entry_here, kind_of_header, written_other}
 
 -- page p may be written: it isn't page 0, and stands below the length or at it
 pub record IsPlace (image : Image) (p : ℕ) : Type 0 where
@@ -178,7 +159,7 @@ module _ (image : Image) (p : ℕ) (fields : HasFields image) (is : IsSoundImage
 
   raised_fits : FitsAt image s raised_page
   raised_fits = record {
-    head = λ e. absurd (let two = scn_place_some (image_size image) (p / entries_in (image_size image)) fields.size in omega arith);
+    head = λ e. absurd (let two = scn_place-some (image_size image) (p / entries_in (image_size image)) fields.size in omega arith);
     there = omega arith;
     most = let most = is.most in omega arith;
     size = now_length image s 10 (drop 16 entries) fields is refl room;
@@ -246,7 +227,7 @@ module _ (K : Page → Type 0) (scn_pages : (bytes : Page) → kind_of bytes ≡
       let low : scn_page_of d.image p < length d.image = scn_page_below d.image p h.fields h.sound.least at has in
       let fits : FitsAt d.image (scn_page_of d.image p) (raised_page d.image p h.fields h.sound low) = raised_fits d.image p h.fields h.sound low in
       let of_kind : kind_of (raised_page d.image p h.fields h.sound low) ≡ scn_kind = fits.scn_page (place d.image p h.fields h.sound low) in
-      let behind : 1 ≤ scn_page_of d.image p = let two = scn_place_some (image_size d.image) (p / entries_in (image_size d.image)) h.fields.size in omega arith in
+      let behind : 1 ≤ scn_page_of d.image p = let two = scn_place-some (image_size d.image) (p / entries_in (image_size d.image)) h.fields.size in omega arith in
       record {
         fits = fits_more K b (scn_page_of d.image p) 10 _ d behind before fits (scn_pages _ of_kind);
         raises = subst (λ (x : Image). Raises d.image x p) (sym (written_image (scn_page_of d.image p) 10 _ d behind)) (record {
@@ -332,17 +313,11 @@ header_fields image h = record { size = header-size (first_page image) h.header;
 pub no_first : (c : Cause) (cs : List Cause) → first_cause (c ∷ cs) ≡ None → (c ≡ None) × (first_cause cs ≡ None)
 unfolding first_cause
 no_first None cs h = (refl, h)
-no_first (Some r) cs h = absurd (some_none h)
-  where
-    some_none : Some r ≡ None → ⊥
-    some_none e = cc
+no_first (Some r) cs h = absurd (some_none r h)
 
 pub not_when : (t : Bool) (r : Refusal) → when t r ≡ None → t ≡ false
 not_when false r h = refl
-not_when true r h = absurd (some_none h)
-  where
-    some_none : Some r ≡ None → ⊥
-    some_none e = cc
+not_when true r h = absurd (some_none r h)
 
 -- what is read and written is below the length, and a raw page
 pub raw_facts : (image : Image) (p : ℕ) → not_raw image p ≡ None → (p < length image) × (kind_of (page_at image p) ≡ raw_kind)

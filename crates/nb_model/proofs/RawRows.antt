@@ -1,32 +1,13 @@
 -- Statements on raw pages and on a byte of the header change no row of a table.
-use Rattle.std.proofs.Common.{◌≡◌, ◌≢◌, ℕ, ◌+◌, ◌/◌, ◌<◌, ◌≤◌, List, [], length, refl, sym, ap, ◌∙◌, arith}
-use Rattle.std.specs.Prelude.{Bool, Some, None}
-use Rattle.std.specs.List.{AllByRecursion}
-use Rattle.std.proofs.lemmas.Bool.{true≢false}
-use Rattle.nb_fields.specs.Page.{kind_of}
-use Rattle.nb_fields.specs.Payloads.{text_payload}
-use Rattle.nb_fields.specs.Places.{bits_in, is_inventory_place}
-use Rattle.nb_fields.specs.Kinds.{data_kind, raw_kind}
-use Rattle.nb_model.specs.declared.statement.Statement.TheVariants.{PageNew, Write, Free, Forced, Access}
-use Rattle.nb_model.specs.Account.{Base}
-use Rattle.nb_model.specs.Causes.{Cause, not_raw}
-use Rattle.nb_model.specs.Chains.{Catalogue, History, found_pages}
-use Rattle.nb_model.specs.Forms.{Draft, drafted, put, new_page}
-use Rattle.nb_model.specs.Image.{Page, Image, page_at, image_size}
-use Rattle.nb_model.specs.Outcomes.{Seen, Outcome, unless, changes}
-use Rattle.nb_model.specs.Pages.{new_turn, write_turn, free_turn, forced_turn, access_turn, byte_strokes}
-use Rattle.nb_model.specs.RowChanges.{KeepsRows}
-use Rattle.nb_model.specs.Rows.{chains, pages_of_all, rows, IsNeat}
-use Rattle.nb_model.specs.Sound.{HasHeader, IsSoundImage}
-use Rattle.nb_model.specs.Strokes.{Stroke, on_base}
-use Rattle.nb_model.specs.Turns.{first_turn}
+use Rattle.std.proofs.Common.{◌≡◌, ◌≢◌, ℕ, ◌+◌, ◌/◌, ◌<◌, ◌≤◌, List, [], length, refl, sym, ap, ◌∙◌, arith, Bool, Some, None}
+use Rattle.nb_model.proofs.Common.{AllByRecursion, true≢false, kind_of, text_payload, bits_in, is_inventory_place, data_kind, raw_kind, PageNew, Write, Free, Forced, Access, Base, Cause, not_raw, History, found_pages, Draft, drafted, put, new_page, Page, Image, page_at, image_size, Seen, Outcome, unless, changes, new_turn, write_turn, free_turn, forced_turn, access_turn, byte_strokes, KeepsRows, chains, pages_of_all, rows, IsNeat, HasHeader, IsSoundImage, Stroke, on_base, first_turn, all_go}
 use Rattle.nb_model.proofs.Along.{Along, along_front, along_more}
 use Rattle.nb_model.proofs.FitLaws.{IsWhole, AreFitting}
 use Rattle.nb_model.proofs.HeadSound.{byte_fits}
 use Rattle.nb_model.proofs.HeldAlong.{put_held_along, bit_held_along, new_held_along, these_along, longer_along, both_along}
 use Rattle.nb_model.proofs.HeldChains.{IsHeldIn, chains_held, chain_each, these_stay}
 use Rattle.nb_model.proofs.HeldLaws.{IsHeld, held_write}
-use Rattle.nb_model.proofs.NeatLaws.{all_go, stays_neat, other_rows}
+use Rattle.nb_model.proofs.NeatLaws.{stays_neat, other_rows, no_catalogue_history}
 use Rattle.nb_model.proofs.NewSound.{empty_text}
 use Rattle.nb_model.proofs.NoRows.{HasNoRows}
 use Rattle.nb_model.proofs.PagesFit.{pages_fit}
@@ -53,9 +34,6 @@ module _ (s : Seen) (header : HasHeader s.base.image) (is : IsSoundImage s.base.
   all_data = chain_each x IsData (chains x)
       (all_go (λ c. AllByRecursion (IsHeldIn c x) (found_pages c x)) (λ c. AllByRecursion IsData (found_pages c x)) (chains x) (λ c held. all_go (IsHeldIn c x) IsData (found_pages c x) (λ q at. (in_chain c x q at.in_it).1) held) (chains_held x header is neat))
 
-  no_catalogue : Catalogue ≢ History
-  no_catalogue e = cc
-
   -- strokes along which each data page that is held stays
   KeepsData : List Stroke → Type 0
   KeepsData ss = (q : ℕ) (bytes : Page) → IsData q → IsHeld q bytes x → Along (IsHeld q bytes) b ss
@@ -67,7 +45,7 @@ module _ (s : Seen) (header : HasHeader s.base.image) (is : IsSoundImage s.base.
       good : (z : Image) → ((q : ℕ) (bytes : Page) → IsData q → IsHeld q bytes x → IsHeld q bytes z) → length x ≤ length z → IsNeat z × ((table : List ℕ) → rows z table ≡ rows x table)
       good z held longer =
           let still = these_stay x header is neat z longer IsData all_data held in
-          (stays_neat x z neat History no_catalogue still (λ first e. cc), λ table. other_rows x z neat History no_catalogue still table (λ u found e. cc))
+          (stays_neat x z neat History no_catalogue_history still (λ first e. cc), λ table. other_rows x z neat History no_catalogue_history still table (λ u found e. cc))
 
       all : Along (λ z. IsNeat z × ((table : List ℕ) → rows z table ≡ rows x table)) b ss
       all = along_more (λ z. ((q : ℕ) (bytes : Page) → IsData q → IsHeld q bytes x → IsHeld q bytes z) × (length x ≤ length z)) (λ z. IsNeat z × ((table : List ℕ) → rows z table ≡ rows x table)) b ss (λ z facts. good z facts.0 facts.1)

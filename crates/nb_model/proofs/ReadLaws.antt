@@ -1,15 +1,6 @@
 -- Reading the pages of a level file, step by step.
-use Rattle.std.proofs.Common.{◌≡◌, ◌≢◌, inl, inr, ℕ, zero, suc, ◌+◌, ◌*◌, ◌<◌, ◌≤◌, List, [], ◌∷◌, ◌++◌, length, get_or, take, drop, refl, sym, ap, ◌∙◌, arith, length-append, append_assoc}
-use Rattle.std.specs.Prelude.{Bool, true, false, not, ◌&&◌, ◌||◌, ◌==◌, nat_lt, nat_le, None, Result, Ok}
-use Rattle.std.specs.List.{AllByRecursion}
-use Rattle.std.proofs.lemmas.Bool.Decides.{eqb_tells, leb_tells}
-use Rattle.std.proofs.lemmas.List.{drop_at, take_at, drop-drop}
-use Rattle.std.proofs.Math.Nat.{suc-mul}
-use Rattle.nb_fields.specs.Bytes.{number_of, bytes_of, part, number_in}
-use Rattle.nb_fields.proofs.NumberLaws.{number_of-bytes_of}
-use Rattle.nb_fields.specs.Places.{most_pages}
-use Rattle.nb_model.specs.Image.{Page, Numbered}
-use Rattle.nb_model.specs.Levels.{Head, Test, first_fault, ends_before, behind, read_end, read_singles, read_runs, pages_in, barred_after, is_bad_number, is_first_page, end_mark, end_bytes, joined, numbered_from}
+use Rattle.std.proofs.Common.{◌≡◌, ◌≢◌, inl, inr, ℕ, zero, suc, ◌+◌, ◌*◌, ◌<◌, ◌≤◌, List, [], ◌∷◌, ◌++◌, length, get_or, take, drop, refl, sym, ap, ◌∙◌, arith, length-append, append_assoc, Bool, true, false, not, ◌&&◌, ◌||◌, ◌==◌, nat_lt, nat_le, None, Result, Ok}
+use Rattle.nb_model.proofs.Common.{AllByRecursion, eqb_tells, leb_tells, drop_at, take_at, drop-drop, suc-mul, number_of, bytes_of, part, number_in, number_of-bytes_of, most_pages, Page, Numbered, Head, Test, first_fault, ends_before, behind, read_end, read_singles, read_runs, pages_in, barred_after, is_bad_number, is_first_page, end_mark, end_bytes, joined, numbered_from, or_from, and_right}
 use Rattle.nb_model.proofs.ImageLaws.{length-joined}
 
 -- no test fails
@@ -38,24 +29,17 @@ lt_no a b h = elim (leb_tells (suc a) b) [ inl w ↦ absurd (omega arith) | inr 
 pub lt_yes : (a b : ℕ) → a < b → nat_lt a b ≡ true
 lt_yes a b h = elim (leb_tells (suc a) b) [ inl w ↦ w.0 | inr w ↦ absurd (omega arith) ]
 
-pub or_no : (a b : Bool) → a ≡ false → b ≡ false → (a || b) ≡ false
-or_no a b e f = rw (e, f) refl
-
-pub and_no_right : (a b : Bool) → b ≡ false → (a && b) ≡ false
-and_no_right true b e = e
-and_no_right false b e = refl
-
 -- a test that speaks of page 0 alone
 zero_test : (n : ℕ) (t : Bool) → (n ≡ 0 → t ≡ true) → (n == 0 && not t) ≡ false
 zero_test n t h = elim (eqb_tells n 0) [
-  | inl w ↦ and_no_right (n == 0) (not t) (ap not (h w.1))
+  | inl w ↦ and_right (n == 0) (not t) (ap not (h w.1))
   | inr w ↦ rw w.0 refl
 ]
 
 good_number : (count least n : ℕ) → (count ≡ 0 → n ≡ 0) → least ≤ n → n < most_pages → is_bad_number count least n ≡ false
 good_number count least n begins low small =
-    or_no _ _ (elim (eqb_tells count 0) [ inl w ↦ and_no_right (count == 0) (not (n == 0)) (ap not (eq_yes n 0 (begins w.1))) | inr w ↦ rw w.0 refl ])
-    (or_no _ _ (lt_no n least low) (le_no most_pages n small))
+    or_from _ _ (elim (eqb_tells count 0) [ inl w ↦ and_right (count == 0) (not (n == 0)) (ap not (eq_yes n 0 (begins w.1))) | inr w ↦ rw w.0 refl ])
+    (or_from _ _ (lt_no n least low) (le_no most_pages n small))
 
 -- four bytes at the front, and the next four
 pub number_first : (n : ℕ) (rest : List ℕ) → n < 4294967296 → number_in 0 4 (bytes_of 4 n ++ rest) ≡ n
@@ -125,7 +109,7 @@ read_end_there : (at count : ℕ) (rest : List ℕ) → first_fault (end_tests a
 unfolding read_end
 read_end_there at count rest clear = rw (clear, read_end) refl
 
-eight_bytes : (count : ℕ) → length (end_bytes count) ≡ 8
+pub eight_bytes : (count : ℕ) → length (end_bytes count) ≡ 8
 unfolding end_bytes bytes_of
 eight_bytes count = refl
 
@@ -224,13 +208,13 @@ run_read left h at count least barred first ps more rs run later =
     let small : first < most_pages = omega (arith, run.below, run.some) in
     run_step left h at count least barred rest first m (number_first first (bytes_of 4 m ++ (joined ps ++ more)) (omega arith)) (number_second first m (joined ps ++ more) (omega (arith, run.few)))
     (lt_no (length rest) 4 (omega arith)) (eq_no first end_mark (omega arith)) (
-      or_no _ _ (good_number count least first run.begins run.low small) (eq_no first barred run.apart),
+      or_from _ _ (good_number count least first run.begins run.low small) (eq_no first barred run.apart),
       (
         lt_no (length rest) 8 (omega arith),
         (
-          or_no _ _ (eq_no m 0 (omega (arith, run.some))) (or_no _ _ (lt_no 16 m run.few) (lt_no most_pages (first + m) run.below)),
+          or_from _ _ (eq_no m 0 (omega (arith, run.some))) (or_from _ _ (lt_no 16 m run.few) (lt_no most_pages (first + m) run.below)),
           (
-            and_no_right (first == 0) (nat_lt (length rest) (8 + h.size)) (lt_no (length rest) (8 + h.size) (omega arith)),
+            and_right (first == 0) (nat_lt (length rest) (8 + h.size)) (lt_no (length rest) (8 + h.size) (omega arith)),
             (zero_test first (is_first_page h (part 8 h.size rest)) (λ e. ap (is_first_page h) page ∙ run.head e), (lt_no (length rest) (8 + m * h.size) (omega arith), tt)),
           ),
         ),

@@ -1,15 +1,6 @@
 -- The files stand for the account with one record of a backup more, where no file names it.
-use Rattle.std.proofs.Common.{◌≡◌, ◌≢◌, inl, inr, ⊎_elim, ◌⊎◌, ℕ, zero, suc, List, [], ◌∷◌, ◌++◌, sym, ap, subst, ◌∙◌, arith}
-use Rattle.std.specs.Prelude.{Some, false, Contains}
-use Rattle.std.proofs.lemmas.List.Elements.{Contains-append_cases}
-use Rattle.nb_fields.specs.Header.{guid_of, pending_of}
-use Rattle.nb_host.specs.Files.{Files}
-use Rattle.nb_host.specs.Names.{is_delta}
-use Rattle.nb_model.specs.Account.{Ask, Kept, Account}
-use Rattle.nb_model.specs.Image.{Image, image_guid}
-use Rattle.nb_model.specs.NewGuids.{IsUnnamed}
-use Rattle.nb_model.specs.Sound.{IsSoundImage}
-use Rattle.nb_model.specs.Stands.{Stands, Belongs, to_base, to_record, IsKeptAs, IsBegun, IsParent, IsLineTo, IsAncestor, IsSpan, IsFileOf, HoldsItsRecord, GoesOn, NamesItsPast, GoesOnFrom, IsStopped, nil}
+use Rattle.std.proofs.Common.{◌≡◌, ◌≢◌, inl, inr, ⊎_elim, ◌⊎◌, ℕ, zero, suc, List, [], ◌∷◌, ◌++◌, sym, ap, subst, ◌∙◌, arith, Some, false, Contains}
+use Rattle.nb_model.proofs.Common.{Contains-append_cases, guid_of, pending_of, Files, is_delta, Ask, Kept, Account, Image, image_guid, IsUnnamed, IsSoundImage, Stands, Belongs, to_base, to_record, IsKeptAs, IsBegun, IsParent, IsLineTo, IsAncestor, IsSpan, IsFileOf, HoldsItsRecord, GoesOn, NamesItsPast, GoesOnFrom, IsStopped, nil}
 use Rattle.nb_model.proofs.PastLaws.{kept_more, past_more}
 
 -- the record goes on from the one that it asks for, where it asks for one

@@ -1,20 +1,9 @@
 -- Opening a database again, as the first statement of a run.
-use Rattle.std.proofs.Common.{◌≡◌, ◌≢◌, ℕ, List, [], ◌++◌, true, length, refl, sym, ap, ◌∙◌}
-use Rattle.std.specs.Prelude.{Some, None}
-use Rattle.std.proofs.lemmas.List.{append-nil}
-use Rattle.nb_host.specs.declared.refusals.Refusal.{Refusal}
-use Rattle.nb_model.specs.declared.reply.Reply.TheVariants.{Opened, Refused}
-use Rattle.nb_model.specs.declared.statement.Statement.{Statement}
-use Rattle.nb_model.specs.declared.statement.Statement.TheVariants.{OpenDb}
-use Rattle.nb_model.specs.Image.{image_state}
-use Rattle.nb_model.specs.Account.{Kept, Base, IsBase, Account}
-use Rattle.nb_model.specs.Strokes.{base_in, base_after, records_after}
-use Rattle.nb_model.specs.Causes.{Cause}
-use Rattle.nb_model.specs.Owner.{not_opened}
-use Rattle.nb_model.specs.Outcomes.{Given}
-use Rattle.nb_model.specs.Run.{Now, Opening, account_after, base_now, begun, done_opening, opening, opening_unless, refused_opening}
+use Rattle.std.proofs.Common.{◌≡◌, ◌≢◌, ℕ, List, [], ◌++◌, true, length, refl, sym, ap, ◌∙◌, Some, None}
+use Rattle.nb_model.proofs.Common.{append-nil, Refusal, Opened, Refused, Statement, OpenDb, image_state, Kept, Base, IsBase, Account, base_in, records_after, Cause, not_opened, Given, Now, Opening, account_after, base_now, begun, done_opening, opening, opening_unless, refused_opening}
 use Rattle.nb_model.proofs.RunLaws.{base_in_base}
 use Rattle.nb_model.proofs.OpeningLaws.{after_here, after_others, after_kept}
+use Rattle.nb_model.proofs.GoingLaws.{no_more}
 
 -- What opening a database leaves: nothing is changed, and sessions may take their turns.
 pub record IsReopened (account : Account) (given : Given) (sessions : List (List Statement)) (session : ℕ) (name : List ℕ) (cache : ℕ) (b : Base) (o : Opening) : Type 0 where
@@ -32,10 +21,6 @@ pub record IsReopened (account : Account) (given : Given) (sessions : List (List
   pub given_is : now.given ≡ given
   pub todo : now.todo ≡ begun sessions
 
-no_stroke : (b : Base) → base_after b [] ≡ b
-unfolding base_after
-no_stroke b = refl
-
 no_record : (b : Base) → records_after b [] ≡ []
 unfolding records_after
 no_record b = refl
@@ -48,7 +33,7 @@ reopened account given sessions session name cache b there =
     let old : Base = base_in (account.entry name) in
     let is : old ≡ b = ap base_in there ∙ base_in_base b in
     let allowed : not_opened name (account.entry name) ≡ None = ap (not_opened name) there in
-    let here : (account_after name [] None account).entry name ≡ IsBase b = after_here name [] account ∙ ap IsBase (no_stroke old ∙ is) in
+    let here : (account_after name [] None account).entry name ≡ IsBase b = after_here name [] account ∙ ap IsBase (no_more old ∙ is) in
     let whole : opening account given sessions session (OpenDb name cache) ≡ done_opening session name cache [] (Opened (length old.image) (image_state old.image)) account given sessions =
     ap (λ (c : Cause). opening_unless session c account (done_opening session name cache [] (Opened (length old.image) (image_state old.image)) account given sessions)) allowed in
     record {

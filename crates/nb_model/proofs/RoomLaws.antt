@@ -1,29 +1,6 @@
 -- Each stroke that makes room for a row of the history fits at its point, and each stroke that writes the row.
-use Rattle.std.proofs.Common.{◌≡◌, inl, inr, ℕ, zero, suc, ◌+◌, ◌-◌, ◌*◌, ◌/◌, ◌<◌, ◌≤◌, List, [], ◌∷◌, ◌++◌, length, drop, refl, sym, ap, subst, ◌∙◌, arith, length-drop, length-append}
-use Rattle.std.specs.Prelude.{Bool, true, false, ◌||◌, ◌==◌, nat_lt, Option, Some, None, Result, Ok, Err}
-use Rattle.std.specs.List.{AllByRecursion}
-use Rattle.std.proofs.Math.Nat.{div-mul-le_self}
-use Rattle.std.proofs.lemmas.Bool.{true≢false, and_parts, eqb-true, lt-ltb, ltb-true, false_from_ne_true}
-use Rattle.std.proofs.lemmas.Bool.Decides.{eqb_tells}
-use Rattle.nb_fields.specs.Bytes.{bytes_of, with_part}
-use Rattle.nb_fields.specs.Page.{kind_of, stamped}
-use Rattle.nb_fields.specs.Payloads.{data_payload}
-use Rattle.nb_fields.specs.Places.{is_inventory_place, is_scn_place, is_system_place, most_pages}
-use Rattle.nb_fields.proofs.NumberLaws.{length-bytes_of}
-use Rattle.nb_fields.proofs.PageLaws.{length-padded}
-use Rattle.nb_fields.proofs.PartLaws.{length-with_part}
-use Rattle.nb_fields.proofs.SizeLaws.{SizeFacts, size_facts}
-use Rattle.nb_fields.specs.States.{stalled_state}
-use Rattle.nb_fields.specs.Kinds.{header_kind, data_kind, scn_kind}
-use Rattle.nb_model.specs.Account.{Ask, Base}
-use Rattle.nb_model.specs.Backups.{Room, needs_taken, room_in}
-use Rattle.nb_model.specs.Causes.{broken_at}
-use Rattle.nb_model.specs.Chains.{Chain, History, Slot, Spot, first_of, owner_of, owner_in, slots_from, slots_in, spots_on, spots_of, spots, is_in_chain, next_in, linked, walk, pages_of, found_pages, first_such, free_spot, put_slot, last_of, grown, backup_slot}
-use Rattle.nb_model.specs.Forms.{Draft, drafted, old_page, needs, put, written, wrote, inventory_of, scn_page_of, is_free_page, new_page, wants}
-use Rattle.nb_model.specs.Going.{IsPlainRoom}
-use Rattle.nb_model.specs.Image.{Page, Image, page_at, image_size, image_scn}
-use Rattle.nb_model.specs.Sound.{HasHeader, IsSoundImage}
-use Rattle.nb_model.specs.Strokes.{begin, on_base, base_after}
+use Rattle.std.proofs.Common.{◌≡◌, inl, inr, ℕ, zero, suc, ◌+◌, ◌-◌, ◌*◌, ◌/◌, ◌<◌, ◌≤◌, List, [], ◌∷◌, length, drop, refl, sym, ap, subst, ◌∙◌, arith, length-drop, length-append, Bool, true, false, ◌==◌, nat_lt, Option, Some, None, Result, Ok, Err}
+use Rattle.nb_model.proofs.Common.{AllByRecursion, div-mul-le_self, true≢false, and_parts, eqb-true, lt-ltb, ltb-true, false_from_ne_true, eqb_tells, bytes_of, with_part, kind_of, stamped, data_payload, is_inventory_place, is_scn_place, most_pages, length-bytes_of, length-padded, length-with_part, SizeFacts, size_facts, stalled_state, header_kind, data_kind, scn_kind, Ask, Base, Room, needs_taken, room_in, broken_at, Chain, History, Slot, Spot, first_of, owner_of, owner_in, slots_from, slots_in, spots_on, spots_of, spots, is_in_chain, next_in, linked, walk, pages_of, found_pages, first_such, free_spot, put_slot, last_of, grown, backup_slot, Draft, drafted, old_page, needs, put, written, wrote, inventory_of, scn_page_of, is_free_page, new_page, wants, IsPlainRoom, Page, Image, page_at, image_size, image_scn, HasHeader, IsSoundImage, begin, on_base, base_after, err_ok, ok_same, all_append}
 use Rattle.nb_model.proofs.ControlMay.{may_begin}
 use Rattle.nb_model.proofs.ControlSound.{new_size, control_long}
 use Rattle.nb_model.proofs.DraftLaws.{IsKept, either, put_keeps}
@@ -32,6 +9,7 @@ use Rattle.nb_model.proofs.NewSound.{HoldsOfKinds, plain_place, new_fits}
 use Rattle.nb_model.proofs.PutSound.{IsPlain, IsPut, header_fields, header_whole, old_length, plain_here}
 use Rattle.nb_model.proofs.RoundLaws.{IsNew, new_is_new}
 use Rattle.nb_model.proofs.SoundLaws.{all_at, kind_of_header, with_page_length}
+use Rattle.nb_model.proofs.OnwardTests.{plain_from}
 
 -- What K has to hold of: the pages of the inventories, a new page of the history, and a page that is linked to the next.
 pub record HoldsOfHistory (K : Page → Type 0) : Type 0 where
@@ -88,12 +66,6 @@ pub record AreFound (chain : Chain) (image : Image) (ps : List ℕ) : Type 0 whe
   pub some : 1 ≤ length ps
   pub each : AllByRecursion (λ (q : ℕ). is_in_chain chain image q ≡ true) ps
 
-ok_same : (r : Result (List ℕ) ℕ) (xs ys : List ℕ) → r ≡ Ok xs → r ≡ Ok ys → xs ≡ ys
-ok_same r xs ys e f = cc
-
-err_ok : (p : ℕ) (ys : List ℕ) → Err p ≡ Ok ys → ⊥
-err_ok p ys e = cc
-
 walk_finds : (left : ℕ) (chain : Chain) (image : Image) (p : ℕ) (ps : List ℕ) → walk left chain image p ≡ Ok ps → AreFound chain image ps
 unfolding walk
 walk_finds zero chain image p ps e = absurd (err_ok p ps e)
@@ -106,11 +78,11 @@ walk_finds (suc left) chain image p ps e = by (λ qs. walk_finds left chain imag
     one qs is all same = subst (AreFound chain image) same (record { some = omega arith; each = (is, all) })
 
     by_rest : is_in_chain chain image p ≡ true → (r : Result (List ℕ) ℕ) → ((qs : List ℕ) → r ≡ Ok qs → AreFound chain image qs) → linked p r ≡ Ok ps → AreFound chain image ps
-    by_rest is (Ok qs) rest e = one qs is (rest qs refl).each (ok_same (Ok (p ∷ qs)) (p ∷ qs) ps refl e)
+    by_rest is (Ok qs) rest e = one qs is (rest qs refl).each (ok_same (p ∷ qs) ps (Ok (p ∷ qs)) refl e)
     by_rest is (Err q) rest e = absurd (err_ok q ps e)
 
     by_last : ((qs : List ℕ) → behind ≡ Ok qs → AreFound chain image qs) → is_in_chain chain image p ≡ true → (t : Bool) → elim t as (λ z. Result (List ℕ) ℕ) [ true ↦ Ok (p ∷ []) | false ↦ linked p behind ] ≡ Ok ps → AreFound chain image ps
-    by_last rest is true e = one [] is tt (ok_same (Ok (p ∷ [])) (p ∷ []) ps refl e)
+    by_last rest is true e = one [] is tt (ok_same (p ∷ []) ps (Ok (p ∷ [])) refl e)
     by_last rest is false e = by_rest is behind rest e
 
     by : ((qs : List ℕ) → behind ≡ Ok qs → AreFound chain image qs) → (t : Bool) → is_in_chain chain image p ≡ t
@@ -152,10 +124,6 @@ pub record IsSpotOf (chain : Chain) (image : Image) (s : Spot) : Type 0 where
   pub page : is_in_chain chain image s.page ≡ true
   pub within : s.slot < (length (page_at image s.page) - 32) / 256
 
-pub spots_append : (P : Spot → Type 0) (xs ys : List Spot) → AllByRecursion P xs → AllByRecursion P ys → AllByRecursion P (xs ++ ys)
-spots_append P [] ys a b = b
-spots_append P (x ∷ xs) ys a b = (a.0, spots_append P xs ys a.1 b)
-
 slots_length : (count at : ℕ) (page : Page) → length (slots_from count at page) ≡ count
 unfolding slots_from
 slots_length zero at page = refl
@@ -172,7 +140,7 @@ module _ (chain : Chain) (image : Image) where
   all_spots [] all = tt
   all_spots (p ∷ ps) all =
       let most : ℕ = (length (page_at image p) - 32) / 256 in
-      spots_append (IsSpotOf chain image) (spots_on p 0 (slots_from most 32 (page_at image p))) (spots_of image ps)
+      all_append (IsSpotOf chain image) (spots_on p 0 (slots_from most 32 (page_at image p))) (spots_of image ps)
       (page_spots p most 0 (slots_from most 32 (page_at image p)) all.0 refl (omega (arith, slots_length most 32 (page_at image p)))) (all_spots ps all.1)
 
 pub first_passes : (test : Spot → Bool) (P : Spot → Type 0) (xs : List Spot) (x : Spot) → first_such test xs ≡ Some x → AllByRecursion P xs → P x
@@ -201,10 +169,6 @@ put_full p kind payload d = put_keeps (λ x. x.full ≡ false → d.full ≡ fal
 pub old_there : (image : Image) (p : ℕ) → p < length image → old_page p image ≡ page_at image p
 unfolding old_page
 old_there image p low = rw (lt-ltb p (length image) low, old_page) refl
-
-pub no_system : (size p : ℕ) → is_inventory_place size p ≡ false → is_scn_place size p ≡ false → is_system_place size p ≡ false
-unfolding is_system_place
-no_system size p inventory scn = ap (λ (t : Bool). t || is_scn_place size p) inventory ∙ scn
 
 pub data_short : (p : ℕ) → length (data_payload 0 1 []) ≤ 1008
 unfolding data_payload bytes_of
@@ -314,7 +278,7 @@ module _ (b : Base) (h : HasHeader b.image) (is : IsSoundImage b.image) (unbroke
       last_kind : kind_of (page_at made.0.image last) ≡ data_kind
       last_kind = elim (eqb_tells last made.1) [
         | inl w ↦ ap (λ (n : ℕ). kind_of (page_at made.0.image n)) w.1 ∙ new.of_kind
-        | inr w ↦ ap kind_of (new.others last (no_system (image_size b.image) last last_plain.no_inventory last_plain.no_scn_page) w.1) ∙ (in_chain History b.image last last_in).1
+        | inr w ↦ ap kind_of (new.others last (plain_from (image_size b.image) last last_plain.no_inventory last_plain.no_scn_page) w.1) ∙ (in_chain History b.image last last_in).1
       ]
 
       page_long : length (page_at made.0.image last) ≡ image_size made.0.image

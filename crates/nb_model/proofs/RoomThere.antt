@@ -1,22 +1,6 @@
 -- The room for a row of the history is below the length, and has its SCN entry, whatever else stands in the image.
-use Rattle.std.proofs.Common.{◌≡◌, inl, inr, ℕ, zero, suc, ◌+◌, ◌/◌, ◌<◌, ◌≤◌, List, [], ◌∷◌, ◌++◌, length, drop, refl, sym, ap, subst, ◌∙◌, arith}
-use Rattle.std.specs.Prelude.{Bool, true, false, ◌==◌, ◌&&◌, nat_lt, Option, Some, None}
-use Rattle.std.proofs.lemmas.Bool.{true≢false, lt-ltb}
-use Rattle.std.proofs.lemmas.Bool.Decides.{leb_tells}
-use Rattle.nb_fields.specs.Bytes.{bytes_of, with_part}
-use Rattle.nb_fields.specs.Page.{kind_of}
-use Rattle.nb_fields.specs.Payloads.{data_payload}
-use Rattle.nb_fields.specs.Places.{bits_in, is_scn_place, is_system_place, most_pages}
-use Rattle.nb_fields.specs.States.{stalled_state}
-use Rattle.nb_fields.specs.Kinds.{data_kind, scn_kind}
-use Rattle.nb_model.specs.Account.{Ask, Base}
-use Rattle.nb_model.specs.Backups.{Room, needs_taken, room_in}
-use Rattle.nb_model.specs.Causes.{broken_at, not_of_form, lowest_broken, too_short, short_for}
-use Rattle.nb_model.specs.Chains.{History, Spot, pages_of, found_pages, spots, free_spot, last_of, grown}
-use Rattle.nb_model.specs.Forms.{HasItsEntry, Draft, Need, drafted, written, wrote, needs, is_kind, other_kind, has_entry, scn_entry, scn_page_of, inventory_of, is_free_page, entry_written, entry_raised, raised, put, take_page, lowest_free, first_not, maps_from, entry_page, is_kept, needed_at, system_kind, system_page, no_page, new_page, new_within}
-use Rattle.nb_model.specs.Image.{Page, Image, page_at, image_size, image_scn}
-use Rattle.nb_model.specs.Sound.{HasHeader}
-use Rattle.nb_model.specs.Strokes.{begin, on_base, base_after, merged_page, with_control}
+use Rattle.std.proofs.Common.{◌≡◌, inl, inr, ℕ, zero, suc, ◌+◌, ◌/◌, ◌<◌, ◌≤◌, List, [], ◌∷◌, ◌++◌, length, drop, refl, sym, ap, subst, ◌∙◌, arith, Bool, true, false, ◌==◌, ◌&&◌, nat_lt, Option, Some, None}
+use Rattle.nb_model.proofs.Common.{true≢false, lt-ltb, leb_tells, bytes_of, with_part, kind_of, data_payload, bits_in, is_scn_place, is_system_place, most_pages, stalled_state, data_kind, scn_kind, Ask, Base, Room, needs_taken, room_in, broken_at, not_of_form, lowest_broken, too_short, short_for, History, Spot, pages_of, found_pages, spots, free_spot, last_of, grown, HasItsEntry, Draft, Need, drafted, written, wrote, needs, is_kind, other_kind, has_entry, scn_entry, scn_page_of, inventory_of, is_free_page, entry_written, entry_raised, raised, put, take_page, lowest_free, first_not, maps_from, entry_page, is_kept, needed_at, system_kind, system_page, no_page, new_page, new_within, Page, Image, page_at, image_size, image_scn, HasHeader, begin, on_base, base_after, merged_page, with_control, append_none, cons_nil}
 use Rattle.nb_model.proofs.ControlMay.{may_begin}
 use Rattle.nb_model.proofs.ControlSound.{control_rest, control_long, size_then}
 use Rattle.nb_model.proofs.DraftLaws.{IsKept, IsOf, either, drafts_are, drafted_is, needs_keeps, raised_keeps, grown_keeps, put_keeps, set_bit_keeps, system_keeps, new_keeps}
@@ -26,37 +10,36 @@ use Rattle.nb_model.proofs.NewSound.{lowest_between}
 use Rattle.nb_model.proofs.PagesOnly.{with_page_longer, size_kept, header_kept}
 use Rattle.nb_model.proofs.PutSound.{not_when, needs_image}
 use Rattle.nb_model.proofs.RoomLaws.{in_chain, free_is_spot, put_full}
-use Rattle.nb_model.proofs.StepLaws.{kind_parts, kind_from, scn_page_moves}
+use Rattle.nb_model.proofs.StepLaws.{kind_parts, scn_page_moves}
 use Rattle.nb_model.proofs.SoundLaws.{scn_page_behind, with_page_length}
+use Rattle.nb_model.proofs.RoundLaws.{kind_found}
+use Rattle.nb_model.proofs.HeldRoom.{needs_image_same}
 
 -- A place for a row, whatever else stands in the image.
 pub record IsThere (image : Image) (page : ℕ) : Type 0 where
   pub below : page < length image
   pub entry : HasItsEntry image page
 
-none_broken : (ps : List ℕ) → lowest_broken ps ≡ None → ps ≡ []
+pub none_broken : (ps : List ℕ) → lowest_broken ps ≡ None → ps ≡ []
 unfolding lowest_broken
 none_broken [] e = refl
 none_broken (p ∷ ps) e = cc
 
 -- A draft of which no page is broken has read none that is.
-some_none : (p : ℕ) (ps : List ℕ) → p ∷ ps ≡ [] → ⊥
-some_none p ps e = cc
-
 needs_met : (kind p : ℕ) (d : Draft) → (needs kind p d).broken ≡ [] → (is_kind d.image kind p ≡ true) × (d.broken ≡ [])
 unfolding needs
 needs_met kind p d = by (is_kind d.image kind p) refl
   where
     by : (t : Bool) → is_kind d.image kind p ≡ t → (elim t as (λ z. Draft) [ true ↦ d | false ↦ record d { broken = p ∷ d.broken } ]).broken ≡ [] → (is_kind d.image kind p ≡ true) × (d.broken ≡ [])
     by true is e = (is, e)
-    by false is e = absurd (some_none p d.broken e)
+    by false is e = absurd (cons_nil p d.broken e)
 
 taken_met : (p : ℕ) (d : Draft) → (needs_taken p d).broken ≡ [] → d.broken ≡ []
 unfolding needs_taken
 taken_met p d = by (is_free_page d.image p)
   where
     by : (t : Bool) → (elim t as (λ z. Draft) [ true ↦ record d { broken = p ∷ d.broken } | false ↦ d ]).broken ≡ [] → d.broken ≡ []
-    by true e = absurd (some_none p d.broken e)
+    by true e = absurd (cons_nil p d.broken e)
     by false e = e
 
 raised_met : (p : ℕ) (d : Draft) → (raised p d).broken ≡ [] → d.broken ≡ []
@@ -78,22 +61,13 @@ put_met : (p kind : ℕ) (payload : List ℕ) (d : Draft) → (put p kind payloa
 unfolding put written wrote
 put_met p kind payload d none = raised_met p d none
 
-append_none : (xs ys : List ℕ) → xs ++ ys ≡ [] → (xs ≡ []) × (ys ≡ [])
-append_none [] ys e = (refl, e)
-append_none (x ∷ xs) ys e = absurd (some_none x (xs ++ ys) e)
-
-other_met : (image : Image) (kind p : ℕ) → other_kind image kind p ≡ [] → is_kind image kind p ≡ true
+pub other_met : (image : Image) (kind p : ℕ) → other_kind image kind p ≡ [] → is_kind image kind p ≡ true
 unfolding other_kind
 other_met image kind p = by (is_kind image kind p) refl
   where
     by : (t : Bool) → is_kind image kind p ≡ t → (elim t as (λ z. List ℕ) [ true ↦ [] | false ↦ p ∷ [] ]) ≡ [] → is_kind image kind p ≡ true
     by true is e = is
-    by false is e = absurd (some_none p [] e)
-
--- where a slot is free the draft's image is the image itself
-taken_image : (p : ℕ) (d : Draft) → (needs_taken p d).image ≡ d.image
-unfolding needs_taken
-taken_image p d = either (λ (x : Draft). x.image ≡ d.image) (is_free_page d.image p) _ _ refl refl
+    by false is e = absurd (cons_nil p [] e)
 
 -- The image has a header, that page size, and at least so many pages.
 record IsLong (least size : ℕ) (x : Image) : Type 0 where
@@ -204,7 +178,7 @@ new_there (suc tries) kind payload n d h =
       | Some r ↦ (record d { broken = r ∷ d.broken }, 0)
       | None ↦ elim (p == most_pages) as (λ z. Draft × ℕ) [ true ↦ (no_page d, p) | false ↦ elim (is_system_place (image_size image) p) as (λ z. Draft × ℕ) [ true ↦ more | false ↦ last ] ]
     ])
-    by_need again (Some r) is = λ left met. absurd (some_none r d.broken met)
+    by_need again (Some r) is = λ left met. absurd (cons_nil r d.broken met)
     by_need again None is = by_full again is (p == most_pages) refl
 
 -- A slot that is found.
@@ -270,7 +244,7 @@ module _ (image : Image) (header : HasHeader image) (unbroken : broken_at (pages
       same_image : (s : Spot) → (needs_taken s.page (needs 10 (scn_page_of image s.page) (needs 2 (inventory_of image s.page) (drafted image)))).image ≡ image
       same_image s =
           let read : Draft = needs 2 (inventory_of image s.page) (drafted image) in
-          taken_image s.page (needs 10 (scn_page_of image s.page) read) ∙ needs_image 10 (scn_page_of image s.page) read ∙ needs_image 2 (inventory_of image s.page) (drafted image)
+          needs_image_same s.page (needs 10 (scn_page_of image s.page) read) ∙ needs_image 10 (scn_page_of image s.page) read ∙ needs_image 2 (inventory_of image s.page) (drafted image)
 
       five : too_short image ≡ None → 5 ≤ length image
       five none = elim (leb_tells 5 (length image)) [
@@ -283,7 +257,7 @@ module _ (image : Image) (header : HasHeader image) (unbroken : broken_at (pages
       by None found short met left = grown_there (five short) left met
 
 -- and its image is that after its strokes
-taken_keeps : (P : Draft → Type 0) → IsKept P → (p : ℕ) (d : Draft) → P d → P (needs_taken p d)
+pub taken_keeps : (P : Draft → Type 0) → IsKept P → (p : ℕ) (d : Draft) → P d → P (needs_taken p d)
 unfolding needs_taken
 taken_keeps P kept p d h = either P (is_free_page d.image p) _ _ (kept.reads _ d h) h
 
@@ -317,6 +291,6 @@ begun_there b guid ask p header sixteen scn there =
       below = omega (arith, below, long);
       entry = scn_page_moves old new p (size_then 1 (image_scn old + 1) guid old header (may_begin old header guid sixteen scn))
           (λ kind_is. let parts = kind_parts old scn_kind q kind_is in
-          kind_from new scn_kind q (omega (arith, parts.0, long)) (ap kind_of (control_rest stalled_state (image_scn old + 1) guid old q (omega (arith, some))) ∙ parts.1))
+          kind_found new scn_kind q (omega (arith, parts.0, long)) (ap kind_of (control_rest stalled_state (image_scn old + 1) guid old q (omega (arith, some))) ∙ parts.1))
           there.entry;
     }

@@ -1,22 +1,10 @@
 -- A round of the search for a new page in a sound image: what it finds, what it leaves, and where the search goes on.
-use Rattle.std.proofs.Common.{◌≡◌, ◌≢◌, inl, inr, ℕ, zero, suc, ◌+◌, ◌-◌, ◌/◌, ◌%◌, ◌<◌, ◌≤◌, List, [], ◌∷◌, ◌++◌, length, drop, replicate, refl, sym, ap, subst, ◌∙◌, arith}
-use Rattle.std.specs.Prelude.{Bool, true, false, ◌==◌, nat_lt, Option, Some, None}
-use Rattle.std.proofs.lemmas.Bool.{true≢false, and_from, or_parts, lt-ltb, eq-eqb, eqb-false}
-use Rattle.std.proofs.lemmas.Bool.Decides.{eqb_tells}
-use Rattle.nb_fields.specs.Places.{entries_in, bits_in, inventory_place, scn_place, is_inventory_place, is_scn_place, is_system_place, most_pages}
-use Rattle.nb_fields.specs.Page.{kind_of, stamped}
-use Rattle.nb_fields.specs.Payloads.{bit_of}
-use Rattle.nb_fields.proofs.SizeLaws.{SizeFacts, size_facts}
-use Rattle.nb_fields.proofs.PlaceLaws.{bits-least}
-use Rattle.nb_fields.specs.Kinds.{inventory_kind, scn_kind}
-use Rattle.nb_model.specs.Image.{Page, Image, page_at, image_size, image_scn, with_page}
-use Rattle.nb_model.specs.Account.{base_of}
-use Rattle.nb_model.specs.Strokes.{page}
-use Rattle.nb_model.specs.Forms.{Draft, drafted, old_page, wrote, written, needs, is_kind, inventory_of, scn_page_of, bit_number, has_entry, scn_entry, is_free_page, entry_written, entry_raised, raised, put, with_bit, set_bit, take_page, free_from, lowest_free, Need, first_not, maps_from, entry_page, is_kept, needed_at, system_kind, system_payload, system_page, no_page, new_within}
+use Rattle.std.proofs.Common.{◌≡◌, ◌≢◌, inl, inr, ℕ, zero, suc, ◌+◌, ◌-◌, ◌/◌, ◌%◌, ◌<◌, ◌≤◌, List, [], ◌∷◌, ◌++◌, length, drop, replicate, refl, sym, ap, subst, ◌∙◌, arith, Bool, true, false, ◌==◌, nat_lt, Option, Some, None}
+use Rattle.nb_model.proofs.Common.{true≢false, and_from, or_parts, lt-ltb, eq-eqb, eqb-false, eqb_tells, entries_in, bits_in, inventory_place, scn_place, is_inventory_place, is_scn_place, is_system_place, most_pages, kind_of, stamped, bit_of, SizeFacts, size_facts, bits-least, scn_place-some, inventory_kind, scn_kind, Page, Image, page_at, image_size, image_scn, with_page, base_of, Draft, drafted, old_page, wrote, written, needs, is_kind, inventory_of, scn_page_of, bit_number, has_entry, scn_entry, is_free_page, entry_written, entry_raised, raised, put, with_bit, set_bit, take_page, free_from, lowest_free, Need, first_not, maps_from, entry_page, is_kept, needed_at, system_kind, system_payload, system_page, no_page, new_within}
 use Rattle.nb_model.proofs.StrokeLaws.{with_page_same, with_page_other}
 use Rattle.nb_model.proofs.NeedLaws.{first_behind, first_append, behind_none, first_none, maps_found, ready_none}
 use Rattle.nb_model.proofs.PlaceOrder.{map_places_from}
-use Rattle.nb_model.proofs.SoundLaws.{all_at, inventory_there, inventory_place_some, scn_page_there, scn_place_some, scn_no_entry, with_page_length}
+use Rattle.nb_model.proofs.SoundLaws.{all_at, inventory_there, inventory_place_some, scn_page_there, scn_no_entry, with_page_length}
 use Rattle.nb_model.proofs.FitLaws.{IsWhole, Fits, fits_first, written_image}
 use Rattle.nb_model.proofs.PutSound.{IsPlace, Raises, is_raised, scn_page_below, plain_put}
 use Rattle.nb_model.proofs.BitLaws.{bit_else, bit_here, with_bit_length, bit_behind, one_bit}
@@ -116,11 +104,6 @@ module _ (image : Image) (h : IsWhole image) (p : ℕ) (at : IsPlace image p) wh
     unfolding put written wrote
     put_unbroken = raised_unbroken
 
-    -- its strokes are those of the entry, and then the page as it stood before
-    pub put_strokes : (put p kind payload (drafted image)).strokes ≡ before.strokes ++ page p bytes ∷ []
-    unfolding put written wrote
-    put_strokes = ap (λ (x : Page). before.strokes ++ page p x ∷ []) same_bytes
-
     put_image : (put p kind payload (drafted image)).image ≡ with_page p bytes before.image
     unfolding put
     put_image = written_image p kind payload before at.behind ∙ ap (λ (x : Page). with_page p x before.image) same_bytes
@@ -144,7 +127,7 @@ module _ (image : Image) (h : IsWhole image) (p : ℕ) (at : IsPlace image p) wh
     pub put_size : image_size (put p kind payload (drafted image)).image ≡ image_size image
     put_size =
         ap (λ (x : Page). Rattle.nb_fields.specs.Header.size_of x)
-        (put_other 0 (λ e. absurd (let some = at.behind in omega (arith, e))) (λ e. absurd (let two = scn_place_some (image_size image) (p / entries_in (image_size image)) h.fields.size in omega (arith, e))))
+        (put_other 0 (λ e. absurd (let some = at.behind in omega (arith, e))) (λ e. absurd (let two = scn_place-some (image_size image) (p / entries_in (image_size image)) h.fields.size in omega (arith, e))))
 
     -- nor does a page inventory page, where that is none
     pub put_inventory : (k : ℕ) → inventory_place (image_size image) k ≢ p → page_at (put p kind payload (drafted image)).image (inventory_place (image_size image) k) ≡ page_at image (inventory_place (image_size image) k)
@@ -371,14 +354,6 @@ module _ (image : Image) (h : IsWhole image) (p : ℕ) (at : IsPlace image p) (p
     round_plain q plain =
         ap (λ (x : Image). page_at x q) round_image ∙ take_plain made.image system_well p two system_low q (ap (λ (s : ℕ). is_system_place s q) system_size ∙ plain) ∙ system_plain q plain
 
-    -- the place is taken then, and the pages before it are as they were
-    pub round_here : is_free_page (round p image).image p ≡ false
-    round_here = ap (λ (x : Image). is_free_page x p) round_image ∙ take_here made.image system_well p two system_low
-
-    pub round_before : (q : ℕ) → 2 ≤ q → q < p → is_free_page (round p image).image q ≡ is_free_page image q
-    round_before q second before =
-        ap (λ (x : Image). is_free_page x q) round_image ∙ take_other made.image system_well p two system_low q (λ e. absurd (omega (arith, e, before))) ∙ system_bits q second (omega (arith, before))
-
 -- A page that is no system page is made at its place, and taken.
 module _ (image : Image) (h : IsWhole image) (p kind : ℕ) (payload : List ℕ) (at : IsPlace image p) (plain : is_system_place (image_size image) p ≡ false) (some : (kind == 0) ≡ false) (room : length payload ≤ 1008) where
   abbrev put_at : Draft
@@ -438,10 +413,6 @@ free_before (suc left) p image q from low = by (λ more rest. free_before left (
       | inl w ↦ ap (is_free_page image) w.1 ∙ is
       | inr w ↦ rest (omega (arith, from, w.1)) less
     ]
-
-pub lowest_before : (image : Image) (q : ℕ) → 5 ≤ q → q < lowest_free image → is_free_page image q ≡ false
-unfolding lowest_free
-lowest_before image q from low = free_before (length image - 5) 5 image q from low
 
 free_next : (left p : ℕ) (image : Image) → is_free_page image p ≡ false → free_from (suc left) p image ≡ free_from left (p + 1) image
 unfolding free_from
@@ -531,44 +502,6 @@ module _ (image : Image) (h : IsWhole image) (kind : ℕ) (payload : ℕ → Lis
   pub new_last : (left : ℕ) → p < most_pages → is_system_place (image_size image) p ≡ false → new (suc left) ≡ (take_page p (put p kind (payload p) (drafted image)), p)
   new_last left below place = new_by left false false (eq_no p most_pages (λ e. absurd (omega (arith, e, below)))) place
 
-  -- where the search goes on
-  pub new_next : is_system_place (image_size image) p ≡ true → p < most_pages → (q : ℕ) → 5 ≤ q → q ≤ p → is_free_page (round p image).image q ≡ false
-  new_next place below q five le =
-      let at : IsPlace image p = record { behind = omega (arith, between.0); there = between.1; most = below } in
-      elim (eqb_tells q p) [
-        | inl w ↦ ap (is_free_page (round p image).image) w.1 ∙ round_here image h p at place (omega (arith, between.0))
-        | inr w ↦ round_before image h p at place (omega (arith, between.0)) q (omega (arith, five)) (omega (arith, le, w.1)) ∙ lowest_before image q five (omega (arith, le, w.1))
-      ]
-
--- a new page needs no inventory page that isn't of the form
-pub new_unbroken : (tries kind : ℕ) (payload : ℕ → List ℕ) (image : Image) → IsWhole image → (kind == 0) ≡ false → ((p : ℕ) → length (payload p) ≤ 1008) → (new_within tries kind payload (drafted image)).0.broken ≡ []
-unfolding new_within
-new_unbroken zero kind payload image h some room = refl
-new_unbroken (suc left) kind payload image h some room = by_full (λ x well_x. new_unbroken left kind payload x well_x some room) (p == most_pages) refl
-  where
-    p : ℕ
-    p = lowest_free image
-
-    bounds : (5 ≤ p) × (p ≤ length image)
-    bounds = lowest_between image h.sound.least
-
-    at : (p == most_pages) ≡ false → IsPlace image p
-    at e = let most = h.sound.most in record { behind = omega (arith, bounds.0); there = bounds.1; most = omega (arith, bounds.1, most, eqb-false p most_pages e) }
-
-    two : 2 ≤ p
-    two = omega (arith, bounds.0)
-
-    by_system : ((x : Image) → IsWhole x → (new_within left kind payload (drafted x)).0.broken ≡ []) → (below : (p == most_pages) ≡ false) → (u : Bool) → is_system_place (image_size image) p ≡ u
-        → (new_within (suc left) kind payload (drafted image)).0.broken ≡ []
-    by_system rest below true f =
-        ap (λ (x : Draft × ℕ). x.0.broken) (new_more image h kind payload left (at below).most f)
-        ∙ ap (λ (ps : List ℕ). ps ++ (round p image).broken) (rest (round p image).image (round_well image h p (at below) f two)) ∙ round_unbroken image h p (at below) f two
-    by_system rest below false f = ap (λ (x : Draft × ℕ). x.0.broken) (new_last image h kind payload left (at below).most f) ∙ last_unbroken image h p kind (payload p) (at below) f some (room p) two
-
-    by_full : ((x : Image) → IsWhole x → (new_within left kind payload (drafted x)).0.broken ≡ []) → (t : Bool) → (p == most_pages) ≡ t → (new_within (suc left) kind payload (drafted image)).0.broken ≡ []
-    by_full rest true e = ap (λ (x : Draft × ℕ). x.0.broken) (new_by image h kind payload left true (is_system_place (image_size image) p) e refl)
-    by_full rest false e = by_system rest e (is_system_place (image_size image) p) refl
-
 -- A new page stands where no system page does, and no page but it and system pages has changed.
 pub record IsNew (image : Image) (kind : ℕ) (made : Draft × ℕ) : Type 0 where
   pub size : image_size made.0.image ≡ image_size image
@@ -581,10 +514,7 @@ pub record IsNew (image : Image) (kind : ℕ) (made : Draft × ℕ) : Type 0 whe
 -- where a page was left for it
 pub new_is_new : (tries kind : ℕ) (payload : ℕ → List ℕ) (image : Image) → IsWhole image → (kind == 0) ≡ false → ((p : ℕ) → length (payload p) ≤ 1008)
     → (new_within tries kind payload (drafted image)).0.full ≡ false → IsNew image kind (new_within tries kind payload (drafted image))
-new_is_new zero kind payload image h some room left = absurd (no_tries (found image h kind payload zero left).tries_is)
-  where
-    no_tries : {n : ℕ} → zero ≡ suc n → ⊥
-    no_tries e = omega (arith, e)
+new_is_new zero kind payload image h some room left = absurd (omega (arith, (found image h kind payload zero left).tries_is))
 new_is_new (suc tries) kind payload image h some room left = by (λ x well full. new_is_new tries kind payload x well some room full) (is_system_place (image_size image) p) refl
   where
     p : ℕ

@@ -1,21 +1,6 @@
 -- What the statements on rows do to the rows of tables, in a neat image.
-use Rattle.std.proofs.Common.{◌≡◌, ℕ, ◌+◌, ◌<◌, List, [], length, refl, sym, ap, ◌∙◌}
-use Rattle.std.specs.Prelude.{true, false, Option, Some, None, is_some, option_map}
-use Rattle.std.proofs.lemmas.Bool.{true≢false}
-use Rattle.nb_host.specs.declared.refusals.Refusal.{Refusal}
-use Rattle.nb_model.specs.declared.reply.Reply.TheVariants.{Done, Value, Rows, Refused}
-use Rattle.nb_model.specs.declared.statement.Statement.TheVariants.{CreateTable, DropTable, Insert, Update, Delete, Get, Scan}
-use Rattle.nb_model.specs.Chains.{Chain, Catalogue, RowsFrom, Slot, Spot, table_spot, found_pages, free_spot, row_spot, row_slot, table_slot, free_slot, spots, spots_of, text_in, first_in, put_slot, place_slot, grown}
-use Rattle.nb_model.specs.Forms.{Draft, drafted, wants}
-use Rattle.nb_model.specs.Image.{Image}
-use Rattle.nb_model.specs.Outcomes.{Seen, Outcome}
-use Rattle.nb_model.specs.RowChanges.{ChangesRows}
-use Rattle.nb_model.specs.Rows.{RowMap, IsRising, with_row, without_row, row_at, rows_in, rows, IsNeat}
-use Rattle.nb_model.specs.Sound.{HasHeader, IsSoundImage}
-use Rattle.nb_fields.specs.Payloads.{data_payload}
-use Rattle.nb_model.specs.Strokes.{base_after}
-use Rattle.nb_model.specs.TableNames.{is_table_name}
-use Rattle.nb_model.specs.Turns.{first_turn}
+use Rattle.std.proofs.Common.{◌≡◌, ℕ, ◌+◌, ◌<◌, List, [], length, refl, sym, ap, ◌∙◌, true, false, Option, Some, None, is_some, option_map}
+use Rattle.nb_model.proofs.Common.{Refusal, Done, Value, Rows, Refused, CreateTable, DropTable, Insert, Update, Delete, Get, Scan, Chain, Catalogue, RowsFrom, Slot, Spot, table_spot, found_pages, free_spot, row_spot, row_slot, table_slot, free_slot, spots, spots_of, text_in, first_in, put_slot, place_slot, grown, Draft, drafted, wants, Image, Seen, Outcome, ChangesRows, RowMap, IsRising, with_row, without_row, row_at, rows_in, rows, IsNeat, HasHeader, IsSoundImage, data_payload, base_after, is_table_name, first_turn, not_there}
 use Rattle.nb_model.proofs.DraftLaws.{IsOf, drafts_are, drafted_is, new_keeps, slot_keeps, at_keeps, place_keeps, given_keeps}
 use Rattle.nb_model.proofs.DropTurns.{drop_turn_rows, drop_gone}
 use Rattle.nb_model.proofs.CreateTurns.{create_turn_rows, create_there}
@@ -41,10 +26,6 @@ row_is image table spot key has = ap (row_at key) (rows_of_some image table spot
 
 not_done : (r : Refusal) → Some (Refused r) ≡ Some Done → ⊥
 not_done r e = cc
-
-none_is : (o : Option Spot) → is_some o ≡ false → o ≡ None
-none_is None e = refl
-none_is (Some s) e = absurd (true≢false e)
 
 -- the free slot of the chain
 free_of : (chain : Chain) (image : Image) → free_spot (spots chain image) ≡ free_spot (spots_of image (found_pages chain image))
@@ -91,7 +72,7 @@ module _ (s : Seen) (session : ℕ) (table : List ℕ) (key : ℕ) (header : Has
       pages = found_pages (chain_at spot) image
 
       new : row_spot key (spots (chain_at spot) image) ≡ None
-      new = none_is (row_spot key (spots (chain_at spot) image)) may.new
+      new = not_there (row_spot key (spots (chain_at spot) image)) may.new
 
       by : (o : Option Spot) → free_spot (spots_of image pages) ≡ o → (elim o as (λ z. Draft) [ Some f ↦ wants image 5 f.page (put_slot f.page f.slot (row_slot key text) (drafted image)) | None ↦ (grown (chain_at spot) pages (row_slot key text) (drafted image)).0 ]).full ≡ false
           → IsTurnOfRows s.base table (with_row key text its) (elim o as (λ z. Draft) [ Some f ↦ wants image 5 f.page (put_slot f.page f.slot (row_slot key text) (drafted image)) | None ↦ (grown (chain_at spot) pages (row_slot key text) (drafted image)).0 ])
@@ -154,7 +135,7 @@ module _ (s : Seen) (session : ℕ) (table : List ℕ) (key : ℕ) where
   pub insert_new : (text : List ℕ) → (first_turn s session (Insert table key text)).reply ≡ Some Done → under ≡ None
   unfolding first_turn
   insert_new text = insert_either (λ o. o.reply ≡ Some Done → under ≡ None) s (λ r e. absurd (not_refused r e)) table key text
-      (λ spot may e. row_is here table spot key may.its_table ∙ ap (option_map (λ (v : Spot). text_in v.bytes)) (none_is (row_spot key (spots (chain_at spot) here)) may.new))
+      (λ spot may e. row_is here table spot key may.its_table ∙ ap (option_map (λ (v : Spot). text_in v.bytes)) (not_there (row_spot key (spots (chain_at spot) here)) may.new))
 
   found_under : (spot row : Spot) → HasRow here table key spot row → is_some under ≡ true
   found_under spot row has = ap is_some (row_is here table spot key has.its_table ∙ ap (option_map (λ (v : Spot). text_in v.bytes)) has.found)

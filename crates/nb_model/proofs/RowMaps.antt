@@ -1,11 +1,6 @@
 -- Rows as a finite map: keys rise, and two maps are the same where each key has the same text in both.
-use Rattle.std.proofs.Common.{◌≡◌, ◌≢◌, inl, inr, ℕ, suc, ◌<◌, List, [], ◌∷◌, refl, sym, ap, subst, ◌∙◌, arith}
-use Rattle.std.specs.Prelude.{Bool, true, false, ◌&&◌, ◌==◌, nat_lt, nat_eq, Option, Some, None, option_map}
-use Rattle.std.specs.List.{AllByRecursion}
-use Rattle.std.proofs.lemmas.Bool.{true≢false}
-use Rattle.std.proofs.lemmas.Bool.Decides.{eqb_tells, leb_tells}
-use Rattle.nb_model.specs.Chains.{Spot, is_used, key_of, text_in, first_such, row_spot}
-use Rattle.nb_model.specs.Rows.{RowMap, IsRising, with_row, without_row, row_at, rows_in}
+use Rattle.std.proofs.Common.{◌≡◌, ◌≢◌, inl, inr, ℕ, suc, ◌<◌, List, [], ◌∷◌, refl, sym, ap, subst, ◌∙◌, arith, Bool, true, false, ◌&&◌, ◌==◌, nat_lt, nat_eq, Option, Some, None, option_map}
+use Rattle.nb_model.proofs.Common.{AllByRecursion, true≢false, eqb_tells, leb_tells, Spot, is_used, key_of, text_in, first_such, row_spot, RowMap, IsRising, with_row, without_row, row_at, rows_in, eq_other, eq_self, some_none, some_same}
 
 abbrev Row : Type 0
 Row = ℕ × List ℕ
@@ -87,20 +82,14 @@ at_first : (key : ℕ) (r : Row) (rs : RowMap) → row_at key (r ∷ rs) ≡ her
 unfolding row_at
 at_first key r rs = refl
 
-same_eq : (key : ℕ) → nat_eq key key ≡ true
-same_eq key = elim (eqb_tells key key) [ inl w ↦ w.0 | inr w ↦ absurd (w.1 refl) ]
-
-not_eq : (key other : ℕ) → key ≢ other → nat_eq key other ≡ false
-not_eq key other ne = elim (eqb_tells key other) [ inl w ↦ absurd (ne w.1) | inr w ↦ w.0 ]
-
 equal_by : (key other : ℕ) → nat_eq key other ≡ true → key ≡ other
 equal_by key other e = elim (eqb_tells key other) [ inl w ↦ w.1 | inr w ↦ absurd (true≢false (sym e ∙ w.0)) ]
 
 here_same : (key : ℕ) (text : List ℕ) (rs : RowMap) → row_at key ((key, text) ∷ rs) ≡ Some text
-here_same key text rs = at_first key (key, text) rs ∙ ap (λ (t : Bool). elim t as (λ z. Option (List ℕ)) [ true ↦ Some text | false ↦ row_at key rs ]) (same_eq key)
+here_same key text rs = at_first key (key, text) rs ∙ ap (λ (t : Bool). elim t as (λ z. Option (List ℕ)) [ true ↦ Some text | false ↦ row_at key rs ]) (eq_self key)
 
 here_other : (key : ℕ) (r : Row) (rs : RowMap) → key ≢ r.0 → row_at key (r ∷ rs) ≡ row_at key rs
-here_other key r rs ne = at_first key r rs ∙ ap (λ (t : Bool). elim t as (λ z. Option (List ℕ)) [ true ↦ Some r.1 | false ↦ row_at key rs ]) (not_eq key r.0 ne)
+here_other key r rs ne = at_first key r rs ∙ ap (λ (t : Bool). elim t as (λ z. Option (List ℕ)) [ true ↦ Some r.1 | false ↦ row_at key rs ]) (eq_other key r.0 ne)
 
 pub with_here : (key : ℕ) (text : List ℕ) (rs : RowMap) → row_at key (with_row key text rs) ≡ Some text
 unfolding with_row
@@ -151,9 +140,6 @@ above_none : (key : ℕ) (rs : RowMap) → Above key rs → row_at key rs ≡ No
 above_none key [] all = none_at key
 above_none key (r ∷ rs) all = here_other key r rs (λ e. absurd (omega (arith, e, all.0))) ∙ above_none key rs all.1
 
-some_none : (text : List ℕ) → Some text ≡ None → ⊥
-some_none text e = cc
-
 pub same_maps : (a b : RowMap) → IsRising a → IsRising b → ((key : ℕ) → row_at key a ≡ row_at key b) → a ≡ b
 same_maps [] [] ra rb same = refl
 same_maps [] (s ∷ ss) ra rb same = absurd (some_none s.1 (sym (here_same s.0 s.1 ss) ∙ sym (same s.0) ∙ none_at s.0))
@@ -161,7 +147,7 @@ same_maps (r ∷ rs) [] ra rb same = absurd (some_none r.1 (sym (here_same r.0 r
 same_maps (r ∷ rs) (s ∷ ss) ra rb same = elim (eqb_tells r.0 s.0) [
   | inl w ↦
       let key : r.0 ≡ s.0 = w.1 in
-      let text : r.1 ≡ s.1 = same_some r.1 s.1 (sym (here_same r.0 r.1 rs) ∙ same r.0 ∙ ap (λ (k : ℕ). row_at k (s ∷ ss)) key ∙ here_same s.0 s.1 ss) in
+      let text : r.1 ≡ s.1 = some_same r.1 s.1 (sym (here_same r.0 r.1 rs) ∙ same r.0 ∙ ap (λ (k : ℕ). row_at k (s ∷ ss)) key ∙ here_same s.0 s.1 ss) in
       let rest : rs ≡ ss = same_maps rs ss ra.1 rb.1 (λ k. tail k key) in
       ap (λ (xs : RowMap). r ∷ xs) rest ∙ ap (λ (k : ℕ). (k, r.1) ∷ ss) key ∙ ap (λ (t : List ℕ). (s.0, t) ∷ ss) text
   | inr w ↦ elim (leb_tells (suc r.0) s.0) [
@@ -170,9 +156,6 @@ same_maps (r ∷ rs) (s ∷ ss) ra rb same = elim (eqb_tells r.0 s.0) [
   ]
 ]
   where
-    same_some : (x y : List ℕ) → Some x ≡ Some y → x ≡ y
-    same_some x y e = cc
-
     tail : (k : ℕ) → r.0 ≡ s.0 → row_at k rs ≡ row_at k ss
     tail k key = elim (eqb_tells k r.0) [
       | inl w ↦ ap (λ (n : ℕ). row_at n rs) w.1 ∙ above_none r.0 rs ra.0 ∙ sym (ap (λ (n : ℕ). row_at n ss) (w.1 ∙ key) ∙ above_none s.0 ss rb.0)

@@ -1,11 +1,6 @@
 -- What the slot of a row tells, and a free slot.
-use Rattle.std.proofs.Common.{◌≡◌, ℕ, ◌-◌, ◌<◌, ◌≤◌, List, ◌∷◌, ◌++◌, length, take, drop, replicate, refl, sym, arith}
-use Rattle.std.specs.Prelude.{Bool, true, false, ◌&&◌, ◌||◌, ◌==◌, nat_le, slice_index}
-use Rattle.std.proofs.lemmas.Bool.{and_from, le-leb, eq-eqb}
-use Rattle.std.proofs.lemmas.List.{take_at}
-use Rattle.nb_fields.specs.Bytes.{bytes_of, number_in, padded}
-use Rattle.nb_fields.proofs.NumberLaws.{number_of-bytes_of}
-use Rattle.nb_model.specs.Chains.{Chain, RowsFrom, is_used, is_slot, length_in, key_of, text_in, row_slot, free_slot}
+use Rattle.std.proofs.Common.{◌≡◌, ℕ, ◌-◌, ◌<◌, ◌≤◌, List, ◌∷◌, ◌++◌, length, take, drop, replicate, refl, sym, arith, Bool, true, false, ◌&&◌, ◌||◌, ◌==◌, nat_le, slice_index}
+use Rattle.nb_model.proofs.Common.{and_from, le-leb, eq-eqb, take_at, bytes_of, number_in, padded, number_of-bytes_of, Chain, RowsFrom, is_used, is_slot, length_in, key_of, text_in, row_slot, free_slot}
 use Rattle.nb_model.proofs.SpotMaps.{has_key}
 
 pub row_used : (key : ℕ) (text : List ℕ) → is_used (row_slot key text) ≡ true

@@ -1,18 +1,9 @@
 -- A row is written or taken out: the rows of its table are then those of the map, and those of other tables stay, at each stroke.
-use Rattle.std.proofs.Common.{◌≡◌, ◌≢◌, ◌⊎◌, inl, inr, ℕ, suc, ◌<◌, ◌≤◌, List, [], ◌∷◌, map, length, refl, sym, ap, subst, ◌∙◌, arith}
-use Rattle.std.specs.Prelude.{Bool, true, false, Some, None, Contains}
-use Rattle.std.specs.List.{AllByRecursion}
-use Rattle.std.proofs.lemmas.Bool.{and_parts, eqb-true}
-use Rattle.nb_model.specs.Account.{Base}
-use Rattle.nb_model.specs.Chains.{Chain, Catalogue, History, Slot, Spot, is_used, is_slot, key_of, text_in, table_of, first_in, first_such, found_pages, spots, table_spot, free_spot, row_spot, row_slot, free_slot, put_slot}
-use Rattle.nb_model.specs.Forms.{Draft, drafted, raised}
-use Rattle.nb_model.specs.Image.{Image}
-use Rattle.nb_model.specs.RowChanges.{GivesRows, ChangesRows}
-use Rattle.nb_model.specs.Rows.{RowMap, with_row, without_row, rows_in, rows, used, table_chains, chains, pages_of_all, AreDistinct, IsNeat}
-use Rattle.nb_model.specs.Sound.{HasHeader, IsSoundImage}
+use Rattle.std.proofs.Common.{◌≡◌, ◌≢◌, ◌⊎◌, inl, inr, ℕ, suc, ◌<◌, ◌≤◌, List, [], ◌∷◌, map, length, refl, sym, ap, subst, ◌∙◌, arith, Bool, true, false, Some, None, Contains}
+use Rattle.nb_model.proofs.Common.{AllByRecursion, and_parts, eqb-true, Base, Chain, Catalogue, History, Slot, Spot, is_used, is_slot, key_of, text_in, table_of, first_in, first_such, found_pages, spots, table_spot, free_spot, row_spot, row_slot, free_slot, put_slot, Draft, drafted, raised, Image, GivesRows, ChangesRows, RowMap, with_row, without_row, rows_in, rows, used, table_chains, chains, pages_of_all, AreDistinct, IsNeat, HasHeader, IsSoundImage}
 use Rattle.nb_model.proofs.Along.{Along, along_front, put_along}
 use Rattle.nb_model.proofs.HeldChains.{nothing_changes}
-use Rattle.nb_model.proofs.NeatLaws.{distinct_right, chain_apart, pages_first, once_table, chain_held, table_found, IsFoundTable, rows_of_some, ChangesChain, chains_are, same_table, stays_neat, other_rows, used_each}
+use Rattle.nb_model.proofs.NeatLaws.{distinct_right, chain_apart, pages_first, once_table, chain_held, table_found, IsFoundTable, rows_of_some, ChangesChain, chains_are, same_table, stays_neat, other_rows, used_each, no_catalogue_history}
 use Rattle.nb_model.proofs.RoomLaws.{first_passes, pages_found}
 use Rattle.nb_model.proofs.RowSlots.{row_used, row_key, row_text, row_is_slot, row_has_key, free_not_used, free_is_slot}
 use Rattle.nb_model.proofs.FoundSpots.{each_held, found_there}
@@ -75,9 +66,6 @@ module _ (x : Image) (header : HasHeader x) (is : IsSoundImage x) (neat : IsNeat
 
   pub no_catalogue : Catalogue ≢ c
   no_catalogue e = cc
-
-  no_catalogue_history : Catalogue ≢ History
-  no_catalogue_history e = cc
 
   -- Nothing changes: the rows are those from before.
   pub still_rows : (y : Image) → ChangesChain History x y → GivesRows x y table (rows x table)

@@ -1,15 +1,8 @@
 -- Laws of runs.
-use Rattle.std.proofs.Common.{◌≡◌, ◌⊎◌, inl, inr, ℕ, zero, suc, ◌+◌, ◌-◌, arith, List, [], ◌∷◌, ◌++◌, get_or, refl, sym, ap, subst, ◌∙◌, append_assoc}
-use Rattle.std.specs.Prelude.{true, Option}
-use Rattle.std.specs.List.{slice_index_or}
-use Rattle.std.proofs.lemmas.Bool.Decides.{eqb_tells, leb_tells}
-use Rattle.std.proofs.lemmas.List.{append-nil}
-use Rattle.nb_host.specs.Names.{same_name}
-use Rattle.nb_model.specs.Account.{Base, Entry, IsBase, Account, with_entry}
-use Rattle.nb_model.specs.Strokes.{Stroke, base_after, base_in}
-use Rattle.nb_model.specs.Outcomes.{Turn, Outcome}
-use Rattle.nb_model.specs.Run.{Now, Event, Played, base_now, account_after, with_made, outcome, stands_then, take_turn, one_turn, play, rounds, all_sessions, AreFinished, IsPlayed, event_of, strokes_of}
+use Rattle.std.proofs.Common.{◌≡◌, ◌⊎◌, inl, inr, ℕ, zero, suc, ◌+◌, ◌-◌, arith, List, [], ◌∷◌, ◌++◌, get_or, refl, sym, ap, subst, ◌∙◌, append_assoc, Option}
+use Rattle.nb_model.proofs.Common.{slice_index_or, leb_tells, append-nil, Base, Entry, IsBase, Account, with_entry, Stroke, base_after, base_in, Turn, Outcome, Now, Event, Played, base_now, account_after, with_made, outcome, stands_then, take_turn, one_turn, play, rounds, all_sessions, AreFinished, IsPlayed, event_of, strokes_of, same_self}
 use Rattle.nb_model.proofs.StrokeLaws.{base_after-append}
+use Rattle.nb_model.proofs.OutputLaws.{strokes_one}
 
 -- one list of turns after another
 pub play-append : (xs ys : List ℕ) (now : Now) → play (xs ++ ys) now ≡ ((play xs now).0 ++ (play ys (play xs now).1).0, (play ys (play xs now).1).1)
@@ -18,10 +11,6 @@ play-append [] ys now = refl
 play-append (x ∷ xs) ys now =
     ap (λ (r : Played). ((one_turn x now).0 ++ r.0, r.1)) (play-append xs ys (one_turn x now).1)
     ∙ ap (λ (es : List Event). (es, (play ys (play xs (one_turn x now).1).1).1)) (sym (append_assoc (one_turn x now).0 (play xs (one_turn x now).1).0 (play ys (play xs (one_turn x now).1).1).0))
-
-pub same_self : (xs : List ℕ) → same_name xs xs ≡ true
-same_self [] = refl
-same_self (x ∷ xs) = elim (eqb_tells x x) [ inl w ↦ rw (w.0, same_self xs) refl | inr w ↦ absurd (w.1 refl) ]
 
 pub entry_same : (name : List ℕ) (entry : Entry) (account : Account) → (with_entry name entry account).entry name ≡ entry
 unfolding with_entry
@@ -40,10 +29,6 @@ strokes_none : (b : Base) → base_after b (strokes_of []) ≡ b
 unfolding base_after strokes_of
 strokes_none b = refl
 
-strokes_of_one : (e : Event) → strokes_of (e ∷ []) ≡ e.strokes
-unfolding strokes_of
-strokes_of_one e = append-nil e.strokes
-
 pub strokes_of-append : (xs ys : List Event) → strokes_of (xs ++ ys) ≡ strokes_of xs ++ strokes_of ys
 unfolding strokes_of
 strokes_of-append [] ys = refl
@@ -56,7 +41,7 @@ turn_stands session rest o now = after_turn now.name o.strokes o.made now.accoun
 pub taken_is : (session : ℕ) (ts : List Turn) (now : Now) → base_now (take_turn session ts now).1 ≡ base_after (base_now now) (strokes_of (take_turn session ts now).0)
 unfolding take_turn
 taken_is session [] now = sym (strokes_none (base_now now))
-taken_is session (t ∷ rest) now = turn_stands session rest (outcome session t now) now ∙ ap (base_after (base_now now)) (sym (strokes_of_one (event_of session t (outcome session t now))))
+taken_is session (t ∷ rest) now = turn_stands session rest (outcome session t now) now ∙ ap (base_after (base_now now)) (sym (strokes_one (event_of session t (outcome session t now))))
 
 pub one_is : (session : ℕ) (now : Now) → base_now (one_turn session now).1 ≡ base_after (base_now now) (strokes_of (one_turn session now).0)
 unfolding one_turn

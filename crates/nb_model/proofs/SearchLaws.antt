@@ -1,15 +1,6 @@
 -- The search for a new page, try by try: where it ends, and what it goes on with.
-use Rattle.std.proofs.Common.{◌≡◌, ◌≢◌, inl, inr, ℕ, suc, ◌+◌, ◌/◌, ◌≤◌, List, [], ◌∷◌, ◌++◌, refl, sym, ap, subst, ◌∙◌, arith}
-use Rattle.std.specs.Prelude.{Bool, true, false, ◌==◌, ◌||◌, IsTrue, Option, Some, None}
-use Rattle.std.proofs.lemmas.Bool.{true≢false, eqb-true}
-use Rattle.std.proofs.lemmas.List.{append-nil}
-use Rattle.std.proofs.lemmas.Bool.Decides.{eqb_tells}
-use Rattle.nb_fields.specs.Places.{is_page_size, bits_in, inventory_place, is_system_place, most_pages}
-use Rattle.nb_fields.specs.Kinds.{inventory_kind}
-use Rattle.nb_host.specs.declared.refusals.Refusal.TheVariants.{NotDatabase, Full}
-use Rattle.nb_model.specs.Image.{Image, image_size}
-use Rattle.nb_model.specs.Forms.{Draft, drafted, is_kind, inventory_of, put, take_page, lowest_free, system_page, no_page, Need, first_not, maps_from, entry_page, is_kept, needed_at, new_within}
-use Rattle.nb_model.specs.Causes.{Cause, first_cause, when, lowest_broken, not_of_form, no_room}
+use Rattle.std.proofs.Common.{◌≡◌, ◌≢◌, inl, inr, ℕ, suc, ◌+◌, ◌/◌, ◌≤◌, List, [], ◌∷◌, ◌++◌, refl, sym, ap, subst, ◌∙◌, arith, Bool, true, false, ◌==◌, ◌||◌, IsTrue, Option, Some, None}
+use Rattle.nb_model.proofs.Common.{true≢false, eqb-true, append-nil, eqb_tells, is_page_size, bits_in, inventory_place, is_system_place, most_pages, inventory_kind, NotDatabase, Full, Image, image_size, Draft, drafted, is_kind, inventory_of, put, take_page, lowest_free, system_page, no_page, Need, first_not, maps_from, entry_page, is_kept, needed_at, new_within, Cause, first_cause, when, lowest_broken, not_of_form, no_room, or_false}
 use Rattle.nb_model.proofs.DraftJoin.{joined, joined_new, join_new}
 use Rattle.nb_model.proofs.NeedLaws.{first_append, both_none, maps_all, none_ready}
 use Rattle.nb_model.proofs.StepLaws.{IsClear, IsReady}
@@ -105,10 +96,6 @@ joined_cause d e c =
     ap (λ (ps : List ℕ). draft_cause (record e { broken = e.broken ++ ps; full = e.full || d.full })) c.0
     ∙ ap (λ (ps : List ℕ). draft_cause (record e { broken = ps; full = e.full || d.full })) (append-nil e.broken)
     ∙ ap (λ (t : Bool). draft_cause (record e { full = e.full || t })) c.1 ∙ ap (λ (t : Bool). draft_cause (record e { full = t })) (or_false e.full)
-  where
-    or_false : (t : Bool) → (t || false) ≡ t
-    or_false true = refl
-    or_false false = refl
 
 -- the inventory page of the page after the last that a database may have is that of the last
 pub last_map : (size : ℕ) → IsTrue (is_page_size size) → most_pages / bits_in size ≡ 1048575 / bits_in size

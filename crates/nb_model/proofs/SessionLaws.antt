@@ -1,7 +1,6 @@
 -- A session that is alone takes its turns one after the other.
 use Rattle.std.proofs.Common.{◌≡◌, ℕ, zero, suc, ◌-◌, ◌≤◌, List, [], ◌∷◌, ◌++◌, get_or, replicate, refl, sym, ap, ◌∙◌, set, arith, get_or-set_other}
-use Rattle.nb_model.specs.Outcomes.{Turn, Outcome}
-use Rattle.nb_model.specs.Run.{Now, Played, outcome, stands_then, take_turn, one_turn, play, rounds}
+use Rattle.nb_model.proofs.Common.{Turn, Outcome, Now, Played, outcome, stands_then, take_turn, one_turn, play, rounds}
 use Rattle.nb_model.proofs.RunLaws.{play-append, nothing_taken}
 
 -- no session but the first has anything to do

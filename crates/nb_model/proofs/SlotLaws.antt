@@ -1,20 +1,6 @@
 -- The slots of a data page that is written: they are those of the old page, but for the one that is written; and a new page uses none.
-use Rattle.std.proofs.Common.{◌≡◌, ◌≢◌, ◌⊎◌, inl, inr, ℕ, zero, suc, ◌+◌, ◌-◌, ◌*◌, ◌/◌, ◌≤◌, List, [], ◌∷◌, ◌++◌, length, take, drop, replicate, refl, sym, ap, subst, ◌∙◌, ◌<◌, arith, append_assoc, length-drop, length-append}
-use Rattle.std.specs.Prelude.{true, ◌&&◌, ◌==◌}
-use Rattle.std.specs.List.{AllByRecursion, list_all}
-use Rattle.std.proofs.lemmas.Bool.{true≢false, and_parts, and_from, eqb-true, eq-eqb}
-use Rattle.std.proofs.lemmas.Bool.Decides.{eqb_tells, leb_tells}
-use Rattle.std.proofs.lemmas.List.{take_at, drop_at, drop-drop}
-use Rattle.nb_fields.specs.Bytes.{bytes_of, number_of, number_in, part, with_part, padded, is_zeros}
-use Rattle.nb_fields.specs.Page.{stamped, kind_of}
-use Rattle.nb_fields.specs.Payloads.{data_payload}
-use Rattle.nb_fields.proofs.NumberLaws.{length-bytes_of, number_of-bytes_of}
-use Rattle.nb_fields.proofs.PageLaws.{padded_whole, drop-page_of, length-page_of}
-use Rattle.nb_fields.proofs.PartLaws.{drop-with_part, part-with_part, part-with_part_other, number_in-with_part, number_in-with_part_other, length-with_part}
-use Rattle.nb_fields.specs.Kinds.{data_kind}
-use Rattle.nb_model.specs.Image.{Page}
-use Rattle.nb_model.specs.Chains.{History, Slot, is_used, is_slot, next_in, owner_in, slots_from, slots_in}
-use Rattle.nb_model.specs.Stands.{is_history_page}
+use Rattle.std.proofs.Common.{◌≡◌, ◌≢◌, ◌⊎◌, inl, inr, ℕ, zero, suc, ◌+◌, ◌-◌, ◌*◌, ◌/◌, ◌≤◌, List, [], ◌∷◌, ◌++◌, length, take, drop, replicate, refl, sym, ap, subst, ◌∙◌, ◌<◌, arith, append_assoc, length-drop, length-append, true, ◌&&◌, ◌==◌}
+use Rattle.nb_model.proofs.Common.{AllByRecursion, list_all, true≢false, and_parts, and_from, eqb-true, eq-eqb, eqb_tells, leb_tells, take_at, drop_at, drop-drop, bytes_of, number_of, number_in, part, with_part, padded, is_zeros, stamped, kind_of, data_payload, length-bytes_of, number_of-bytes_of, padded_whole, drop-page_of, length-page_of, drop-with_part, part-with_part, part-with_part_other, number_in-with_part, number_in-with_part_other, length-with_part, data_kind, Page, History, Slot, is_used, is_slot, next_in, owner_in, slots_from, slots_in, is_history_page}
 use Rattle.nb_model.proofs.ImageLaws.{zeros-are}
 
 -- Pages that are the same from byte n on have the same slots.

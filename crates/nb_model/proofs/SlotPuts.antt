@@ -1,23 +1,12 @@
 -- A slot of a chain is written in a neat image: the chain's slots are as before but for that one, and no other chain changes.
-use Rattle.std.proofs.Common.{◌≡◌, ◌≢◌, ℕ, zero, suc, ◌+◌, ◌*◌, ◌/◌, ◌≤◌, List, [], ◌∷◌, map, length, drop, refl, sym, ap, subst, ◌∙◌, arith}
-use Rattle.std.specs.Prelude.{Bool, true, Ok, Contains}
-use Rattle.std.specs.List.{AllByRecursion, list_all}
-use Rattle.std.proofs.lemmas.Bool.{and_parts, and_from}
-use Rattle.nb_fields.specs.Bytes.{with_part}
-use Rattle.nb_fields.specs.Page.{stamped}
-use Rattle.nb_fields.specs.Places.{bits_in, entries_in, is_scn_place}
-use Rattle.nb_fields.specs.Kinds.{data_kind}
-use Rattle.nb_model.specs.Chains.{Chain, History, Slot, Spot, is_slot, next_in, slots_in, pages_of, found_pages, spots, put_slot}
-use Rattle.nb_model.specs.Forms.{drafted, raised, inventory_of, scn_page_of}
-use Rattle.nb_model.specs.Image.{Page, Image, page_at, image_size, image_scn}
-use Rattle.nb_model.specs.Rows.{chains, IsNeat}
-use Rattle.nb_model.specs.Sound.{HasHeader, IsSoundImage}
+use Rattle.std.proofs.Common.{◌≡◌, ◌≢◌, ℕ, zero, suc, ◌+◌, ◌*◌, ◌/◌, ◌≤◌, List, [], ◌∷◌, map, length, drop, refl, sym, ap, subst, ◌∙◌, arith, Bool, true, Ok, Contains}
+use Rattle.nb_model.proofs.Common.{AllByRecursion, list_all, and_parts, and_from, with_part, stamped, bits_in, entries_in, is_scn_place, data_kind, Chain, History, Slot, Spot, is_slot, next_in, slots_in, pages_of, found_pages, spots, put_slot, drafted, raised, inventory_of, scn_page_of, Page, Image, page_at, image_size, image_scn, chains, IsNeat, HasHeader, IsSoundImage, all_go}
 use Rattle.nb_model.proofs.ChainWalks.{HasForm, form_there, StaysLinked, pages_stay, found_is, spots_are}
 use Rattle.nb_model.proofs.FitLaws.{IsWhole}
 use Rattle.nb_model.proofs.HeldChains.{KeepsEach, KeepsBut, IsHeldIn, chains_held, one_changes, nothing_changes}
 use Rattle.nb_model.proofs.HeldLaws.{IsHeld, held_by, held_put}
 use Rattle.nb_model.proofs.HeldRoom.{held_here}
-use Rattle.nb_model.proofs.NeatLaws.{all_go, ChangesChain}
+use Rattle.nb_model.proofs.NeatLaws.{ChangesChain}
 use Rattle.nb_model.proofs.NewSound.{stamped_kind, places_apart}
 use Rattle.nb_model.proofs.PutSound.{IsPlace, IsPlain, Raises, header_whole}
 use Rattle.nb_model.proofs.RoomLaws.{chain_plain, old_there}

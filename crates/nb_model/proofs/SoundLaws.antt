@@ -1,22 +1,6 @@
 -- What keeps an image sound: each page stroke of a page that fits at its place.
-use Rattle.std.proofs.Common.{◌≡◌, ◌≢◌, ◌⊎◌, inl, inr, ℕ, zero, suc, ◌+◌, ◌-◌, ◌*◌, ◌/◌, ◌%◌, ◌<◌, ◌≤◌, List, [], ◌∷◌, length, take, refl, sym, ap, subst, ◌∙◌, arith, length-append, length-set}
-use Rattle.std.specs.Prelude.{Bool, true, false, ◌==◌, ◌||◌, ◌&&◌, nat_le, nat_lt, max, IsTrue}
-use Rattle.std.specs.List.{AllByRecursion}
-use Rattle.std.proofs.Math.Nat.{mul-mod_left, mod-eq_of_lt, div-eq_of_lt}
-use Rattle.std.proofs.lemmas.Bool.{true≢false, eq-eqb, eqb-true, lt-ltb, ltb-true, or_right, or_cases, and_left, and_from, and_parts}
-use Rattle.std.proofs.lemmas.Bool.Decides.{eqb_tells, leb_tells}
-use Rattle.nb_fields.specs.Bytes.{part, number_in, is_zeros}
-use Rattle.nb_fields.specs.Header.{is_marked, is_header}
-use Rattle.nb_fields.specs.Places.{is_page_size, entries_in, bits_in, inventory_place, scn_place, is_inventory_place, is_scn_place, most_pages}
-use Rattle.nb_fields.specs.Page.{head_of, page_of, kind_of, stamp_of}
-use Rattle.nb_fields.specs.Payloads.{bit_of, entry_of}
-use Rattle.nb_fields.proofs.HeaderLaws.{is_header-take}
-use Rattle.nb_fields.proofs.PartLaws.{number_in-take, part-take}
-use Rattle.nb_fields.proofs.PlaceLaws.{entries-least, bits-least}
-use Rattle.nb_fields.specs.Kinds.{header_kind, inventory_kind, scn_kind}
-use Rattle.nb_model.specs.Image.{Page, Image, page_at, first_page, image_size, image_state, image_scn, image_guid, with_page}
-use Rattle.nb_model.specs.Forms.{inventory_of, scn_page_of, bit_number, entry_number, scn_entry, is_free_page, has_entry}
-use Rattle.nb_model.specs.Sound.{IsOfSize, HasSystemPages, HasBitsBelow, HasEntries, HasStamps, IsSoundImage}
+use Rattle.std.proofs.Common.{◌≡◌, ◌≢◌, ◌⊎◌, inl, inr, ℕ, zero, suc, ◌+◌, ◌-◌, ◌*◌, ◌/◌, ◌%◌, ◌<◌, ◌≤◌, List, [], ◌∷◌, length, take, refl, sym, ap, subst, ◌∙◌, arith, length-append, length-set, Bool, true, false, ◌==◌, ◌||◌, ◌&&◌, nat_le, nat_lt, max, IsTrue}
+use Rattle.nb_model.proofs.Common.{AllByRecursion, mul-mod_left, mod-eq_of_lt, div-eq_of_lt, true≢false, eq-eqb, eqb-true, lt-ltb, ltb-true, or_right, or_cases, and_left, and_from, and_parts, eqb_tells, leb_tells, part, number_in, is_zeros, is_marked, is_header, is_page_size, entries_in, bits_in, inventory_place, scn_place, is_inventory_place, is_scn_place, most_pages, head_of, page_of, kind_of, stamp_of, bit_of, entry_of, is_header-take, number_in-take, part-take, entries-least, bits-least, header_kind, inventory_kind, scn_kind, Page, Image, page_at, first_page, image_size, image_state, image_scn, image_guid, with_page, inventory_of, scn_page_of, bit_number, entry_number, scn_entry, is_free_page, has_entry, IsOfSize, HasSystemPages, HasBitsBelow, HasEntries, HasStamps, IsSoundImage}
 use Rattle.nb_model.proofs.StrokeLaws.{with_page_same, with_page_other}
 
 -- what holds of each page holds of the list, and back
@@ -48,14 +32,6 @@ scn_page_there size (suc k) is =
     let p : ℕ = suc k * entries_in size in
     let more : entries_in size ≤ p = omega arith in
     or_right (p == 2) (nat_lt 0 p && p % entries_in size == 0) (and_from (nat_lt 0 p) (p % entries_in size == 0) (lt-ltb 0 p (omega arith)) (eq-eqb (p % entries_in size) 0 (mul-mod_left (suc k) (entries_in size))))
-
--- it is page 2 or stands after
-pub scn_place_some : (size k : ℕ) → IsTrue (is_page_size size) → 2 ≤ scn_place size k
-scn_place_some size zero is = omega arith
-scn_place_some size (suc k) is =
-    let least = entries-least size is in
-    let more : entries_in size ≤ suc k * entries_in size = omega arith in
-    omega arith
 
 -- no inventory page is page 0, and no SCN page is
 pub inventory_place_some : (size k : ℕ) → IsTrue (is_page_size size) → 1 ≤ inventory_place size k

@@ -1,15 +1,6 @@
 -- What keeps an image sound: pages that fit, the control strokes of a backup, and its start and its end.
-use Rattle.std.proofs.Common.{◌≡◌, ℕ, ◌+◌, ◌<◌, ◌≤◌, List, [], ◌∷◌, length, refl, sym, ap, subst, ◌∙◌, arith}
-use Rattle.std.specs.Prelude.{Option, Some}
-use Rattle.nb_fields.specs.States.{stalled_state}
-use Rattle.nb_model.specs.Account.{Ask, Base}
-use Rattle.nb_model.specs.Backups.{room_in, close_backup}
-use Rattle.nb_model.specs.Chains.{backup_slot}
-use Rattle.nb_model.specs.Image.{Page, Image, image_size, image_state, image_scn, image_guid}
-use Rattle.nb_model.specs.Outcomes.{Backing, Seen, next_guid, next_time}
-use Rattle.nb_model.specs.Run.{Now, base_now}
-use Rattle.nb_model.specs.Sound.{HasHeader, IsSoundImage}
-use Rattle.nb_model.specs.Strokes.{Stroke, begin, ends, finish, on_base, base_after, with_control}
+use Rattle.std.proofs.Common.{◌≡◌, ℕ, ◌+◌, ◌<◌, ◌≤◌, List, [], ◌∷◌, length, refl, sym, ap, subst, ◌∙◌, arith, Option, Some}
+use Rattle.nb_model.proofs.Common.{stalled_state, Ask, Base, room_in, close_backup, backup_slot, Page, Image, image_size, image_state, image_scn, image_guid, Backing, Seen, next_guid, next_time, Now, base_now, HasHeader, IsSoundImage, Stroke, begin, ends, finish, on_base, base_after, with_control}
 use Rattle.nb_model.proofs.ControlMay.{may_begin, may_end, may_finish}
 use Rattle.nb_model.proofs.ControlSound.{MayControl, control_sound, control_long, new_size, new_scn, new_state, new_header}
 use Rattle.nb_model.proofs.FitLaws.{IsWhole, AreFitting, Stays, whole_after, all_keep, fitting_stays}

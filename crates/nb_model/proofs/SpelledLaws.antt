@@ -1,19 +1,10 @@
 -- What is read as a level file is spelled by the grammar.
-use Rattle.std.proofs.Common.{◌≡◌, ◌≢◌, inl, inr, ℕ, zero, suc, ◌+◌, ◌*◌, ◌/◌, ◌%◌, ◌<◌, ◌≤◌, List, [], ◌∷◌, ◌++◌, length, get_or, take, drop, refl, sym, ap, subst, ◌∙◌, arith, length-append, length-drop, append_assoc}
-use Rattle.std.specs.Prelude.{Bool, true, false, ◌&&◌, ◌||◌, ◌==◌, nat_lt, nat_le, Option, Some, None, Result, Ok, Err}
-use Rattle.std.specs.List.{AllByRecursion}
-use Rattle.std.specs.Cmp.Lexicographic.{told_text}
-use Rattle.std.proofs.lemmas.Bool.{eqb-true, or_parts}
-use Rattle.std.proofs.lemmas.Bool.Decides.{leb_tells}
-use Rattle.std.proofs.lemmas.List.{append-nil, drop-drop, length-take-le, take-append-drop, drop_all}
-use Rattle.nb_fields.specs.Bytes.{number_of, bytes_of, number_in, part}
-use Rattle.nb_fields.specs.Places.{is_page_size, most_pages}
-use Rattle.nb_model.specs.Image.{Page, Numbered}
-use Rattle.nb_model.specs.Levels.{Head, IsLevel, Contents, Stretch, AreRising, AreOfSize, first_fault, behind, head_then, head_in, begins_level, level_signature, level_bytes, body_bytes, single_bytes, run_bytes, runs_of, runs_behind, joined, numbered_from, end_bytes, end_mark, read_level, read_pages, read_end, read_singles, read_runs, pages_in, barred_after, with_head, is_bad_number, is_first_page}
+use Rattle.std.proofs.Common.{◌≡◌, ◌≢◌, inl, inr, ℕ, zero, suc, ◌+◌, ◌*◌, ◌/◌, ◌%◌, ◌<◌, ◌≤◌, List, [], ◌∷◌, ◌++◌, length, get_or, take, drop, refl, sym, ap, subst, ◌∙◌, arith, length-append, append_assoc, Bool, true, false, ◌&&◌, ◌||◌, ◌==◌, nat_lt, nat_le, Option, Some, None, Result, Ok, Err}
+use Rattle.nb_model.proofs.Common.{AllByRecursion, told_text, eqb-true, or_parts, leb_tells, append-nil, drop-drop, take-append-drop, drop_all, number_of, bytes_of, number_in, part, is_page_size, most_pages, Page, Numbered, Head, IsLevel, Contents, Stretch, AreRising, AreOfSize, first_fault, behind, head_then, head_in, begins_level, level_signature, level_bytes, body_bytes, single_bytes, run_bytes, runs_of, runs_behind, joined, numbered_from, end_bytes, end_mark, read_level, read_pages, read_end, read_singles, read_runs, pages_in, barred_after, with_head, is_bad_number, is_first_page, length-part, lt_holds, not_false, err_not_ok, err_ok, ok_same}
 use Rattle.nb_model.proofs.GatherLaws.{AreRuns, joins, total, pages_of_runs, run_front, run_none}
 use Rattle.nb_model.proofs.ImageLaws.{Pages, pages_of}
 use Rattle.nb_model.proofs.LevelLaws.{head_tests, single_front, single_none}
-use Rattle.nb_model.proofs.LevelWalk.{FirstIsZero, none_clear, not_long, long_yes, not_same, not_not, zero_tells, good, ok_is, no_pages, singles_are, runs_are}
+use Rattle.nb_model.proofs.LevelWalk.{FirstIsZero, none_clear, not_long, not_same, zero_tells, good, singles_are, runs_are}
 use Rattle.nb_model.proofs.ReadLaws.{AreClear, IsRun, single_tests, run_tests, end_tests, first_joined, joined_read}
 
 -- each is a byte
@@ -57,9 +48,6 @@ number_low (a ∷ b ∷ []) long are = absurd (omega arith)
 number_low (a ∷ b ∷ c ∷ []) long are = absurd (omega arith)
 number_low (a ∷ b ∷ c ∷ d ∷ e ∷ xs) long are = absurd (omega arith)
 
-part_long : (at w : ℕ) (xs : List ℕ) → at + w ≤ length xs → length (part at w xs) ≡ w
-part_long at w xs low = length-take-le w (drop at xs) (omega (arith, length-drop at xs, low))
-
 -- a piece from a place on, and a number there
 piece : (at w n : ℕ) (xs : List ℕ) → at + w ≡ n → drop at xs ≡ part at w xs ++ drop n xs
 piece at w n xs is = sym (take-append-drop w (drop at xs)) ∙ ap (λ (l : List ℕ). part at w xs ++ l) (drop-drop w at xs ∙ ap (λ k. drop k xs) (let e : at + w ≡ n = omega (arith, is) in e))
@@ -67,7 +55,7 @@ piece at w n xs is = sym (take-append-drop w (drop at xs)) ∙ ap (λ (l : List 
 field : (at w n : ℕ) (xs : List ℕ) → AreBytes xs → at + w ≡ n → n ≤ length xs → drop at xs ≡ bytes_of w (number_in at w xs) ++ drop n xs
 unfolding number_in
 field at w n xs are is low =
-    piece at w n xs is ∙ ap (λ (l : List ℕ). l ++ drop n xs) (sym (respelled w (part at w xs) (part_long at w xs (omega (arith, is, low))) (bytes_front w (drop at xs) (bytes_behind at xs are))))
+    piece at w n xs is ∙ ap (λ (l : List ℕ). l ++ drop n xs) (sym (respelled w (part at w xs) (length-part at w xs (omega (arith, is, low))) (bytes_front w (drop at xs) (bytes_behind at xs are))))
 
 -- the end
 record IsEnd (count : ℕ) (rest : List ℕ) (rs : List Numbered) : Type 0 where
@@ -80,16 +68,16 @@ unfolding read_end end_bytes
 end_is at count rest rs are mark e = by (first_fault (end_tests at count rest)) refl e
   where
     by : (x : Option ℕ) → first_fault (end_tests at count rest) ≡ x → elim x as (λ z. Result (List Numbered) ℕ) [ Some place ↦ Err place | None ↦ Ok [] ] ≡ Ok rs → IsEnd count rest rs
-    by (Some place) is f = absurd (no_pages (Err place) place rs refl f)
+    by (Some place) is f = absurd (err_not_ok place rs (Err place) refl f)
     by None is f =
         let clear = none_clear (end_tests at count rest) is in
         let long : 8 ≤ length rest = not_long (length rest) 8 clear.1.0 in
         let short : length rest ≤ 8 = not_long 8 (length rest) clear.1.1.1.0 in
-        let same : number_in 4 4 rest ≡ count = eqb-true (number_in 4 4 rest) count (not_not (number_in 4 4 rest == count) clear.1.1.0) in
+        let same : number_in 4 4 rest ≡ count = eqb-true (number_in 4 4 rest) count (not_false (number_in 4 4 rest == count) clear.1.1.0) in
         let nothing : drop 8 rest ≡ [] = drop_all 8 rest short in
         record {
           some = not_same count 0 clear.0;
-          none = sym (ok_is (Ok []) [] rs refl f);
+          none = sym (ok_same {X = List Numbered} {E = ℕ} [] rs (Ok []) refl f);
           spelled = field 0 4 4 rest are refl (omega arith) ∙ ap (λ (l : List ℕ). bytes_of 4 (number_in 0 4 rest) ++ l) (field 4 4 8 rest are refl long ∙ ap (λ (l : List ℕ). bytes_of 4 (number_in 4 4 rest) ++ l) nothing ∙ append-nil (bytes_of 4 (number_in 4 4 rest)))
               ∙ ap (λ n. bytes_of 4 n ++ bytes_of 4 (number_in 4 4 rest)) mark ∙ ap (λ n. bytes_of 4 end_mark ++ bytes_of 4 n) same;
         }
@@ -130,7 +118,7 @@ module _ (h : Head) where
         spelled = field 0 4 4 rest are refl (omega (arith, long)) ∙ ap (λ (l : List ℕ). bytes_of 4 n ++ l) (piece 4 h.size (4 + h.size) rest refl ∙ ap (λ (l : List ℕ). page ++ l) (next.spelled ∙ ap (λ k. single_bytes more ++ end_bytes k) (let e : (count + 1) + length more ≡ count + length all = omega arith in e)))
             ∙ sym (single_front (n, page) more (end_bytes (count + length all)));
         rising = (number.low, number.small, next.rising);
-        sizes = (part_long 4 h.size rest long, next.sizes);
+        sizes = (length-part 4 h.size rest long, next.sizes);
         first = λ none. (number.begins none, zero_tells n (is_first_page h page) clear.1.1.0 (number.begins none));
       }
 
@@ -176,7 +164,7 @@ module _ (h : Head) where
       let some : m ≢ 0 = not_same m 0 counts.0 in
       let long : far ≤ length rest = not_long (length rest) far clear.1.1.1.1.1.0 in
       let body : List ℕ = part 8 (m * h.size) rest in
-      let cut : Pages h.size body m = pages_of h.size m body (part_long 8 (m * h.size) rest long) in
+      let cut : Pages h.size body m = pages_of h.size m body (length-part 8 (m * h.size) rest long) in
       let split : drop 8 rest ≡ joined cut.pages ++ drop far rest = piece 8 (m * h.size) far rest refl ∙ ap (λ (l : List ℕ). l ++ drop far rest) cut.is in
       let next : AreSpelled h (count + m) (n + m) (barred_after n m) (drop far rest) more = behind (bytes_behind far rest are) in
       let s : Stretch = record { first = n; pages = cut.pages } in
@@ -259,7 +247,7 @@ numbered_rise n [] rs low rise = subst (λ k. AreRising k rs) (let e : n + 0 ≡
 numbered_rise n (p ∷ ps) rs low rise =
     (omega arith, omega (arith, low), numbered_rise (n + 1) ps rs (omega (arith, low)) (subst (λ k. AreRising k rs) (let e : n + suc (length ps) ≡ (n + 1) + length ps = omega arith in e) rise))
 
-rise_lower : (few many : ℕ) (rs : List Numbered) → few ≤ many → AreRising many rs → AreRising few rs
+pub rise_lower : (few many : ℕ) (rs : List Numbered) → few ≤ many → AreRising many rs → AreRising few rs
 rise_lower few many [] low rise = tt
 rise_lower few many (r ∷ rs) low rise = (omega (arith, low, rise.0), rise.1, rise.2)
 
@@ -387,7 +375,7 @@ pages_are version h bytes all are known e = by (version == 101) refl e
 
 scn_low : (bytes : List ℕ) → AreBytes bytes → 52 ≤ length bytes → number_in 44 4 bytes < 4294967296
 unfolding number_in
-scn_low bytes are long = number_low (part 44 4 bytes) (part_long 44 4 bytes (omega (arith, long))) (bytes_front 4 (drop 44 bytes) (bytes_behind 44 bytes are))
+scn_low bytes are long = number_low (part 44 4 bytes) (length-part 44 4 bytes (omega (arith, long))) (bytes_front 4 (drop 44 bytes) (bytes_behind 44 bytes are))
 
 -- in the grammar the bytes are a level file of these pages, of which there is one at least
 abbrev pub Spell : (bytes : List ℕ) (version : ℕ) → Head → List Numbered → Type 0
@@ -404,26 +392,23 @@ level_spelled bytes c are e = by (first_fault (head_tests bytes version h)) refl
     h : Head
     h = head_in bytes
 
-    none_is : (x : Result Contents ℕ) (at : ℕ) → x ≡ Err at → x ≡ Ok c → ⊥
-    none_is x at f g = cc
-
     of_pages : AreClear (head_tests bytes version h) → (pages : Result (List Numbered) ℕ) → read_pages version h bytes ≡ pages → with_head version h pages ≡ Ok c → Spell bytes c.version c.head c.pages
-    of_pages clear (Err at) is f = absurd (none_is (Err at) at refl f)
+    of_pages clear (Err at) is f = absurd (err_ok at c f)
     of_pages clear (Ok all) is f =
         let same : record { version = version; head = h; pages = all } ≡ c = cc in
-        let known : (version == 101 || version == 102) ≡ true = not_not (version == 101 || version == 102) clear.1.1.0 in
+        let known : (version == 101 || version == 102) ≡ true = not_false (version == 101 || version == 102) clear.1.1.0 in
         let long : 52 ≤ length bytes = not_long (length bytes) 52 clear.1.0 in
         let has : HasBody version h (drop 52 bytes) all = pages_are version h bytes all are known is in
         let level : IsLevel bytes version h has.r has.rs = record {
-          spelled = head_spelled bytes are (not_not (begins_level bytes) clear.0) long ∙ ap (head_then version h) has.body.spelled;
+          spelled = head_spelled bytes are (not_false (begins_level bytes) clear.0) long ∙ ap (head_then version h) has.body.spelled;
           known = known;
           head = record {
-            level = not_not (nat_le 1 h.level && nat_le h.level 9) clear.1.1.1.0;
-            guid = part_long 8 16 bytes (omega (arith, long));
-            previous = part_long 24 16 bytes (omega (arith, long));
-            size = not_not (is_page_size h.size) clear.1.1.1.1.0;
+            level = not_false (nat_le 1 h.level && nat_le h.level 9) clear.1.1.1.0;
+            guid = length-part 8 16 bytes (omega (arith, long));
+            previous = length-part 24 16 bytes (omega (arith, long));
+            size = not_false (is_page_size h.size) clear.1.1.1.1.0;
             scn = scn_low bytes are long;
-            later = long_yes h.previous_scn h.scn (not_not (nat_lt h.previous_scn h.scn) clear.1.1.1.1.1.0);
+            later = lt_holds h.previous_scn h.scn (not_false (nat_lt h.previous_scn h.scn) clear.1.1.1.1.1.0);
           };
           first = has.body.first.0;
           header = has.body.first.1;
@@ -433,7 +418,7 @@ level_spelled bytes c are e = by (first_fault (head_tests bytes version h)) refl
         subst (λ (x : Contents). Spell bytes x.version x.head x.pages) same (subst (λ (l : List Numbered). Spell bytes version h l) (sym has.is) level)
 
     by : (x : Option ℕ) → first_fault (head_tests bytes version h) ≡ x → elim x as (λ z. Result Contents ℕ) [ Some place ↦ Err place | None ↦ with_head version h (read_pages version h bytes) ] ≡ Ok c → Spell bytes c.version c.head c.pages
-    by (Some place) is f = absurd (none_is (Err place) place refl f)
+    by (Some place) is f = absurd (err_ok place c f)
     by None is f = of_pages (none_clear (head_tests bytes version h) is) (read_pages version h bytes) refl f
 
 pub pages_some : (bytes : List ℕ) (version : ℕ) (h : Head) (rs : List Numbered) → Spell bytes version h rs → 1 ≤ length rs

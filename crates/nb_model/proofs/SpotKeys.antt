@@ -1,11 +1,7 @@
 -- No key stands twice in the used slots where one slot is written.
-use Rattle.std.proofs.Common.{◌≡◌, ◌≢◌, ◌⊎◌, inl, inr, ℕ, List, [], ◌∷◌, map, refl, sym, ap, subst, ◌∙◌}
-use Rattle.std.specs.Prelude.{Bool, true, false, ◌==◌, Some}
-use Rattle.std.specs.List.{AllByRecursion}
-use Rattle.std.proofs.lemmas.Bool.{true≢false, and_parts, and_from, eq-eqb, eqb-true}
-use Rattle.nb_model.specs.Chains.{Spot, is_used, key_of, first_such, row_spot}
-use Rattle.nb_model.specs.Rows.{used, keys_of, AreDistinct}
-use Rattle.nb_model.proofs.SpotMaps.{ChangesOne, has_key, first_true, first_false, same_some}
+use Rattle.std.proofs.Common.{◌≡◌, ◌≢◌, ◌⊎◌, inl, inr, ℕ, List, [], ◌∷◌, map, refl, sym, ap, subst, ◌∙◌, Bool, true, false, ◌==◌, Some}
+use Rattle.nb_model.proofs.Common.{AllByRecursion, true≢false, and_parts, and_from, eq-eqb, eqb-true, Spot, is_used, key_of, first_such, row_spot, used, keys_of, AreDistinct, some_same}
+use Rattle.nb_model.proofs.SpotMaps.{ChangesOne, has_key, first_true, first_false}
 
 -- the keys of the rows
 abbrev pub keys_in : List Spot → List ℕ
@@ -74,7 +70,7 @@ once_key key (x ∷ xs) s distinct found = by (λ d h. once_key key xs s d h) (h
         let parts = and_parts (is_used x.bytes) (key_of x.bytes == key) is in
         let same : key_of x.bytes ≡ key = eqb-true (key_of x.bytes) key parts.1 in
         let all : Absent (key_of x.bytes) (keys_in xs) = (subst AreDistinct (keys_used x xs parts.0) distinct).0 in
-        ((λ e. same_some x s (sym (first_true (has_key key) x xs is) ∙ found)), never xs (absent_rows key xs (subst (λ (k : ℕ). Absent k (keys_in xs)) same all)))
+        ((λ e. some_same x s (sym (first_true (has_key key) x xs is) ∙ found)), never xs (absent_rows key xs (subst (λ (k : ℕ). Absent k (keys_in xs)) same all)))
 
 module _ (f : Spot → Spot) (s : Spot) where
   -- A slot keeps its key.

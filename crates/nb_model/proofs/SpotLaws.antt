@@ -1,12 +1,7 @@
 -- The slots of pages: each stands on one of the pages, within it, and holds the bytes that stand there.
-use Rattle.std.proofs.Common.{◌≡◌, ℕ, zero, suc, ◌+◌, ◌-◌, ◌*◌, ◌/◌, ◌<◌, ◌≤◌, List, [], ◌∷◌, length, refl, ap, arith}
-use Rattle.std.specs.Prelude.{Some}
-use Rattle.std.specs.List.{AllByRecursion}
-use Rattle.std.proofs.Math.Nat.{div-mul-le_self}
-use Rattle.nb_fields.specs.Bytes.{part}
-use Rattle.nb_model.specs.Chains.{Spot, slots_from, slots_in, spots_on, spots_of, free_spot}
-use Rattle.nb_model.specs.Image.{Page, Image, page_at, image_size}
-use Rattle.nb_model.proofs.RoomLaws.{first_passes, spots_append}
+use Rattle.std.proofs.Common.{◌≡◌, ℕ, zero, suc, ◌+◌, ◌-◌, ◌*◌, ◌/◌, ◌<◌, ◌≤◌, List, [], ◌∷◌, length, refl, ap, arith, Some}
+use Rattle.nb_model.proofs.Common.{AllByRecursion, div-mul-le_self, part, Spot, slots_from, slots_in, spots_on, spots_of, free_spot, Page, Image, page_at, image_size, all_append}
+use Rattle.nb_model.proofs.RoomLaws.{first_passes}
 
 -- how many slots a page has
 abbrev pub slot_count : Page → ℕ
@@ -37,7 +32,7 @@ module _ (P : ℕ → Type 0) (image : Image) where
   all_on [] all = tt
   all_on (p ∷ ps) all =
       let count : ℕ = slot_count (page_at image p) in
-      spots_append (IsSpotOn P image) (spots_on p 0 (slots_from count 32 (page_at image p))) (spots_of image ps) (spots_from p count count 0 32 all.0 refl (omega arith) (omega arith)) (all_on ps all.1)
+      all_append (IsSpotOn P image) (spots_on p 0 (slots_from count 32 (page_at image p))) (spots_of image ps) (spots_from p count count 0 32 all.0 refl (omega arith) (omega arith)) (all_on ps all.1)
 
   -- and of the free one that is found
   pub free_on : (ps : List ℕ) (s : Spot) → AllByRecursion P ps → free_spot (spots_of image ps) ≡ Some s → IsSpotOn P image s

@@ -1,21 +1,7 @@
 -- One slot among the slots of a chain is written: which rows there are then, and that no key stands twice.
-use Rattle.std.proofs.Common.{◌≡◌, ◌≢◌, ◌⊎◌, inl, inr, ℕ, List, [], ◌∷◌, map, refl, sym, ap, subst, ◌∙◌, arith}
-use Rattle.std.specs.Prelude.{Bool, true, false, ◌&&◌, ◌==◌, nat_eq, slice_index, Option, Some, None, option_map}
-use Rattle.std.specs.List.{AllByRecursion}
-use Rattle.std.proofs.lemmas.Bool.{true≢false, and_parts, and_left, and_right, eqb-true, ne_eqb}
-use Rattle.std.proofs.lemmas.Bool.Decides.{eqb_tells}
-use Rattle.nb_model.specs.Chains.{Spot, is_used, key_of, text_in, first_such, free_spot, row_spot}
-use Rattle.nb_model.specs.Rows.{with_row, without_row, row_at, rows_in}
+use Rattle.std.proofs.Common.{◌≡◌, ◌≢◌, ◌⊎◌, inl, inr, ℕ, List, [], ◌∷◌, map, refl, sym, ap, subst, ◌∙◌, arith, Bool, true, false, ◌&&◌, ◌==◌, nat_eq, slice_index, Option, Some, None, option_map}
+use Rattle.nb_model.proofs.Common.{AllByRecursion, true≢false, and_parts, and_left, and_right, eqb-true, ne_eqb, eqb_tells, Spot, is_used, key_of, text_in, first_such, free_spot, row_spot, with_row, without_row, row_at, rows_in, some_same, some_none, all_go, all_both}
 use Rattle.nb_model.proofs.RowMaps.{with_rising, without_rising, rows_rise, with_here, with_there, without_here, without_there, same_maps, rows_at}
-
--- what holds of each
-pub all_spots : (P R : Spot → Type 0) (xs : List Spot) → ((s : Spot) → P s → R s) → AllByRecursion P xs → AllByRecursion R xs
-all_spots P R [] goes all = tt
-all_spots P R (x ∷ xs) goes all = (goes x all.0, all_spots P R xs goes all.1)
-
-pub both_spots : (P R : Spot → Type 0) (xs : List Spot) → AllByRecursion P xs → AllByRecursion R xs → AllByRecursion (λ s. P s × R s) xs
-both_spots P R [] a b = tt
-both_spots P R (x ∷ xs) a b = ((a.0, b.0), both_spots P R xs a.1 b.1)
 
 -- The first that passes a test.
 abbrev picked : Bool → Spot → Option Spot → Option Spot
@@ -30,12 +16,6 @@ first_true test x xs e = first_is test x xs ∙ ap (λ (t : Bool). picked t x (f
 
 pub first_false : (test : Spot → Bool) (x : Spot) (xs : List Spot) → test x ≡ false → first_such test (x ∷ xs) ≡ first_such test xs
 first_false test x xs e = first_is test x xs ∙ ap (λ (t : Bool). picked t x (first_such test xs)) e
-
-some_none : (s : Spot) → Some s ≡ None → ⊥
-some_none s e = cc
-
-pub same_some : (x y : Spot) → Some x ≡ Some y → x ≡ y
-same_some x y e = cc
 
 -- none passes
 pub none_such : (test : Spot → Bool) (xs : List Spot) → first_such test xs ≡ None → AllByRecursion (λ u. test u ≡ false) xs
@@ -58,7 +38,7 @@ such_passes test [] s e = cc
 such_passes test (x ∷ xs) s e = by (λ h. such_passes test xs s h) (test x) refl
   where
     by : (first_such test xs ≡ Some s → test s ≡ true) → (t : Bool) → test x ≡ t → test s ≡ true
-    by rest true is = subst (λ (z : Spot). test z ≡ true) (same_some x s (sym (first_true test x xs is) ∙ e)) is
+    by rest true is = subst (λ (z : Spot). test z ≡ true) (some_same x s (sym (first_true test x xs is) ∙ e)) is
     by rest false is = rest (sym (first_false test x xs is) ∙ e)
 
 -- A slot s is changed by f, and the others stay.
@@ -82,7 +62,7 @@ module _ (f : Spot → Spot) (s : Spot) where
   now_found test other (x ∷ xs) e all new = by (λ h. now_found test other xs h all.1 new) (other x) refl
     where
       by : (first_such other xs ≡ Some s → first_such test (map f xs) ≡ Some (f s)) → (t : Bool) → other x ≡ t → first_such test (f x ∷ map f xs) ≡ Some (f s)
-      by rest true is = let same : x ≡ s = same_some x s (sym (first_true other x xs is) ∙ e) in first_true test (f x) (map f xs) (ap (λ (u : Spot). test (f u)) same ∙ new) ∙ ap (λ (u : Spot). Some (f u)) same
+      by rest true is = let same : x ≡ s = some_same x s (sym (first_true other x xs is) ∙ e) in first_true test (f x) (map f xs) (ap (λ (u : Spot). test (f u)) same ∙ new) ∙ ap (λ (u : Spot). Some (f u)) same
       by rest false is = first_false test (f x) (map f xs) (all.0 is) ∙ rest (sym (first_false other x xs is) ∙ e)
 
   pub none_found : (test : Spot → Bool) (xs : List Spot) → AllByRecursion (λ u. test (f u) ≡ false) xs → first_such test (map f xs) ≡ None
@@ -126,8 +106,8 @@ module _ (f : Spot → Spot) (s : Spot) (key : ℕ) (xs : List Spot) (all : AllB
     ]
       where
         passes : AllByRecursion (λ u. other u ≡ false → has_key key (f u) ≡ false) xs
-        passes = all_spots (λ u. ChangesOne f s u × (other u ≡ false → has_key key u ≡ false)) (λ u. other u ≡ false → has_key key (f u) ≡ false) xs
-            (λ u facts fails. by_change u facts.0 fails (facts.1 fails)) (both_spots (ChangesOne f s) (λ u. other u ≡ false → has_key key u ≡ false) xs all before)
+        passes = all_go {X = Spot} (λ u. ChangesOne f s u × (other u ≡ false → has_key key u ≡ false)) (λ u. other u ≡ false → has_key key (f u) ≡ false) xs
+            (λ u facts fails. by_change u facts.0 fails (facts.1 fails)) (all_both {X = Spot} (ChangesOne f s) (λ u. other u ≡ false → has_key key u ≡ false) xs all before)
           where
             by_change : (u : Spot) → ChangesOne f s u → other u ≡ false → has_key key u ≡ false → has_key key (f u) ≡ false
             by_change u (inl same) fails none = ap (has_key key) same ∙ none
@@ -147,7 +127,7 @@ module _ (f : Spot → Spot) (s : Spot) (key : ℕ) (xs : List Spot) (all : AllB
 
     pub inserted_rows : free_spot xs ≡ Some s → row_spot key xs ≡ None → rows_in (map f xs) ≡ with_row key (text_in (f s).bytes) (rows_in xs)
     unfolding free_spot row_spot
-    inserted_rows found none = written_rows is_free_slot found (all_spots (λ u. has_key key u ≡ false) (λ u. is_free_slot u ≡ false → has_key key u ≡ false) xs (λ u e used. e) (none_such (has_key key) xs none))
+    inserted_rows found none = written_rows is_free_slot found (all_go {X = Spot} (λ u. has_key key u ≡ false) (λ u. is_free_slot u ≡ false → has_key key u ≡ false) xs (λ u e used. e) (none_such (has_key key) xs none))
         (λ k ne. unused_key k s (free_unused s (such_passes is_free_slot xs s found)))
 
   -- A row is taken out of the slot, where no other has its key.
@@ -167,7 +147,7 @@ module _ (f : Spot → Spot) (s : Spot) (key : ℕ) (xs : List Spot) (all : AllB
       each k = elim (eqb_tells k key) [
         | inl w ↦
             ap (λ (n : ℕ). row_at n (rows_in (map f xs))) w.1 ∙ rows_at key (map f xs)
-            ∙ ap (option_map (λ (u : Spot). text_in u.bytes)) (none_found f s (has_key key) xs (all_spots (λ u. ChangesOne f s u × (has_key key u ≡ true → u ≡ s)) (λ u. has_key key (f u) ≡ false) xs (λ u facts. gone u facts.0 facts.1) (both_spots (ChangesOne f s) (λ u. has_key key u ≡ true → u ≡ s) xs all once)))
+            ∙ ap (option_map (λ (u : Spot). text_in u.bytes)) (none_found f s (has_key key) xs (all_go {X = Spot} (λ u. ChangesOne f s u × (has_key key u ≡ true → u ≡ s)) (λ u. has_key key (f u) ≡ false) xs (λ u facts. gone u facts.0 facts.1) (all_both {X = Spot} (ChangesOne f s) (λ u. has_key key u ≡ true → u ≡ s) xs all once)))
             ∙ sym (without_here key (rows_in xs)) ∙ ap (λ (n : ℕ). row_at n (without_row key (rows_in xs))) (sym w.1)
         | inr w ↦
             rows_at k (map f xs)

@@ -1,11 +1,6 @@
 -- Slots are added after those of a chain, the first with a row of a new key and the others without.
-use Rattle.std.proofs.Common.{◌≡◌, ◌≢◌, inl, inr, ℕ, List, [], ◌∷◌, ◌++◌, refl, sym, ap, subst, ◌∙◌}
-use Rattle.std.specs.Prelude.{Bool, true, false, Option, Some, None, option_map}
-use Rattle.std.specs.List.{AllByRecursion}
-use Rattle.std.proofs.lemmas.Bool.{true≢false, and_parts, and_from, eq-eqb, eqb-true}
-use Rattle.std.proofs.lemmas.Bool.Decides.{eqb_tells}
-use Rattle.nb_model.specs.Chains.{Spot, is_used, key_of, text_in, first_such, row_spot}
-use Rattle.nb_model.specs.Rows.{with_row, row_at, rows_in, AreDistinct}
+use Rattle.std.proofs.Common.{◌≡◌, ◌≢◌, inl, inr, ℕ, List, [], ◌∷◌, ◌++◌, refl, sym, ap, subst, ◌∙◌, Bool, true, false, Option, Some, None, option_map}
+use Rattle.nb_model.proofs.Common.{AllByRecursion, true≢false, and_parts, and_from, eq-eqb, eqb-true, eqb_tells, Spot, is_used, key_of, text_in, first_such, row_spot, with_row, row_at, rows_in, AreDistinct}
 use Rattle.nb_model.proofs.RowMaps.{with_rising, rows_rise, with_here, with_there, same_maps, rows_at}
 use Rattle.nb_model.proofs.SpotKeys.{keys_in, absent_rows, rows_absent, keys_used, keys_unused, keys_none}
 use Rattle.nb_model.proofs.SpotMaps.{has_key, first_true, first_false, none_such, no_such, other_key, unused_key}

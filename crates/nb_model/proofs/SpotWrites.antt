@@ -1,18 +1,10 @@
 -- A slot is written on a page: its other slots stay, and so do those of all other pages.
-use Rattle.std.proofs.Common.{◌≡◌, ◌≢◌, ◌⊎◌, inl, inr, ℕ, zero, suc, ◌+◌, ◌-◌, ◌*◌, ◌/◌, ◌<◌, List, [], ◌∷◌, ◌++◌, map, refl, sym, ap, subst, ◌∙◌, arith}
-use Rattle.std.specs.Prelude.{Bool, true, false, ◌&&◌, ◌==◌}
-use Rattle.std.specs.List.{AllByRecursion}
-use Rattle.std.proofs.lemmas.Bool.{and_left, and_right, and_from, eq-eqb, ne_eqb}
-use Rattle.std.proofs.lemmas.Bool.Decides.{eqb_tells}
-use Rattle.std.proofs.lemmas.List.{map-append}
-use Rattle.nb_fields.specs.Bytes.{part}
-use Rattle.nb_model.specs.Chains.{Slot, Spot, slots_from, slots_in, spots_on, spots_of}
-use Rattle.nb_model.specs.Image.{Page, Image, page_at}
-use Rattle.nb_model.specs.Rows.{AreDistinct}
+use Rattle.std.proofs.Common.{◌≡◌, ◌≢◌, ◌⊎◌, inl, inr, ℕ, zero, suc, ◌+◌, ◌-◌, ◌*◌, ◌/◌, ◌<◌, List, [], ◌∷◌, ◌++◌, map, refl, sym, ap, subst, ◌∙◌, arith, Bool, true, false, ◌&&◌, ◌==◌}
+use Rattle.nb_model.proofs.Common.{AllByRecursion, and_left, and_right, and_from, eq-eqb, ne_eqb, eqb_tells, map-append, part, Slot, Spot, slots_from, slots_in, spots_on, spots_of, Page, Image, page_at, AreDistinct, all_go}
 use Rattle.nb_model.proofs.SlotLaws.{IsSlotWritten}
 use Rattle.nb_model.proofs.SpotKeys.{ChangesOnce}
 use Rattle.nb_model.proofs.SpotLaws.{IsSpotOn, slot_count, all_on}
-use Rattle.nb_model.proofs.SpotMaps.{ChangesOne, all_spots}
+use Rattle.nb_model.proofs.SpotMaps.{ChangesOne}
 
 -- the slot at that place with these bytes, and another as it is
 abbrev pub put_at : (page slot : ℕ) → Slot → Spot → Spot
@@ -94,7 +86,7 @@ module _ (p slot : ℕ) (bytes : Slot) where
             ap (λ (n : ℕ). record { page = n; slot = u.slot; bytes = u.bytes }) a ∙ ap (λ (n : ℕ). record { page = s.page; slot = n; bytes = u.bytes }) b ∙ ap (λ (b : Slot). record { page = s.page; slot = s.slot; bytes = b }) bytes_are
 
     pub all_change : (ps : List ℕ) → AllByRecursion P ps → AllByRecursion (ChangesOne f s) (spots_of x ps)
-    all_change ps each = all_spots (IsSpotOn P x) (ChangesOne f s) (spots_of x ps) one_changes (all_on P x ps each)
+    all_change ps each = all_go {X = Spot} (IsSpotOn P x) (ChangesOne f s) (spots_of x ps) one_changes (all_on P x ps each)
 
   -- No page stands twice: so it is one slot that changes.
   still_page : (q j : ℕ) (ss : List Slot) → q ≢ p → AllByRecursion (λ u. f u ≡ u) (spots_on q j ss)

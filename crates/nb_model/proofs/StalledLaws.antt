@@ -1,19 +1,6 @@
 -- Laws of the stalled state: a page write and a crash keep it that what is diverted is raised.
-use Rattle.std.proofs.Common.{◌≡◌, ◌≢◌, inl, inr, ℕ, zero, suc, ◌+◌, ◌<◌, ◌≤◌, List, length, refl, sym, ap, subst, ◌∙◌, arith}
-use Rattle.std.specs.Prelude.{true, false, ◌==◌, Option, Some, None, max}
-use Rattle.std.proofs.lemmas.Bool.{true≢false}
-use Rattle.std.proofs.lemmas.Bool.Decides.{eqb_tells}
-use Rattle.nb_fields.specs.States.{stalled_state}
-use Rattle.nb_model.specs.Image.{Page, Image, page_at, first_page, image_size, image_state, image_scn, with_page}
-use Rattle.nb_model.specs.Account.{Base}
-use Rattle.nb_model.specs.Strokes.{page, merged_page, noted, on_base}
-use Rattle.nb_model.specs.Forms.{scn_page_of, scn_entry, has_entry}
-use Rattle.nb_model.specs.Owner.{entry_for}
-use Rattle.nb_model.specs.Stands.{HasOldEntries}
-use Rattle.nb_model.specs.Well.{IsStalled}
-use Rattle.nb_model.specs.Trail.{Trail, bases_of, IsLeft}
-use Rattle.nb_model.specs.Earlier.{AreInStep}
-use Rattle.nb_model.specs.WellTrail.{IsOverFrozen}
+use Rattle.std.proofs.Common.{◌≡◌, ◌≢◌, inl, inr, ℕ, zero, suc, ◌+◌, ◌<◌, ◌≤◌, List, length, refl, sym, ap, subst, ◌∙◌, arith, true, false, ◌==◌, Option, Some, None, max}
+use Rattle.nb_model.proofs.Common.{true≢false, eqb_tells, stalled_state, Page, Image, page_at, first_page, image_size, image_state, image_scn, with_page, Base, page, merged_page, noted, on_base, scn_page_of, scn_entry, has_entry, entry_for, HasOldEntries, IsStalled, Trail, bases_of, IsLeft, AreInStep, IsOverFrozen}
 use Rattle.nb_model.proofs.FitLaws.{IsWhole}
 use Rattle.nb_model.proofs.HeaderLaws.{same-number}
 use Rattle.nb_model.proofs.EntryLaws.{for_below, noted_front, noted_last, noted_none}

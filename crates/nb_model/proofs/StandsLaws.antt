@@ -1,33 +1,8 @@
 -- The files go on to stand for the account where the file of one name changes.
-use Rattle.std.proofs.Common.{◌≡◌, ◌≢◌, ◌⊎◌, inl, inr, ℕ, ◌-◌, List, [], ◌∷◌, ◌++◌, length, take, drop, refl, sym, ap, subst, ◌∙◌, arith, length-append}
-use Rattle.std.specs.Prelude.{Bool, true, false, ◌==◌, Option, Some, None, Result, Ok, Err, IsTrue, is_some, Contains, nat_eq}
-use Rattle.std.specs.Cmp.Lexicographic.{told_text, pointwise}
-use Rattle.std.proofs.lemmas.Bool.{true≢false, and_parts, eqb-true}
-use Rattle.std.proofs.lemmas.List.{take_at, drop_at}
-use Rattle.nb_fields.specs.Bytes.{number_of, number_in}
-use Rattle.nb_fields.specs.Header.{is_header, state_of, pending_of}
-use Rattle.nb_fields.specs.States.{stalled_state, applying_state}
-use Rattle.nb_host.specs.Files.{File, Files}
-use Rattle.nb_host.specs.Names.{same_name, is_delta, delta_suffix}
-use Rattle.nb_host.specs.declared.refusals.Refusal.{Refusal}
-use Rattle.nb_host.specs.declared.refusals.Refusal.TheVariants.{NotDatabase}
-use Rattle.nb_model.specs.Image.{Image, image_state, image_guid}
-use Rattle.nb_model.specs.Account.{Ask, Base, Kept, Entry, IsBase, Account, with_entry}
-use Rattle.nb_model.specs.Causes.{not_database}
-use Rattle.nb_model.specs.Levels.{Contents, first_fault, begins_level, read_level}
-use Rattle.nb_model.specs.Owner.{delta_name, owner, entry_of_files, entry_in}
-use Rattle.nb_model.specs.Sound.{IsSoundImage}
-use Rattle.nb_model.specs.Stands.{nil, IsKeptAs, GoesOnFrom, Belongs, to_base, to_record, IsRaised, IsSameImage, IsFrozenMain, HasSoundImages, HoldsItsRecord, KeepsRecords, NamesItsPast, FollowsHistory, is_applying, HasNoStrayDelta, IsStopped, HasApplyingStandbys, Stands}
+use Rattle.std.proofs.Common.{◌≡◌, ◌≢◌, ◌⊎◌, inl, inr, ℕ, ◌-◌, List, [], ◌∷◌, ◌++◌, length, take, drop, refl, sym, ap, subst, ◌∙◌, arith, length-append, Bool, true, false, ◌==◌, Some, None, Ok, Err, IsTrue, is_some, Contains, nat_eq}
+use Rattle.nb_model.proofs.Common.{told_text, pointwise, true≢false, and_parts, eqb-true, take_at, drop_at, number_of, number_in, is_header, state_of, pending_of, stalled_state, applying_state, File, Files, same_name, is_delta, delta_suffix, NotDatabase, Image, image_state, image_guid, Ask, Base, Kept, Entry, IsBase, Account, with_entry, not_database, Contents, first_fault, begins_level, read_level, delta_name, owner, entry_of_files, entry_in, IsSoundImage, nil, IsKeptAs, GoesOnFrom, Belongs, to_base, to_record, IsRaised, IsSameImage, IsFrozenMain, HasSoundImages, HoldsItsRecord, KeepsRecords, NamesItsPast, FollowsHistory, is_applying, HasNoStrayDelta, IsStopped, HasApplyingStandbys, Stands, decide, same_self, err_not_ok, none_and_some}
 use Rattle.nb_model.proofs.SoundLaws.{kind_of_header}
-use Rattle.nb_model.proofs.RunLaws.{same_self, entry_same}
-
--- two names are the same or not
-pub names_tell : (m n : List ℕ) → (m ≡ n) ⊎ (m ≢ n)
-names_tell m n = by_test (same_name m n) refl
-  where
-    by_test : (t : Bool) → t ≡ same_name m n → (m ≡ n) ⊎ (m ≢ n)
-    by_test true is = inl (told_text m n true is)
-    by_test false is = inr (told_text m n false is)
+use Rattle.nb_model.proofs.RunLaws.{entry_same}
 
 -- the name of a difference file ends as such
 pub delta_named : (name : List ℕ) → is_delta (delta_name name) ≡ true
@@ -63,12 +38,9 @@ formed_header bytes formed = by_test (is_header bytes) refl
     refused : is_header bytes ≡ false → not_database bytes ≡ Some (NotDatabase 0)
     refused none = rw (none, not_database) refl
 
-    some_none : (x : Option Refusal) → x ≡ Some (NotDatabase 0) → x ≡ None → ⊥
-    some_none x a b = cc
-
     by_test : (t : Bool) → is_header bytes ≡ t → is_header bytes ≡ true
     by_test true is = is
-    by_test false is = absurd (some_none (not_database bytes) (refused is) formed)
+    by_test false is = absurd (none_and_some (not_database bytes) (NotDatabase 0) formed (refused is))
 
 -- and begins no level file
 pub no_level_begins : (bytes : List ℕ) → number_in 0 1 bytes ≡ 1 → begins_level bytes ≡ false
@@ -81,10 +53,7 @@ unfolding read_level first_fault
 not_level bytes e = rw (e, read_level) refl
 
 pub header_no_level : (bytes : List ℕ) (c : Contents) → is_header bytes ≡ true → read_level bytes ≡ Ok c → ⊥
-header_no_level bytes c is reads = ok_err (read_level bytes) reads (not_level bytes (no_level_begins bytes (kind_of_header bytes is)))
-  where
-    ok_err : (x : Result Contents ℕ) → x ≡ Ok c → x ≡ Err 0 → ⊥
-    ok_err x a b = cc
+header_no_level bytes c is reads = err_not_ok {E = ℕ} 0 c (read_level bytes) (not_level bytes (no_level_begins bytes (kind_of_header bytes is))) reads
 
 pub state_of_applying : (bytes : List ℕ) → IsTrue (is_applying bytes) → state_of bytes ≡ applying_state
 state_of_applying bytes is = eqb-true (state_of bytes) 3 (and_parts (is_header bytes) (state_of bytes == applying_state) is).1
@@ -126,7 +95,7 @@ module _ (old new : Files) (account : Account) (name : List ℕ) (entry : Entry)
 
   -- a database of the account is that of the name, or was one before
   whose : (n : List ℕ) (b : Base) → next.entry n ≡ IsBase b → (entry ≡ IsBase b) ⊎ (account.entry n ≡ IsBase b)
-  whose n b e = elim (names_tell n name) [ inl w ↦ inl (sym (here n w) ∙ e) | inr w ↦ inr (sym (elsewhere n w) ∙ e) ]
+  whose n b e = elim (decide n name) [ inl w ↦ inl (sym (here n w) ∙ e) | inr w ↦ inr (sym (elsewhere n w) ∙ e) ]
 
   -- what holds of the image of each database of the name, and of all that belonged before, holds of all that belongs
   belonging : (P : Image → Type 0) → ((b : Base) → entry ≡ IsBase b → P b.image) → ((x : Image) → Belongs account x → P x) → (x : Image) → Belongs next x → P x
@@ -144,7 +113,7 @@ module _ (old new : Files) (account : Account) (name : List ℕ) (entry : Entry)
   plain_other n is e = true≢false (sym (ap is_delta e ∙ delta_named name) ∙ is)
 
   same_image : IsSameImage new next
-  same_image n plain_n = elim (names_tell n name) [
+  same_image n plain_n = elim (decide n name) [
     | inl w ↦ here n w ∙ under.same ∙ ap (λ (m : List ℕ). entry_in new m) (sym w)
     | inr w ↦
         elsewhere n w ∙ stands.same_image n plain_n
@@ -167,7 +136,7 @@ module _ (old new : Files) (account : Account) (name : List ℕ) (entry : Entry)
     distinct = stands.kept_records.distinct;
     not_nil = stands.kept_records.not_nil;
     stalled = λ n b e is. elim (whose n b e) [ inl w ↦ under.stalled b w is | inr w ↦ stands.kept_records.stalled n b w is ];
-    levels = λ n bytes plain_n there. elim (names_tell n name) [
+    levels = λ n bytes plain_n there. elim (decide n name) [
       | inl w ↦ under.holds bytes (ap new (sym w) ∙ there)
       | inr w ↦ stands.kept_records.levels n bytes plain_n (sym (others n w (plain_other n plain_n)) ∙ there)
     ];
@@ -178,7 +147,7 @@ module _ (old new : Files) (account : Account) (name : List ℕ) (entry : Entry)
   history = record { images = belonging (NamesItsPast account.kept) under.past stands.history.images; records = stands.history.records }
 
   no_stray : HasNoStrayDelta new next
-  no_stray n plain_n beside = elim (names_tell n name) [
+  no_stray n plain_n beside = elim (decide n name) [
     | inl w ↦ elim (under.no_stray (subst (λ (m : List ℕ). IsTrue (is_some (new (delta_name m)))) w beside)) [
       | inl base ↦ inl (base.0, here n w ∙ base.1)
       | inr standby ↦ inr (standby.0, ap new w ∙ standby.1, standby.2)
@@ -191,7 +160,7 @@ module _ (old new : Files) (account : Account) (name : List ℕ) (entry : Entry)
 
   standbys : HasApplyingStandbys new next.kept
   unfolding with_entry
-  standbys n bytes r plain_n there applying kept = elim (names_tell n name) [
+  standbys n bytes r plain_n there applying kept = elim (decide n name) [
     | inl w ↦ under.standby bytes r (ap new (sym w) ∙ there) applying kept
     | inr w ↦ stands.standbys n bytes r plain_n (sym (others n w (plain_other n plain_n)) ∙ there) applying kept
   ]

@@ -1,11 +1,6 @@
 -- The exit status after a reply.
-use Rattle.std.proofs.Common.{◌≡◌, ◌≢◌, max, refl}
-use Rattle.std.specs.Prelude.{Bool, true, false, ◌||◌, if◌then◌else◌}
-use Rattle.nb_host.specs.declared.refusals.Refusal.{Refusal}
-use Rattle.nb_host.specs.declared.refusals.Refusal.TheVariants.{Usage}
-use Rattle.nb_model.specs.declared.reply.Reply.{Reply}
-use Rattle.nb_model.specs.declared.reply.Reply.TheVariants.{Refused}
-use Rattle.nb_model.specs.Output.{status_after}
+use Rattle.std.proofs.Common.{◌≡◌, ◌≢◌, max, refl, Bool, true, false, ◌||◌, if◌then◌else◌}
+use Rattle.nb_model.proofs.Common.{Refusal, Usage, Reply, Refused, status_after}
 
 -- the reply is a refusal
 abbrev pub is_refusal : Reply → Bool

@@ -1,21 +1,6 @@
 -- What was seen of a database in a run is well at each step, with the records of the backups that have begun.
-use Rattle.std.proofs.Common.{◌≡◌, ℕ, zero, suc, ◌+◌, ◌≤◌, List, [], ◌∷◌, ◌++◌, length, take, refl, sym, ap, subst, ◌∙◌, arith, append_assoc}
-use Rattle.std.specs.Prelude.{Bool, Option, true, false}
-use Rattle.std.proofs.lemmas.List.{append-nil}
-use Rattle.nb_fields.specs.States.{normal_state, stalled_state, merge_state}
-use Rattle.nb_model.specs.Going.{IsNamed}
-use Rattle.nb_model.specs.declared.statement.Statement.{Statement}
-use Rattle.nb_model.specs.Account.{Ask, Kept, Base}
-use Rattle.nb_model.specs.Image.{Page, image_state, image_scn}
-use Rattle.nb_model.specs.Outcomes.{Begins, Seen}
-use Rattle.nb_model.specs.Sound.{HasHeader, IsSoundImage}
-use Rattle.nb_model.specs.Stands.{IsBegun, HasRows}
-use Rattle.nb_model.specs.Steps.{Step, makes, settles, after_step, after_steps, made, strokes_in}
-use Rattle.nb_model.specs.Strokes.{Stroke, page, merged_page, begin, ends, finish, on_base, records_of, records_after}
-use Rattle.nb_model.specs.Trail.{Trail, settled, settles_at, after_stroke}
-use Rattle.nb_model.specs.Turns.{first_turn}
-use Rattle.nb_model.specs.Well.{is_on_pages}
-use Rattle.nb_model.specs.WellTrail.{AllGoOn, IsWellTrail}
+use Rattle.std.proofs.Common.{◌≡◌, ℕ, zero, suc, ◌+◌, ◌≤◌, List, [], ◌∷◌, ◌++◌, length, take, refl, sym, ap, subst, ◌∙◌, arith, append_assoc, Bool, Option, true, false}
+use Rattle.nb_model.proofs.Common.{append-nil, normal_state, stalled_state, merge_state, IsNamed, Statement, Ask, Kept, Base, Page, image_state, image_scn, Begins, Seen, HasHeader, IsSoundImage, IsBegun, HasRows, Step, makes, settles, after_step, after_steps, made, strokes_in, Stroke, page, merged_page, begin, ends, finish, on_base, records_of, records_after, Trail, settled, settles_at, after_stroke, first_turn, is_on_pages, AllGoOn, IsWellTrail}
 use Rattle.nb_model.proofs.ControlMay.{may_begin}
 use Rattle.nb_model.proofs.ControlSound.{MayControl, new_state, new_scn, new_guid, new_header, control_old}
 use Rattle.nb_model.proofs.ControlWell.{begin_well, ends_well, finish_well}
@@ -79,7 +64,7 @@ page_frozen : (p : ℕ) (bytes : Page) (t : Trail) → (after_stroke (page p byt
 unfolding on_base
 page_frozen p bytes t = ap (λ (b : Base). b.frozen) (trail_base (page p bytes) t)
 
-stroke_seen : (t : Trail) (s : Stroke) → (after_stroke s t).base ≡ on_base s t.base
+pub stroke_seen : (t : Trail) (s : Stroke) → (after_stroke s t).base ≡ on_base s t.base
 unfolding after_stroke
 stroke_seen t s = trail_base s t
 

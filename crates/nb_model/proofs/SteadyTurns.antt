@@ -1,30 +1,9 @@
 -- While a backup is under way its record is kept, and all that was seen goes on from it: so each turn keeps what was seen well.
-use Rattle.std.proofs.Common.{◌≡◌, ◌≢◌, inl, inr, ℕ, zero, suc, ◌-◌, List, [], ◌∷◌, ◌++◌, length, replicate, get_or, refl, sym, ap, subst, ◌∙◌, arith, append_assoc}
-use Rattle.std.specs.Prelude.{Bool, Option, Some, None, true, false, ◌==◌}
-use Rattle.std.specs.List.{AllByRecursion}
-use Rattle.std.proofs.lemmas.Bool.{eqb-true}
-use Rattle.std.proofs.lemmas.Bool.Decides.{eqb_tells}
-use Rattle.nb_fields.specs.States.{normal_state, stalled_state, merge_state}
-use Rattle.nb_host.specs.declared.refusals.Refusal.{Refusal}
-use Rattle.nb_model.specs.declared.reply.Reply.{Reply}
-use Rattle.nb_model.specs.declared.statement.Statement.{Statement}
-use Rattle.nb_model.specs.Account.{Ask, Kept, Base}
-use Rattle.nb_model.specs.Backups.{room_in, close_backup, close_copy}
-use Rattle.nb_model.specs.Causes.{runs_other}
-use Rattle.nb_model.specs.Going.{AreBeginnings, AreMerging, IsNamed, AreNamed, HasRoom, Runs, IsAt, waits, backs_up, copies, ends as ending, merges, IsGoing}
-use Rattle.nb_model.specs.Image.{image_state, image_scn}
-use Rattle.nb_model.specs.Outcomes.{Turn, Begins, Copies, ClosesBackup, ClosesCopy, Ends, Merges, Finishes, Backing, Seen, Outcome, next_guid, next_time}
-use Rattle.nb_model.specs.Pages.{end_strokes, ends_by}
-use Rattle.nb_model.specs.Run.{Event, Now, Played, base_now, event_of, outcome, stands_then, one_turn, play}
-use Rattle.nb_model.specs.Steps.{Step, settles, after_step, after_steps, made, steps_of}
-use Rattle.nb_model.specs.Sound.{HasHeader}
-use Rattle.nb_model.specs.Strokes.{Stroke, begin, ends, finish, base_after}
-use Rattle.nb_model.specs.Trail.{Trail, settled}
-use Rattle.nb_model.specs.Turns.{first_turn, turn}
-use Rattle.nb_model.specs.Well.{is_on_pages}
-use Rattle.nb_model.specs.WellTrail.{IsWellTrail}
-use Rattle.nb_model.proofs.BackupWell.{IsLedTo, IsRecorded, StartsWell, made_base, recorded_on, recorded_settled, start_well, close_well}
-use Rattle.nb_model.proofs.GoingLaws.{next_sixteen, one_runs, name_short, then_base, own_todo, other_todo, one_cases, going_turn, named_turn}
+use Rattle.std.proofs.Common.{◌≡◌, ◌≢◌, inl, inr, ℕ, zero, suc, ◌-◌, List, [], ◌∷◌, ◌++◌, length, replicate, get_or, refl, sym, ap, subst, ◌∙◌, arith, append_assoc, Bool, Option, None, true, false, ◌==◌}
+use Rattle.nb_model.proofs.Common.{AllByRecursion, eqb-true, eqb_tells, normal_state, stalled_state, merge_state, Refusal, Reply, Statement, Ask, Kept, Base, room_in, close_backup, close_copy, runs_other, AreBeginnings, AreMerging, IsNamed, AreNamed, HasRoom, Runs, IsAt, waits, backs_up, copies, merges, IsGoing, image_state, image_scn, Turn, Begins, Copies, ClosesBackup, ClosesCopy, Ends, Merges, Finishes, Backing, Seen, Outcome, next_guid, next_time, end_strokes, ends_by, Event, Now, Played, base_now, event_of, outcome, stands_then, one_turn, play, Step, settles, after_step, after_steps, made, steps_of, HasHeader, Stroke, begin, ends, finish, base_after, Trail, settled, first_turn, turn, is_on_pages, IsWellTrail, none_some}
+use Rattle.nb_model.specs.Going.{ends as ending}
+use Rattle.nb_model.proofs.BackupWell.{IsLedTo, IsRecorded, StartsWell, recorded_on, recorded_settled, start_well, close_well}
+use Rattle.nb_model.proofs.GoingLaws.{next_sixteen, one_runs, name_short, then_base, own_todo, other_todo, one_cases, going_turn, named_turn, merge_turns}
 use Rattle.nb_model.proofs.HeldTurns.{statement_holds}
 use Rattle.nb_model.proofs.LeadLaws.{strokes_lead}
 use Rattle.nb_model.proofs.PagesFit.{pages_fit}
@@ -33,7 +12,7 @@ use Rattle.nb_model.proofs.OutputLaws.{strokes_one}
 use Rattle.nb_model.proofs.RoomLaws.{HasPlainRoom}
 use Rattle.nb_model.proofs.SoundTurns.{HasPlace}
 use Rattle.nb_model.proofs.SteadyLaws.{WellAlong, KeepsAlong, kept_along, pages_along, begin_along, ends_along, finish_along, settling_along, along_append, along_last, kept_append}
-use Rattle.nb_model.proofs.StepsLaws.{steps_one, steps_append, steps_seen, after_steps_append}
+use Rattle.nb_model.proofs.StepsLaws.{steps_one, steps_append, steps_seen, after_steps_append, made_seen}
 use Rattle.nb_model.proofs.TurnCases.{MayBegin, MayEnd, MayStart, MayCopy, IsFrom, refused, started, copied, statement_cases, begin_either, end_either, its_own, backup_either, since_either, copy_either, pages_once}
 use Rattle.nb_model.proofs.TurnCases as cases
 
@@ -73,10 +52,6 @@ module _ (kept : List Kept) (t : Trail) where
   copies_left : (left : ℕ) (turns : List Turn) → AreRecorded kept t (replicate left Copies ++ turns) → AreRecorded kept t turns
   copies_left zero turns all = all
   copies_left (suc left) turns all = copies_left left turns all.1
-
-merge_turns : (n : ℕ) (reply : Reply) (rest : List Turn) → AreBeginnings rest → AreMerging ((replicate n Merges ++ Finishes reply ∷ []) ++ rest)
-merge_turns zero reply rest all = all
-merge_turns (suc n) reply rest all = merge_turns n reply rest all
 
 -- What a turn does where it comes: it keeps what was seen well, records the backup that it starts, and leaves one of another session recorded.
 record IsTurn (kept : List Kept) (t : Trail) (now : Now) (session : ℕ) (strokes : List Stroke) (turns : List Turn) : Type 0 where
@@ -134,7 +109,7 @@ module _ (kept : List Kept) (t : Trail) (now : Now) (session : ℕ) (base : t.ba
           own = subst (λ (ts : List Turn). AreRecorded (kept_along kept t (made strokes)) (after_steps t (made strokes)) (ts ++ rest)) (sym (pages_once statement on s session).next)
               (waits_then (after_steps t (made strokes)) (kept_along kept t (made strokes)));
           others = λ place b off runs. recorded_on kept t (made strokes) keeps b (λ bytes of_history held.
-              subst (λ (x : Base). IsLedTo b.page bytes x.image) (sym (made_base t strokes)) (
+              subst (λ (x : Base). IsLedTo b.page bytes x.image) (sym (made_seen t strokes)) (
                 statement_holds b.page bytes of_history statement on named s session its_header w.base.well.sound held.1 held.0,
                 strokes_lead b.page strokes t.base (header_whole t.base.image its_header w.base.well.sound) (pages_fit statement on named s session its_header w.base.well.sound) held.1,
               ));
@@ -143,9 +118,6 @@ module _ (kept : List Kept) (t : Trail) (now : Now) (session : ℕ) (base : t.ba
     begun_turn : MayBegin t.base.image → Does (cases.begun s)
     begun_turn may = alone_turn (begin (next_guid now.given) None ∷ []) rest (begin_along kept t (next_guid now.given) None w may.normal sixteen may.scn (λ ask is some. absurd (none_some ask is)))
         (waits_then (after_steps t (made (begin (next_guid now.given) None ∷ []))) (kept_along kept t (made (begin (next_guid now.given) None ∷ [])))) (normal_alone may.normal)
-      where
-        none_some : (ask : Ask) → None ≡ Some ask → ⊥
-        none_some ask e = cc
 
     ended_turn : (reply : Reply) → image_state t.base.image ≢ normal_state → ((place : ℕ) → place ≢ session - 1 → Runs now place 1 → ⊥) → Does (ends_by s session reply)
     unfolding ends_by end_strokes

@@ -1,31 +1,14 @@
 -- What the forms leave of lengths, kinds and bits, whatever stands in the image.
-use Rattle.std.proofs.Common.{◌≡◌, ◌≢◌, inl, inr, ℕ, suc, ◌+◌, ◌-◌, ◌*◌, ◌/◌, ◌%◌, ◌^◌, ◌<◌, ◌≤◌, List, [], ◌∷◌, ◌++◌, length, drop, refl, sym, ap, subst, ◌∙◌, arith, length-drop}
-use Rattle.std.specs.Prelude.{Bool, true, false, ◌==◌, ◌||◌, ◌&&◌, nat_lt, IsTrue, max}
-use Rattle.std.proofs.lemmas.Bool.{true≢false, and_from, and_parts, lt-ltb, ltb-true, eq-eqb, eqb-true}
-use Rattle.std.proofs.lemmas.Bool.Decides.{eqb_tells, leb_tells}
-use Rattle.std.proofs.lemmas.List.{length-replicate}
-use Rattle.nb_fields.specs.Places.{is_page_size, entries_in, bits_in, inventory_place, scn_place, is_inventory_place, is_scn_place, is_system_place}
-use Rattle.nb_fields.specs.Header.{size_of}
-use Rattle.nb_fields.specs.Page.{kind_of, page_of, generation_of, stamped}
-use Rattle.nb_fields.specs.Payloads.{bit_of, inventory_payload, scn_payload}
-use Rattle.nb_fields.proofs.SizeLaws.{SizeFacts, size_facts}
-use Rattle.nb_fields.proofs.PlaceLaws.{bits-least, entries-least}
-use Rattle.nb_fields.specs.Bytes.{bytes_of, with_part}
-use Rattle.nb_fields.proofs.NumberLaws.{length-bytes_of}
-use Rattle.nb_fields.proofs.PartLaws.{length-with_part}
-use Rattle.nb_fields.proofs.PageLaws.{length-page_of}
-use Rattle.nb_fields.proofs.FreshLaws.{taken_bits-free, bit_of-inventory}
-use Rattle.nb_fields.specs.Kinds.{inventory_kind, scn_kind}
-use Rattle.nb_model.specs.Image.{Page, Image, page_at, image_size, image_scn}
-use Rattle.nb_model.specs.Forms.{HasItsEntry, Draft, drafted, old_page, wrote, written, needs, is_kind, inventory_of, scn_page_of, bit_number, entry_number, has_entry, scn_entry, is_free_page, entry_written, entry_raised, raised, put, with_bit, set_bit, take_page, system_kind, system_payload, system_page, is_kept}
-use Rattle.nb_model.specs.Sound.{IsOfSize}
+use Rattle.std.proofs.Common.{◌≡◌, ◌≢◌, inl, inr, ℕ, suc, ◌+◌, ◌-◌, ◌*◌, ◌/◌, ◌%◌, ◌^◌, ◌<◌, ◌≤◌, List, [], ◌++◌, length, drop, refl, sym, ap, subst, ◌∙◌, arith, length-drop, Bool, true, false, ◌==◌, ◌||◌, ◌&&◌, nat_lt, IsTrue, max}
+use Rattle.nb_model.proofs.Common.{true≢false, and_parts, ltb-true, eqb-true, eqb_tells, leb_tells, length-replicate, is_page_size, entries_in, bits_in, inventory_place, scn_place, is_inventory_place, is_scn_place, is_system_place, size_of, kind_of, page_of, generation_of, stamped, bit_of, inventory_payload, scn_payload, SizeFacts, size_facts, bits-least, entries-least, scn_place-some, bytes_of, with_part, length-bytes_of, length-with_part, length-page_of, taken_bits-free, bit_of-inventory, inventory_kind, scn_kind, Page, Image, page_at, image_size, image_scn, HasItsEntry, Draft, drafted, old_page, wrote, written, needs, is_kind, inventory_of, scn_page_of, bit_number, entry_number, has_entry, scn_entry, is_free_page, entry_written, entry_raised, raised, put, with_bit, set_bit, take_page, system_kind, system_payload, system_page, is_kept, IsOfSize, and_right}
 use Rattle.nb_model.proofs.DraftJoin.{join_set_bit}
 use Rattle.nb_model.proofs.StrokeLaws.{with_page_same, with_page_other}
-use Rattle.nb_model.proofs.SoundLaws.{all_at, all_from, inventory_there, inventory_place_some, scn_page_there, scn_place_some, scn_place_before, with_page_length}
+use Rattle.nb_model.proofs.SoundLaws.{all_at, all_from, inventory_there, inventory_place_some, scn_page_there, scn_place_before, with_page_length}
 use Rattle.nb_model.proofs.FitLaws.{form_page, written_image}
 use Rattle.nb_model.proofs.NewSound.{places_apart, inventory_before, stamped_kind, plain_place, system_is}
 use Rattle.nb_model.proofs.FreshSound.{inventory_length, scn_length}
 use Rattle.nb_model.proofs.BitLaws.{bit_else, bit_here, with_bit_length, bit_behind, one_bit}
+use Rattle.nb_model.proofs.RoundLaws.{kind_found, needs_found}
 
 -- long enough for the first page of the SCN inventory, of whole pages
 pub record IsShaped (x : Image) : Type 0 where
@@ -45,10 +28,6 @@ unfolding is_kind
 kind_parts x kind p is =
     let both = and_parts (nat_lt p (length x)) (kind_of (page_at x p) == kind) is in
     (ltb-true p (length x) both.0, eqb-true (kind_of (page_at x p)) kind both.1)
-
-pub kind_from : (x : Image) (kind p : ℕ) → p < length x → kind_of (page_at x p) ≡ kind → is_kind x kind p ≡ true
-unfolding is_kind
-kind_from x kind p low same = and_from (nat_lt p (length x)) (kind_of (page_at x p) == kind) (lt-ltb p (length x) low) (eq-eqb (kind_of (page_at x p)) kind same)
 
 old_long : (x : Image) (p : ℕ) → IsShaped x → length (old_page p x) ≡ image_size x
 unfolding old_page
@@ -141,7 +120,7 @@ entry_on d p h found = record {
     low = (kind_parts x scn_kind s found).0
 
     some : 1 ≤ s
-    some = omega (arith, scn_place_some (image_size x) (p / entries_in (image_size x)) h.size)
+    some = omega (arith, scn_place-some (image_size x) (p / entries_in (image_size x)) h.size)
 
     entries : Page
     entries = with_part (32 + 4 * entry_number x p) (bytes_of 4 (image_scn x)) (page_at x s)
@@ -182,10 +161,6 @@ either_raised x p false d e rd re = re
 entry_clear : (p : ℕ) (x : Image) → IsClear (entry_written p (drafted x))
 unfolding entry_written written wrote
 entry_clear p x = (refl, refl)
-
-pub needs_found : (x : Image) (kind p : ℕ) → is_kind x kind p ≡ true → needs kind p (drafted x) ≡ drafted x
-unfolding needs
-needs_found x kind p e = ap (λ (t : Bool). elim t as (λ z. Draft) [ true ↦ drafted x | false ↦ record { image = x; strokes = []; broken = p ∷ []; full = false } ]) e
 
 raising : (x : Image) (p : ℕ) → IsShaped x → is_kind x scn_kind (scn_page_of x p) ≡ true → Raised x p (entry_raised p (drafted x))
 unfolding entry_raised
@@ -368,7 +343,7 @@ scn_page_moves x y q same keeps there has = subst (λ (s : ℕ). is_kind y scn_k
 
 -- a page that is of a kind stays so
 pub kind_moves : (x y : Image) (kind p : ℕ) → length x ≤ length y → kind_of (page_at y p) ≡ kind_of (page_at x p) → is_kind x kind p ≡ true → is_kind y kind p ≡ true
-kind_moves x y kind p long same is = let parts = kind_parts x kind p is in kind_from y kind p (omega (arith, parts.0, long)) (same ∙ parts.1)
+kind_moves x y kind p long same is = let parts = kind_parts x kind p is in kind_found y kind p (omega (arith, parts.0, long)) (same ∙ parts.1)
 
 -- the SCN page of an inventory page stands before what has its bit there
 pub map_entry_before : (x : Image) (p : ℕ) → IsTrue (is_page_size (image_size x)) → 3 ≤ p → scn_page_of x (inventory_of x p) < p
@@ -525,13 +500,9 @@ no_map_at x p size none q e = true≢false (sym (inventory_there (image_size x) 
 -- where page p isn't of the kind of its place it is written
 unkept_is : (x : Image) (p kind : ℕ) → system_kind x p ≡ kind → is_kind x kind p ≡ false → is_kept x p ≡ false
 unfolding is_kept
-unkept_is x p kind e none = ap (λ (t : Bool). is_system_place (image_size x) p && t) (ap (λ (k : ℕ). is_kind x k p) e ∙ none) ∙ and_no (is_system_place (image_size x) p)
-  where
-    and_no : (t : Bool) → (t && false) ≡ false
-    and_no true = refl
-    and_no false = refl
+unkept_is x p kind e none = ap (λ (t : Bool). is_system_place (image_size x) p && t) (ap (λ (k : ℕ). is_kind x k p) e ∙ none) ∙ and_right (is_system_place (image_size x) p) false refl
 
-plain_unkept : (x : Image) (p : ℕ) → is_system_place (image_size x) p ≡ false → is_kept x p ≡ false
+pub plain_unkept : (x : Image) (p : ℕ) → is_system_place (image_size x) p ≡ false → is_kept x p ≡ false
 unfolding is_kept
 plain_unkept x p plain = ap (λ (t : Bool). t && is_kind x (system_kind x p) p) plain
 

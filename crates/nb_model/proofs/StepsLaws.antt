@@ -1,19 +1,9 @@
 -- Steps of runs, one after another, and how many of them are acknowledged.
-use Rattle.std.proofs.Common.{◌≡◌, ℕ, zero, suc, ◌+◌, ◌-◌, ◌≤◌, List, [], ◌∷◌, ◌++◌, length, take, refl, sym, ap, ◌∙◌, arith, length-append, append_assoc}
-use Rattle.std.specs.Prelude.{Bool, Option, Some, None, true, false, nat_le}
-use Rattle.std.proofs.lemmas.Bool.{lt-leb}
-use Rattle.std.proofs.lemmas.List.{append-nil, take-append-le, take_all}
-use Rattle.std.proofs.Math.Seq.{take-append-add}
-use Rattle.nb_model.specs.declared.reply.Reply.{Reply}
-use Rattle.nb_model.specs.Account.{Base}
-use Rattle.nb_model.specs.Lines.{line_text}
-use Rattle.nb_model.specs.Strokes.{Stroke, on_base, base_after}
-use Rattle.nb_model.specs.Run.{Event, strokes_of}
-use Rattle.nb_model.specs.Output.{output}
-use Rattle.nb_model.specs.Trail.{Trail, settled, settles_at, bases_of, after_stroke, after_strokes}
-use Rattle.nb_model.specs.Steps.{Step, makes, settles, after_step, after_steps, made, steps_in, steps_of, acked_turns, acked_steps}
+use Rattle.std.proofs.Common.{◌≡◌, ℕ, zero, suc, ◌+◌, ◌-◌, ◌≤◌, List, [], ◌∷◌, ◌++◌, length, take, refl, sym, ap, ◌∙◌, arith, length-append, append_assoc, Bool, Option, Some, None, true, false, nat_le}
+use Rattle.nb_model.proofs.Common.{lt-leb, append-nil, take-append-le, take_all, take-append-add, Reply, Base, line_text, Stroke, base_after, Event, strokes_of, output, Trail, settled, after_stroke, Step, makes, settles, after_step, after_steps, made, steps_in, steps_of, acked_turns, acked_steps}
 use Rattle.nb_model.proofs.OutputLaws.{line-some, output-quiet, output-line, output_no_event}
 use Rattle.nb_model.proofs.StrokeLaws.{base_after-append}
+use Rattle.nb_model.proofs.SteadyLaws.{stroke_seen}
 
 -- no step
 pub steps_none : steps_of [] ≡ []
@@ -50,12 +40,6 @@ pub after_settling : (t : Trail) → after_steps t (settles ∷ []) ≡ settled 
 unfolding after_steps after_step
 after_settling t = refl
 
--- strokes alone
-pub after_made : (t : Trail) (ss : List Stroke) → after_steps t (made ss) ≡ after_strokes ss t
-unfolding after_steps after_step made after_strokes
-after_made t [] = refl
-after_made t (s ∷ ss) = after_made (after_stroke s t) ss
-
 pub made_length : (ss : List Stroke) → length (made ss) ≡ length ss
 unfolding made
 made_length [] = refl
@@ -75,16 +59,7 @@ steps_front es fs count low = ap (take count) (steps_append es fs) ∙ take-appe
 pub steps_behind : (es fs : List Event) (count : ℕ) → take (length (steps_of es) + count) (steps_of (es ++ fs)) ≡ steps_of es ++ take count (steps_of fs)
 steps_behind es fs count = ap (take (length (steps_of es) + count)) (steps_append es fs) ∙ take-append-add (steps_of es) (steps_of fs) count
 
--- The database that is seen after steps is the one after their strokes.
-stroke_seen : (t : Trail) (s : Stroke) → (after_stroke s t).base ≡ on_base s t.base
-unfolding after_stroke
-stroke_seen t s = by (settles_at t s)
-  where
-    by : (b : Bool) → (elim b as (λ z. Trail) [ true ↦ settled (on_base s t.base) | false ↦ record { base = on_base s t.base; earlier = bases_of t } ]).base ≡ on_base s t.base
-    by true = refl
-    by false = refl
-
-made_seen : (t : Trail) (ss : List Stroke) → (after_steps t (made ss)).base ≡ base_after t.base ss
+pub made_seen : (t : Trail) (ss : List Stroke) → (after_steps t (made ss)).base ≡ base_after t.base ss
 unfolding after_steps after_step made base_after
 made_seen t [] = refl
 made_seen t (s ∷ ss) = made_seen (after_stroke s t) ss ∙ ap (λ (b : Base). base_after b ss) (stroke_seen t s)
@@ -149,7 +124,7 @@ unfolding acked_turns
 turns_line e es said r some = rw (some, acked_turns) refl
 
 -- No more turns are acknowledged than there are,
-turns_most : (es : List Event) (said : ℕ) → acked_turns es said ≤ length es
+pub turns_most : (es : List Event) (said : ℕ) → acked_turns es said ≤ length es
 turns_most [] said = let none = turns_none said in omega arith
 turns_most (e ∷ es) said = by (turns_most es) e.reply refl
   where

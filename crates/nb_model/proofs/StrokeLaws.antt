@@ -1,11 +1,6 @@
 -- Laws of strokes.
-use Rattle.std.proofs.Common.{◌≡◌, ◌≢◌, inl, inr, ℕ, zero, suc, ◌≤◌, List, [], ◌∷◌, ◌++◌, length, get_or, take, drop, refl, sym, ap, ◌∙◌, arith, length-append, get_or-set_other, append_assoc, get_or-set_same}
-use Rattle.std.proofs.lemmas.List.{get_or_append_left}
-use Rattle.std.proofs.lemmas.Bool.Decides.{leb_tells}
-use Rattle.nb_fields.specs.Bytes.{bytes_of}
-use Rattle.nb_model.specs.Image.{Page, Image, page_at, first_page, with_page}
-use Rattle.nb_model.specs.Account.{Base, Kept}
-use Rattle.nb_model.specs.Strokes.{Stroke, page, on_base, records_of, base_after, records_after, merged_page, fixed}
+use Rattle.std.proofs.Common.{◌≡◌, ◌≢◌, inl, inr, ℕ, zero, suc, ◌≤◌, List, [], ◌∷◌, ◌++◌, length, get_or, take, drop, refl, sym, ap, ◌∙◌, arith, length-append, get_or-set_other, append_assoc, get_or-set_same, ◌+◌, Option, Bool, true, false}
+use Rattle.nb_model.proofs.Common.{get_or_append_left, leb_tells, bytes_of, Page, Image, page_at, first_page, with_page, Base, Kept, Stroke, page, on_base, records_of, base_after, records_after, merged_page, fixed, stalled_state, image_scn, Ask, begin, with_control, merge_state, image_guid, ends, eqb_tells, image_state, noted}
 
 -- strokes after strokes
 pub base_after-append : (b : Base) (xs ys : List Stroke) → base_after b (xs ++ ys) ≡ base_after (base_after b xs) ys
@@ -65,6 +60,18 @@ pub stroke_page : (b : Base) (p : ℕ) (bytes : Page) → (on_base (page p bytes
 unfolding on_base
 stroke_page b p bytes = refl
 
+pub stroke-frozen : (b : Base) (p : ℕ) (bytes : Page) → (on_base (page p bytes) b).frozen ≡ b.frozen
+unfolding on_base
+stroke-frozen b p bytes = refl
+
+-- outside the stalled state no entry is noted
+pub stroke-diverted : (b : Base) (p : ℕ) (bytes : Page) → image_state b.image ≢ stalled_state → (on_base (page p bytes) b).diverted ≡ b.diverted
+unfolding on_base
+stroke-diverted b p bytes main = elim (eqb_tells (image_state b.image) 1) [
+  | inl w ↦ absurd (main w.1)
+  | inr w ↦ ap (λ (t : Bool). elim t as (λ z. List ℕ) [ true ↦ noted p b.diverted | false ↦ b.diverted ]) w.0
+]
+
 pub stroke_same : (b : Base) (p : ℕ) (bytes : Page) → p ≤ length b.image → page_at (on_base (page p bytes) b).image p ≡ merged_page p bytes b.image
 stroke_same b p bytes h = ap (λ (x : Image). page_at x p) (stroke_page b p bytes) ∙ with_page_same p (merged_page p bytes b.image) b.image h
 
@@ -81,3 +88,12 @@ whole_page (suc p) bytes image some = refl
 pub fixed_page : (p : Page) (ps : Image) → fixed (p ∷ ps) ≡ (take 22 p ++ 0 ∷ 0 ∷ drop 24 p) ∷ ps
 unfolding fixed bytes_of
 fixed_page p ps = refl
+
+-- what a begin and an end leave
+pub begun_image : (b : Base) (guid : List ℕ) (ask : Option Ask) → (on_base (begin guid ask) b).image ≡ with_control stalled_state (image_scn b.image + 1) guid b.image
+unfolding on_base
+begun_image b guid ask = refl
+
+pub ended_image : (b : Base) → (on_base ends b).image ≡ with_control merge_state (image_scn b.image + 1) (image_guid b.image) b.image
+unfolding on_base
+ended_image b = refl

@@ -1,18 +1,6 @@
 -- The turn of a statement on tables is refused, or nothing stood in the way of what it does.
-use Rattle.std.proofs.Common.{◌≡◌, ℕ, List, [], ◌∷◌, ◌++◌, ◌≤◌, refl, ap, ◌∙◌}
-use Rattle.std.specs.Prelude.{false, Option, Some, None, nat_le, length, is_some}
-use Rattle.nb_host.specs.declared.refusals.Refusal.{Refusal}
-use Rattle.nb_host.specs.declared.refusals.Refusal.TheVariants.{TableExists, KeyExists, TooManyTables}
-use Rattle.nb_model.specs.declared.reply.Reply.{Reply}
-use Rattle.nb_model.specs.declared.reply.Reply.TheVariants.{Done, Value, Rows}
-use Rattle.nb_model.specs.Causes.{Cause, first_cause, when, read_only, too_long, broken_at, not_of_form, no_room}
-use Rattle.nb_model.specs.Chains.{Chain, Catalogue, RowsFrom, Slot, Spot, spots, pages_of, found_pages, table_spot, row_spot, first_in, text_in, row_slot, table_slot, free_slot, free_spot, put_slot, place_at, place_slot}
-use Rattle.nb_model.specs.Forms.{Draft, drafted, new_page}
-use Rattle.nb_model.specs.Image.{Image, is_read_only}
-use Rattle.nb_model.specs.Outcomes.{Seen, Outcome, says, changes}
-use Rattle.nb_model.specs.Rows.{used, rows_in}
-use Rattle.nb_model.specs.Tables.{with_spot, create_turn, in_table, all_given, drop_turn, insert_turn, in_row, update_turn, delete_turn, get_turn, scan_turn}
-use Rattle.nb_fields.specs.Payloads.{data_payload}
+use Rattle.std.proofs.Common.{◌≡◌, ℕ, List, [], ◌∷◌, ◌++◌, ◌≤◌, refl, ap, ◌∙◌, false, Option, Some, None, nat_le, length, is_some}
+use Rattle.nb_model.proofs.Common.{Refusal, TableExists, KeyExists, TooManyTables, Reply, Done, Value, Rows, Cause, first_cause, when, read_only, too_long, broken_at, not_of_form, no_room, Chain, Catalogue, RowsFrom, Slot, Spot, spots, pages_of, found_pages, table_spot, row_spot, first_in, text_in, row_slot, table_slot, free_slot, free_spot, put_slot, place_at, place_slot, Draft, drafted, new_page, Image, is_read_only, Seen, Outcome, says, changes, used, rows_in, with_spot, create_turn, in_table, all_given, drop_turn, insert_turn, in_row, update_turn, delete_turn, get_turn, scan_turn, data_payload}
 use Rattle.nb_model.proofs.PutSound.{no_first, not_when, short_text}
 use Rattle.nb_model.proofs.TurnCases.{refused, no_cause, unless_either}
 

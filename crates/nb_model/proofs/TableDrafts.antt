@@ -1,23 +1,7 @@
 -- What a change of a chain of data pages is made of: pages that are put, new pages, and pages that are given back. Each of its strokes fits
 -- and writes no row of the history, and each page of the history that is taken stays as it is.
-use Rattle.std.proofs.Common.{◌≡◌, ◌≢◌, inl, inr, ℕ, ◌+◌, ◌*◌, ◌/◌, ◌<◌, ◌≤◌, List, [], ◌∷◌, length, drop, refl, sym, ap, subst, ◌∙◌, arith, length-drop}
-use Rattle.std.specs.Prelude.{false, ◌==◌, Option, Some, None}
-use Rattle.std.specs.List.{AllByRecursion}
-use Rattle.std.proofs.lemmas.Bool.{or_parts}
-use Rattle.std.proofs.lemmas.Bool.Decides.{eqb_tells}
-use Rattle.nb_fields.specs.Bytes.{bytes_of, with_part}
-use Rattle.nb_fields.specs.Page.{stamped}
-use Rattle.nb_fields.specs.Payloads.{data_payload}
-use Rattle.nb_fields.specs.Places.{entries_in, bits_in, is_inventory_place, is_scn_place, is_system_place, most_pages}
-use Rattle.nb_fields.proofs.NumberLaws.{length-bytes_of}
-use Rattle.nb_fields.proofs.PartLaws.{length-with_part}
-use Rattle.nb_fields.proofs.SizeLaws.{SizeFacts, size_facts}
-use Rattle.nb_fields.specs.Kinds.{inventory_kind, data_kind}
-use Rattle.nb_model.specs.Account.{Base, base_of}
-use Rattle.nb_model.specs.Chains.{Chain, Slot, Spot, owner_of, owner_in, spots_of, free_spot, put_slot, last_of, grown, place_at, place_slot}
-use Rattle.nb_model.specs.Forms.{Draft, drafted, old_page, put, with_bit, set_bit, give_page, inventory_of, bit_number, new_within, new_page}
-use Rattle.nb_model.specs.Image.{Page, Image, page_at, image_size, image_scn}
-use Rattle.nb_model.specs.Tables.{all_given}
+use Rattle.std.proofs.Common.{◌≡◌, ◌≢◌, inl, inr, ℕ, ◌+◌, ◌*◌, ◌/◌, ◌<◌, ◌≤◌, List, [], ◌∷◌, length, drop, refl, sym, ap, subst, ◌∙◌, arith, length-drop, false, ◌==◌, Option, Some, None}
+use Rattle.nb_model.proofs.Common.{AllByRecursion, or_parts, eqb_tells, bytes_of, with_part, stamped, data_payload, entries_in, bits_in, is_inventory_place, is_scn_place, is_system_place, most_pages, length-bytes_of, length-with_part, SizeFacts, size_facts, inventory_kind, data_kind, Base, base_of, Chain, Slot, Spot, owner_of, owner_in, spots_of, free_spot, put_slot, last_of, grown, place_at, place_slot, Draft, drafted, old_page, put, with_bit, set_bit, give_page, inventory_of, bit_number, new_within, new_page, Page, Image, page_at, image_size, image_scn, all_given}
 use Rattle.nb_model.proofs.BitSound.{bit_put}
 use Rattle.nb_model.proofs.DraftJoin.{joined_new, join_put, join_set_bit, join_new}
 use Rattle.nb_model.proofs.FitLaws.{IsWhole, Fits, fits_first, form_page, fitting_stays, fits_broken}
@@ -25,11 +9,12 @@ use Rattle.nb_model.proofs.HeldLaws.{IsHeld, IsOfHistory, IsMade, held_put, held
 use Rattle.nb_model.proofs.NewSound.{HoldsOfKinds, inventory_before, plain_place, new_fits}
 use Rattle.nb_model.proofs.NoRows.{HasNoRows, no_rows, owner_no_rows}
 use Rattle.nb_model.proofs.PutSound.{IsPlace, IsPlain, plain_here}
-use Rattle.nb_model.proofs.RoomLaws.{last_of_all, no_system, old_there, put_full}
+use Rattle.nb_model.proofs.RoomLaws.{last_of_all, old_there, put_full}
 use Rattle.nb_model.proofs.RoundLaws.{AnyPage, any_kinds, IsNew, new_is_new, no_place, kind_found, put_here, put_other, put_size, put_longer}
 use Rattle.nb_model.proofs.SlotLaws.{linked_owner, written_owner, new_owner}
 use Rattle.nb_model.proofs.SoundLaws.{all_at, inventory_there, inventory_place_some}
 use Rattle.nb_model.proofs.SpotLaws.{IsSpotOn, free_on, spot_within}
+use Rattle.nb_model.proofs.OnwardTests.{plain_from}
 
 -- A page that a chain of tables may have: no system page, and not of the history.
 pub record IsTablePage (image : Image) (p : ℕ) : Type 0 where
@@ -38,7 +23,7 @@ pub record IsTablePage (image : Image) (p : ℕ) : Type 0 where
   pub owner : owner_in (page_at image p) ≢ 1
 
 pub table_system : (image : Image) (p : ℕ) → IsTablePage image p → is_system_place (image_size image) p ≡ false
-table_system image p page = no_system (image_size image) p page.plain.no_inventory page.plain.no_scn_page
+table_system image p page = plain_from (image_size image) p page.plain.no_inventory page.plain.no_scn_page
 
 -- it stands after the first two pages
 pub table_two : (image : Image) (p : ℕ) → IsWhole image → IsTablePage image p → 2 ≤ p

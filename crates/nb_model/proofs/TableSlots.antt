@@ -1,12 +1,6 @@
 -- What the slot of a table tells.
-use Rattle.std.proofs.Common.{◌≡◌, ℕ, ◌-◌, ◌<◌, ◌≤◌, List, ◌∷◌, ◌++◌, length, take, drop, replicate, refl, sym, ap, ◌∙◌, arith}
-use Rattle.std.specs.Prelude.{Bool, true, false, ◌&&◌, ◌||◌, ◌==◌, nat_le, slice_index}
-use Rattle.std.proofs.lemmas.Bool.{and_from, le-leb}
-use Rattle.std.proofs.lemmas.List.{take_at}
-use Rattle.nb_fields.specs.Bytes.{bytes_of, number_in, padded}
-use Rattle.nb_fields.proofs.NumberLaws.{number_of-bytes_of}
-use Rattle.nb_model.specs.Chains.{Catalogue, is_used, is_slot, length_in, table_of, first_in, table_slot}
-use Rattle.nb_model.specs.TableNames.{is_table_name}
+use Rattle.std.proofs.Common.{◌≡◌, ℕ, ◌-◌, ◌<◌, ◌≤◌, List, ◌∷◌, ◌++◌, length, take, drop, replicate, refl, sym, ap, ◌∙◌, arith, Bool, true, false, ◌&&◌, ◌||◌, ◌==◌, nat_le, slice_index}
+use Rattle.nb_model.proofs.Common.{and_from, le-leb, take_at, bytes_of, number_in, padded, number_of-bytes_of, Catalogue, is_used, is_slot, length_in, table_of, first_in, table_slot, is_table_name}
 
 pub table_used : (name : List ℕ) (first : ℕ) → is_used (table_slot name first) ≡ true
 unfolding table_slot padded

@@ -1,28 +1,7 @@
 -- The strokes of a statement on tables fit, each at its point, and write no row of the history; and each page of the history that is taken
 -- stays as it is. A table that is made needs a name of the form: a longer one wouldn't fit into its slot.
-use Rattle.std.proofs.Common.{◌≡◌, ◌≢◌, ℕ, ◌+◌, ◌*◌, ◌<◌, ◌≤◌, List, [], ◌∷◌, length, refl, sym, ap, subst, ◌∙◌, arith}
-use Rattle.std.specs.Prelude.{Bool, true, false, nat_lt, Some, None}
-use Rattle.std.specs.List.{AllByRecursion}
-use Rattle.std.proofs.lemmas.Bool.{true≢false, and_parts, leb-true}
-use Rattle.nb_fields.specs.Bytes.{bytes_of}
-use Rattle.nb_fields.specs.Places.{is_inventory_place, most_pages}
-use Rattle.nb_fields.specs.Page.{stamped}
-use Rattle.nb_fields.specs.Payloads.{data_payload}
-use Rattle.nb_fields.proofs.PageLaws.{length-padded}
-use Rattle.nb_fields.specs.Kinds.{data_kind}
-use Rattle.nb_host.specs.declared.refusals.Refusal.{Refusal}
-use Rattle.nb_model.specs.declared.reply.Reply.{Reply}
-use Rattle.nb_model.specs.declared.reply.Reply.TheVariants.{Done}
-use Rattle.nb_model.specs.Account.{Base}
-use Rattle.nb_model.specs.Causes.{broken_at}
-use Rattle.nb_model.specs.Chains.{Chain, Catalogue, RowsFrom, Slot, Spot, owner_of, owner_in, first_in, is_in_chain, pages_of, found_pages, spots, spots_of, first_such, free_spot, table_spot, row_spot, row_slot, table_slot, free_slot, put_slot}
-use Rattle.nb_model.specs.Forms.{Draft, drafted}
-use Rattle.nb_model.specs.Image.{Page, Image, image_size}
-use Rattle.nb_model.specs.Outcomes.{Seen, Outcome, says}
-use Rattle.nb_model.specs.Sound.{HasHeader, IsSoundImage}
-use Rattle.nb_model.specs.Strokes.{base_after}
-use Rattle.nb_model.specs.TableNames.{is_table_name}
-use Rattle.nb_model.specs.Tables.{create_turn, drop_turn, insert_turn, update_turn, delete_turn, get_turn, scan_turn}
+use Rattle.std.proofs.Common.{◌≡◌, ◌≢◌, ℕ, ◌+◌, ◌*◌, ◌<◌, ◌≤◌, List, [], ◌∷◌, length, refl, sym, ap, subst, ◌∙◌, arith, Bool, true, false, nat_lt, Some, None}
+use Rattle.nb_model.proofs.Common.{AllByRecursion, true≢false, and_parts, leb-true, bytes_of, is_inventory_place, most_pages, stamped, data_payload, length-padded, data_kind, Refusal, Reply, Done, Base, broken_at, Chain, Catalogue, RowsFrom, Slot, Spot, owner_of, owner_in, first_in, is_in_chain, pages_of, found_pages, spots, spots_of, first_such, free_spot, table_spot, row_spot, row_slot, table_slot, free_slot, put_slot, Draft, drafted, Page, Image, image_size, Seen, Outcome, says, HasHeader, IsSoundImage, base_after, is_table_name, create_turn, drop_turn, insert_turn, update_turn, delete_turn, get_turn, scan_turn}
 use Rattle.nb_model.proofs.FitLaws.{IsWhole, AreFitting, fitting_stays}
 use Rattle.nb_model.proofs.HeldLaws.{IsHeld, IsOfHistory}
 use Rattle.nb_model.proofs.NoRows.{HasNoRows}

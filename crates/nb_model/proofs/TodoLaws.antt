@@ -1,14 +1,6 @@
 -- What is left to do: after a statement of one turn, and where a session has nothing left.
-use Rattle.std.proofs.Common.{◌≡◌, ℕ, zero, suc, ◌+◌, ◌-◌, List, [], ◌++◌, refl, sym, ap, ◌∙◌, arith, append_assoc}
-use Rattle.std.specs.Prelude.{Some, None}
-use Rattle.std.specs.List.{slice_index_or}
-use Rattle.nb_model.specs.declared.statement.Statement.{Statement}
-use Rattle.nb_model.specs.declared.statement.Statement.TheVariants.{BeginBackup}
-use Rattle.nb_model.specs.Causes.{Cause}
-use Rattle.nb_model.specs.Outcomes.{Turn, Seen, Outcome, unless}
-use Rattle.nb_model.specs.Pages.{begin_turn}
-use Rattle.nb_model.specs.Turns.{first_turn}
-use Rattle.nb_model.specs.Run.{Now, take_turn, one_turn, rounds, all_sessions}
+use Rattle.std.proofs.Common.{◌≡◌, ℕ, zero, suc, ◌+◌, ◌-◌, List, [], ◌++◌, refl, sym, ap, ◌∙◌, arith, append_assoc, Some, None}
+use Rattle.nb_model.proofs.Common.{slice_index_or, Statement, BeginBackup, Cause, Turn, Seen, Outcome, unless, begin_turn, first_turn, Now, take_turn, one_turn, rounds, all_sessions}
 use Rattle.nb_model.proofs.RunLaws.{nothing_taken}
 
 -- a statement that is done in one turn

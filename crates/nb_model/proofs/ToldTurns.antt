@@ -1,17 +1,6 @@
 -- Statements that only tell something of the database: what the first turn of each is, told once for all laws over statements.
-use Rattle.std.proofs.Common.{◌≡◌, ℕ, [], refl, sym, ap, ◌∙◌}
-use Rattle.std.specs.Prelude.{Bool, true, false, not, ◌&&◌, Some, None}
-use Rattle.std.proofs.lemmas.Bool.{true≢false}
-use Rattle.nb_model.specs.declared.reply.Reply.{Reply}
-use Rattle.nb_model.specs.declared.statement.Statement.{Statement}
-use Rattle.nb_model.specs.declared.statement.Statement.TheVariants.{Read, Sync, Check, ShowHeader, ShowPages, ShowImage}
-use Rattle.nb_model.specs.Causes.{Cause}
-use Rattle.nb_model.specs.Outcomes.{Seen, Outcome, says, unless}
-use Rattle.nb_model.specs.Pages.{read_turn, header_turn, image_turn}
-use Rattle.nb_model.specs.Backups.{all_needed, pages_turn}
-use Rattle.nb_model.specs.Checks.{check_turn}
-use Rattle.nb_model.specs.Turns.{first_turn}
-use Rattle.nb_model.specs.Well.{is_on_pages}
+use Rattle.std.proofs.Common.{◌≡◌, ℕ, [], refl, sym, ap, ◌∙◌, Bool, true, false, not, ◌&&◌, Some, None}
+use Rattle.nb_model.proofs.Common.{true≢false, Reply, Statement, Read, Sync, Check, ShowHeader, ShowPages, ShowImage, Cause, Seen, Outcome, says, unless, read_turn, header_turn, image_turn, all_needed, pages_turn, check_turn, first_turn, is_on_pages}
 use Rattle.nb_model.proofs.StatusLaws.{is_refusal}
 use Rattle.nb_model.proofs.UsageCauses.{IsOther, none_other, other_first, other_when, other_broken, other_raw, other_check}
 

@@ -1,27 +1,13 @@
 -- Laws of trails: what a crash may leave of one that is settled, and that writes that are synced keep it settled.
-use Rattle.std.proofs.Common.{◌≡◌, ℕ, zero, suc, ◌≤◌, List, [], ◌∷◌, ◌++◌, length, take, refl, sym, ap, subst, ◌∙◌, set, arith}
-use Rattle.std.specs.Prelude.{Bool, true, false, ◌||◌, ◌==◌, nat_le, nat_lt, Ok, Contains}
-use Rattle.std.specs.List.{AllByRecursion}
-use Rattle.std.proofs.lemmas.Bool.{true≢false}
-use Rattle.std.proofs.lemmas.List.{append-nil}
-use Rattle.std.proofs.lemmas.List.Elements.{Contains-append_right}
-use Rattle.nb_fields.specs.Bytes.{number_of, number_in}
-use Rattle.nb_host.specs.Files.{File, Files}
-use Rattle.nb_model.specs.Image.{Page, Image, is_forced, with_page}
-use Rattle.nb_model.specs.Account.{Base}
-use Rattle.nb_model.specs.Owner.{owner}
-use Rattle.nb_model.specs.Strokes.{Stroke, make, page, begin, ends, finish, fix, merge, on_base, base_after}
-use Rattle.nb_model.specs.Trail.{Trail, settled, bases_of, settles_at, after_stroke, after_strokes, AreSynced, IsBehindFirst, IsLeft, IsFirm, StandsOn, StandsIn, ShowsIn}
+use Rattle.std.proofs.Common.{◌≡◌, ℕ, zero, suc, ◌≤◌, List, [], ◌∷◌, ◌++◌, length, take, refl, sym, ap, subst, ◌∙◌, set, arith, Bool, true, false, ◌||◌, ◌==◌, nat_le, nat_lt, Ok}
+use Rattle.nb_model.proofs.Common.{AllByRecursion, true≢false, append-nil, number_of, number_in, File, Files, Page, Image, is_forced, with_page, Base, owner, Stroke, make, page, begin, ends, finish, fix, merge, on_base, base_after, Trail, settled, bases_of, settles_at, after_stroke, after_strokes, AreSynced, IsBehindFirst, IsLeft, IsFirm, StandsOn, StandsIn, ShowsIn, Contains-push, or_true}
 use Rattle.nb_model.proofs.StrokeLaws.{whole_page, stroke_page}
 use Rattle.nb_model.proofs.CoveredLaws.{firm_left}
-
-pub last_there : (bases : List Base) (b : Base) → Contains (bases ++ b ∷ []) b
-last_there bases b = Contains-append_right bases (b ∷ []) b (0, omega arith, refl)
 
 -- A crash may leave what was seen last.
 pub itself_firm : (t : Trail) → IsFirm t t.base
 itself_firm t = record {
-  mixed = record { long = refl; first = refl; each = λ p low. record { base = t.base; there = last_there t.earlier t.base; below = low; same = refl } };
+  mixed = record { long = refl; first = refl; each = λ p low. record { base = t.base; there = Contains-push t.earlier t.base; below = low; same = refl } };
   kept = λ p at. refl;
   rest = record { frozen = refl; diverted = ([], sym (append-nil t.base.diverted)); merging = λ is. refl; whole = λ none. refl };
 }
@@ -47,11 +33,6 @@ trail_base s t = by (settles_at t s)
     by : (u : Bool) → (elim u as (λ z. Trail) [ true ↦ settled (on_base s t.base) | false ↦ record { base = on_base s t.base; earlier = bases_of t } ]).base ≡ on_base s t.base
     by true = refl
     by false = refl
-
-pub trail_bases : (ss : List Stroke) (t : Trail) → (after_strokes ss t).base ≡ base_after t.base ss
-unfolding after_strokes base_after
-trail_bases [] t = refl
-trail_bases (s ∷ ss) t = trail_bases ss (after_stroke s t) ∙ ap (λ (b : Base). base_after b ss) (trail_base s t)
 
 -- a stroke that settles
 pub settles_after : (s : Stroke) (t : Trail) → settles_at t s ≡ true → after_stroke s t ≡ settled (on_base s t.base)
@@ -84,11 +65,7 @@ forced_settles b p bytes forced = ap (λ (u : Bool). u || (p == 0 || nat_le (len
 -- page 0
 pub first_settles : (b : Base) (bytes : Page) → settles_at (settled b) (page 0 bytes) ≡ true
 unfolding settles_at
-first_settles b bytes = by (is_forced b.image)
-  where
-    by : (x : Bool) → (x || true) ≡ true
-    by true = refl
-    by false = refl
+first_settles b bytes = or_true (is_forced b.image)
 
 -- A write of a page that isn't page 0 keeps forced writes on.
 forced_stays : (p : ℕ) (bytes : Page) (image : Image) → 1 ≤ p → is_forced image ≡ true → is_forced (with_page p bytes image) ≡ true

@@ -1,16 +1,6 @@
 -- Pages of zeros at the end of an image: what is seen of the image without them, and the end of a merge, which drops them.
-use Rattle.std.proofs.Common.{◌≡◌, inl, inr, ℕ, zero, suc, ◌-◌, ◌<◌, ◌≤◌, [], ◌∷◌, ◌++◌, length, replicate, refl, sym, ap, subst, ◌∙◌, arith, length-append}
-use Rattle.std.specs.Prelude.{true, false}
-use Rattle.std.proofs.lemmas.Bool.{cases_lt}
-use Rattle.std.proofs.lemmas.List.{get_or_append_left, get_or-append_right}
-use Rattle.nb_fields.specs.Bytes.{is_zeros}
-use Rattle.nb_fields.specs.Header.{is_header}
-use Rattle.nb_fields.specs.States.{normal_state}
-use Rattle.nb_model.specs.Account.{Base}
-use Rattle.nb_model.specs.Image.{Page, Image, page_at, first_page, image_scn, image_guid, trimmed}
-use Rattle.nb_model.specs.Owner.{main_page}
-use Rattle.nb_model.specs.Sound.{HasHeader, HasNoZeros, IsOfSize}
-use Rattle.nb_model.specs.Strokes.{finish, on_base, controlled, with_control}
+use Rattle.std.proofs.Common.{◌≡◌, inl, inr, ℕ, zero, suc, ◌-◌, ◌<◌, ◌≤◌, [], ◌∷◌, ◌++◌, length, replicate, refl, sym, ap, subst, ◌∙◌, arith, length-append, true, false}
+use Rattle.nb_model.proofs.Common.{cases_lt, get_or_append_left, get_or-append_right, is_zeros, is_header, normal_state, Base, Page, Image, page_at, first_page, image_scn, image_guid, trimmed, main_page, HasHeader, HasNoZeros, IsOfSize, finish, on_base, controlled, with_control, get_or_past}
 use Rattle.nb_model.proofs.ControlLaws.{control_header}
 use Rattle.nb_model.proofs.ControlMay.{may_finish}
 use Rattle.nb_model.proofs.ControlSound.{MayControl}
@@ -76,13 +66,7 @@ trimmed_at image p low = let cut : Trimming image = trimming image in sym (ap (�
 
 -- there is no page after the end of either
 pub trimmed_past : (image : Image) (p : ℕ) → length image ≤ p → page_at (trimmed image) p ≡ page_at image p
-trimmed_past image p past = none (trimmed image) p (omega (arith, past, trimmed_length image)) ∙ sym (none image p past)
-  where
-    none : (xs : Image) (q : ℕ) → length xs ≤ q → page_at xs q ≡ []
-    none [] zero low = refl
-    none [] (suc q) low = refl
-    none (x ∷ xs) zero low = absurd (omega (arith, low))
-    none (x ∷ xs) (suc q) low = none xs q (omega (arith, low))
+trimmed_past image p past = get_or_past (trimmed image) p [] (omega (arith, past, trimmed_length image)) ∙ sym (get_or_past image p [] past)
 
 -- and each page after is zeros
 pub trimmed_zeros : (image : Image) (p : ℕ) → length (trimmed image) ≤ p → p < length image → is_zeros (page_at image p) ≡ true

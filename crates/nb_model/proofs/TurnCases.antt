@@ -1,34 +1,9 @@
 -- The first turn of a statement is refused, or nothing stood in the way of what it does.
-use Rattle.std.proofs.Common.{◌≡◌, ◌≢◌, inl, inr, ℕ, zero, suc, ◌+◌, ◌≤◌, List, [], ◌∷◌, ◌++◌, length, replicate, refl, sym, ap, ◌∙◌, arith, subst}
-use Rattle.std.specs.Prelude.{Bool, true, false, not, ◌==◌, nat_lt, Option, Some, None, is_none}
-use Rattle.std.proofs.lemmas.Bool.{true≢false, eqb-true, lt-ltb}
-use Rattle.std.proofs.lemmas.Bool.Decides.{leb_tells}
-use Rattle.nb_fields.specs.States.{normal_state, stalled_state}
-use Rattle.nb_host.specs.declared.refusals.Refusal.{Refusal}
-use Rattle.nb_host.specs.declared.refusals.Refusal.TheVariants.{WrongState, NoHistory, NoGuid}
-use Rattle.nb_model.specs.declared.reply.Reply.{Reply}
-use Rattle.nb_model.specs.declared.reply.Reply.TheVariants.{Scn, Refused}
-use Rattle.nb_model.specs.declared.statement.Statement.{Statement}
-use Rattle.nb_model.specs.declared.statement.Statement.TheVariants.{CreateDb, OpenDb, PageNew, Write, Free, BeginBackup, EndBackup, Backup, BackupSince, CopyTo, CreateTable, DropTable, Insert, Update, Delete, Get, Scan, Forced, Access as SetAccess, Reclaim, ShowCache}
-use Rattle.nb_model.specs.Account.{Ask}
-use Rattle.nb_host.specs.Names.{same_name}
-use Rattle.nb_model.specs.Backups.{room_in, ask_of, level_behind, starts, backup_turn, since_turn, copy_turn, close_backup, close_copy}
-use Rattle.nb_model.specs.Causes.{Cause, first_cause, when, read_only, not_state, no_scn, not_free, is_free_entry, runs_other, runs_any, broken_at, not_of_form, no_room, short_for}
-use Rattle.nb_model.specs.Chains.{Chain, History, Slot, Spot, pages_of, backup_spot, level_in, guid_in, free_spot, spots}
-use Rattle.nb_model.specs.Forms.{Draft}
-use Rattle.nb_model.specs.Image.{Image, image_state, image_scn, is_read_only}
-use Rattle.nb_model.specs.Outcomes.{Turn, Begins, Copies, ClosesBackup, ClosesCopy, Ends, Merges, Finishes, Seen, Given, Outcome, next_guid, without_guid, without_hold, says, unless, changes}
-use Rattle.nb_model.specs.Pages.{new_turn, write_turn, free_turn, begin_turn, end_turn, ends_by, end_scn, forced_turn, access_turn, cache_turn}
-use Rattle.nb_model.specs.Strokes.{begin}
-use Rattle.nb_model.specs.Tables.{with_spot, in_table, in_row, create_turn, drop_turn, insert_turn, update_turn, delete_turn, get_turn, scan_turn}
-use Rattle.nb_model.specs.Checks.{reclaim_turn}
-use Rattle.nb_model.specs.Turns.{first_turn, turn}
-use Rattle.nb_model.specs.Well.{is_on_pages}
+use Rattle.std.proofs.Common.{◌≡◌, ◌≢◌, inl, inr, ℕ, zero, suc, ◌+◌, ◌≤◌, List, [], ◌∷◌, ◌++◌, length, replicate, refl, sym, ap, ◌∙◌, arith, subst, Bool, true, false, not, ◌==◌, nat_lt, Option, Some, None, is_none}
+use Rattle.nb_model.proofs.Common.{true≢false, eqb-true, lt-ltb, leb_tells, normal_state, stalled_state, Refusal, WrongState, NoHistory, NoGuid, Reply, Scn, Refused, Statement, CreateDb, OpenDb, PageNew, Write, Free, BeginBackup, EndBackup, Backup, BackupSince, CopyTo, CreateTable, DropTable, Insert, Update, Delete, Get, Scan, Forced, Reclaim, ShowCache, Ask, same_name, room_in, ask_of, level_behind, starts, backup_turn, since_turn, copy_turn, close_backup, close_copy, Cause, first_cause, when, read_only, not_state, no_scn, not_free, is_free_entry, runs_other, runs_any, broken_at, not_of_form, no_room, short_for, Chain, History, Slot, Spot, pages_of, backup_spot, level_in, guid_in, free_spot, spots, Draft, Image, image_state, image_scn, is_read_only, Turn, Begins, Copies, ClosesBackup, ClosesCopy, Ends, Merges, Finishes, Seen, Given, Outcome, next_guid, without_guid, without_hold, says, unless, changes, new_turn, write_turn, free_turn, begin_turn, end_turn, ends_by, end_scn, forced_turn, access_turn, cache_turn, begin, with_spot, in_table, in_row, create_turn, drop_turn, insert_turn, update_turn, delete_turn, get_turn, scan_turn, reclaim_turn, first_turn, turn, is_on_pages, false_true}
+use Rattle.nb_model.specs.declared.statement.Statement.TheVariants.{Access as SetAccess}
 use Rattle.nb_model.proofs.PutSound.{no_first, not_when}
 use Rattle.nb_model.proofs.ToldTurns.{is_told, does_more, told_turn, pages_cases}
-
-false_true : false ≡ true → ⊥
-false_true h = cc
 
 -- A statement is one on pages, or one of the five that begin and end backups and copies.
 pub statement_cases : (P : Statement → Type 0) → ((statement : Statement) → is_on_pages statement ≡ true → P statement) → P BeginBackup → P EndBackup
@@ -54,6 +29,11 @@ pub no_cause : first_cause [] ≡ None
 unfolding first_cause
 no_cause = refl
 
+pub one_cause : (c : Cause) → first_cause (c ∷ []) ≡ c
+unfolding first_cause
+one_cause None = refl
+one_cause (Some r) = refl
+
 is_not : (m n : ℕ) (r : Refusal) → when (not (m == n)) r ≡ None → m ≡ n
 is_not m n r none = by (m == n) refl (not_when (not (m == n)) r none)
   where
@@ -61,7 +41,7 @@ is_not m n r none = by (m == n) refl (not_when (not (m == n)) r none)
     by true is h = eqb-true m n is
     by false is h = absurd (true≢false h)
 
-is_so : (t : Bool) (r : Refusal) → when (not t) r ≡ None → t ≡ true
+pub is_so : (t : Bool) (r : Refusal) → when (not t) r ≡ None → t ≡ true
 is_so true r none = refl
 is_so false r none = absurd (true≢false (not_when true r none))
 

@@ -1,22 +1,6 @@
 -- A refused statement changes nothing and leaves nothing to do.
-use Rattle.std.proofs.Common.{◌≡◌, ℕ, zero, suc, List, [], refl, sym, ap, subst, ◌∙◌}
-use Rattle.std.specs.Prelude.{Bool, true, false, Option, Some, None}
-use Rattle.std.proofs.lemmas.Bool.{true≢false}
-use Rattle.nb_host.specs.declared.refusals.Refusal.{Refusal}
-use Rattle.nb_model.specs.declared.reply.Reply.{Reply}
-use Rattle.nb_model.specs.declared.reply.Reply.TheVariants.{Refused}
-use Rattle.nb_model.specs.declared.statement.Statement.{Statement}
-use Rattle.nb_model.specs.declared.statement.Statement.TheVariants.{CreateDb, OpenDb, PageNew, Write, Free, BeginBackup, EndBackup, Backup, BackupSince, CopyTo, CreateTable, DropTable, Insert, Update, Delete, Get, Scan, Forced, Access, Reclaim, ShowCache}
-use Rattle.nb_model.specs.Account.{Ask}
-use Rattle.nb_model.specs.Forms.{Draft}
-use Rattle.nb_model.specs.Causes.{Cause}
-use Rattle.nb_model.specs.Chains.{Chain, Slot, Spot}
-use Rattle.nb_model.specs.Outcomes.{DoesNothing, Seen, Outcome, says, unless, changes}
-use Rattle.nb_model.specs.Pages.{new_turn, write_turn, free_turn, begin_turn, end_turn, ends_by, forced_turn, access_turn, cache_turn}
-use Rattle.nb_model.specs.Tables.{with_spot, in_table, in_row, create_turn, drop_turn, insert_turn, update_turn, delete_turn, get_turn, scan_turn}
-use Rattle.nb_model.specs.Checks.{reclaim_turn}
-use Rattle.nb_model.specs.Backups.{starts, backup_turn, since_turn, copy_turn}
-use Rattle.nb_model.specs.Turns.{first_turn}
+use Rattle.std.proofs.Common.{◌≡◌, ℕ, zero, suc, List, [], refl, sym, ap, subst, ◌∙◌, Bool, true, false, Option, Some, None}
+use Rattle.nb_model.proofs.Common.{true≢false, Refusal, Reply, Refused, Statement, CreateDb, OpenDb, PageNew, Write, Free, BeginBackup, EndBackup, Backup, BackupSince, CopyTo, CreateTable, DropTable, Insert, Update, Delete, Get, Scan, Forced, Access, Reclaim, ShowCache, Ask, Draft, Cause, Chain, Slot, Spot, DoesNothing, Seen, Outcome, says, unless, changes, new_turn, write_turn, free_turn, begin_turn, end_turn, ends_by, forced_turn, access_turn, cache_turn, with_spot, in_table, in_row, create_turn, drop_turn, insert_turn, update_turn, delete_turn, get_turn, scan_turn, reclaim_turn, starts, backup_turn, since_turn, copy_turn, first_turn}
 use Rattle.nb_model.proofs.StatusLaws.{is_refusal}
 use Rattle.nb_model.proofs.ToldTurns.{Tells, told_turn}
 

@@ -1,22 +1,11 @@
 -- Under a name that is free no database was seen.
-use Rattle.std.proofs.Common.{◌≡◌, ◌⊎◌, inl, inr, ℕ, zero, suc, ◌≤◌, List, [], ◌∷◌, length, take, drop, refl, sym, ap, subst, ◌∙◌, arith, length-take-le, take-take}
-use Rattle.std.specs.Prelude.{Bool, true, false, Some, Ok}
-use Rattle.std.proofs.lemmas.Bool.Decides.{leb_tells}
-use Rattle.nb_fields.specs.Bytes.{is_zeros}
-use Rattle.nb_fields.specs.Free.{is_free_file}
-use Rattle.nb_fields.specs.Header.{is_header, size_of, state_of}
-use Rattle.nb_fields.specs.States.{applying_state}
-use Rattle.nb_host.specs.Files.{File}
-use Rattle.nb_model.specs.Account.{Entry, Missing, Plain, IsBase}
-use Rattle.nb_model.specs.Causes.{is_free_entry}
-use Rattle.nb_model.specs.Image.{Page, Image, first_page, image_state, image_in, cut, trimmed}
-use Rattle.nb_model.specs.Owner.{owner}
-use Rattle.nb_model.specs.Strokes.{base_in}
+use Rattle.std.proofs.Common.{◌≡◌, ◌⊎◌, inl, inr, ℕ, zero, suc, ◌≤◌, List, [], ◌∷◌, length, take, drop, refl, sym, ap, subst, ◌∙◌, arith, length-take-le, take-take, Bool, true, false, Some, Ok}
+use Rattle.nb_model.proofs.Common.{leb_tells, is_zeros, is_free_file, is_header, size_of, state_of, applying_state, File, Entry, Missing, Plain, IsBase, is_free_entry, Page, Image, first_page, image_state, image_in, cut, trimmed, owner, base_in, and_parts, false_true}
 use Rattle.nb_model.proofs.FreeLaws.{free_header}
 use Rattle.nb_model.proofs.HeaderLaws.{header-long, same-header, same-number}
 use Rattle.nb_model.proofs.MainLaws.{some_page}
 use Rattle.nb_model.proofs.OpenedLaws.{HasMain, has_main, main_header, same_state}
-use Rattle.std.proofs.lemmas.Bool.{and_parts}
+use Rattle.nb_model.proofs.ImageLaws.{trimmed-none}
 
 -- page 0 stays where pages of zeros are cut off, or none does
 trimmed_first : (p : Page) (ps : List Page) → (first_page (trimmed (p ∷ ps)) ≡ p) ⊎ (trimmed (p ∷ ps) ≡ [])
@@ -33,10 +22,6 @@ trimmed_first p ps = by (trimmed ps) (is_zeros p)
 no_header : is_header (first_page []) ≡ true → ⊥
 no_header h = absurd (let some = some_page [] h in omega arith)
 
-none_kept : trimmed [] ≡ []
-unfolding trimmed
-none_kept = refl
-
 -- Where the image of a file's bytes has a header, it is the front of the file.
 image_front : (bytes : List ℕ) → is_header (first_page (image_in bytes)) ≡ true → take 64 (first_page (image_in bytes)) ≡ take 64 bytes
 unfolding image_in cut
@@ -46,7 +31,7 @@ image_front bytes header = by (length bytes) header
     size = size_of bytes
 
     none : is_header (first_page (trimmed [])) ≡ true → ⊥
-    none h = no_header (ap (λ (x : Image). is_header (first_page x)) (sym none_kept) ∙ h)
+    none h = no_header (ap (λ (x : Image). is_header (first_page x)) (sym trimmed-none) ∙ h)
 
     wide : size ≤ length bytes → is_header (take size bytes) ≡ true → 64 ≤ size
     wide low h = omega (arith, header-long (take size bytes) h, length-take-le size bytes low)
@@ -63,9 +48,6 @@ image_front bytes header = by (length bytes) header
       | inl w ↦ rw (w.0, cut) (first (cut size most (drop size bytes)) w.1 (subst (λ (t : Bool). is_header (first_page (trimmed (elim t as (λ z. List Page) [ true ↦ take size bytes ∷ cut size most (drop size bytes) | false ↦ [] ]))) ≡ true) w.0 h))
       | inr w ↦ absurd (none (subst (λ (t : Bool). is_header (first_page (trimmed (elim t as (λ z. List Page) [ true ↦ take size bytes ∷ cut size most (drop size bytes) | false ↦ [] ]))) ≡ true) w.0 h))
     ]
-
-false_true : false ≡ true → ⊥
-false_true h = cc
 
 -- What stands under a free name is no database in one of the three states.
 pub free_unseen : (entry : Entry) → is_free_entry entry ≡ true → is_header (first_page (base_in entry).image) ≡ true → image_state (base_in entry).image ≤ 2 → ⊥

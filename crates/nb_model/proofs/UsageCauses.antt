@@ -1,17 +1,7 @@
 -- Causes that aren't the refusal of words which name no job.
-use Rattle.std.proofs.Common.{◌≡◌, ◌≢◌, ℕ, List, [], ◌∷◌, length, map}
-use Rattle.nb_fields.specs.Header.{is_header, size_of}
-use Rattle.nb_fields.specs.Places.{most_pages}
-use Rattle.std.specs.Prelude.{Bool, Option, Some, None, Result, Ok, Err, true, false, nat_lt, not, min, ◌/◌, ◌%◌, ◌==◌, ◌||◌}
-use Rattle.std.specs.List.{AllByRecursion}
-use Rattle.nb_host.specs.declared.refusals.Refusal.{Refusal}
-use Rattle.nb_host.specs.declared.refusals.Refusal.TheVariants.{Usage, NotDatabase}
-use Rattle.nb_model.specs.Image.{Image}
-use Rattle.nb_model.specs.Causes.{Cause, first_cause, when, read_only, not_raw, not_database, lowest_broken, runs_other, runs_any, broken_at, too_short, short_for}
-use Rattle.nb_model.specs.Chains.{Chain, Spot, pages_of}
-use Rattle.nb_model.specs.Checks.{unsound_by, check_cause}
+use Rattle.std.proofs.Common.{◌≢◌, ℕ, List, [], ◌∷◌, length, map, Bool, Option, Some, None, Result, Ok, Err, true, false, nat_lt, not, min, ◌/◌, ◌%◌, ◌==◌, ◌||◌}
+use Rattle.nb_model.proofs.Common.{is_header, size_of, most_pages, AllByRecursion, Refusal, Usage, NotDatabase, Image, Cause, first_cause, when, read_only, not_raw, not_database, lowest_broken, runs_other, runs_any, broken_at, too_short, short_for, Chain, Spot, pages_of, unsound_by, check_cause, chains, some_same}
 use Rattle.nb_model.specs.Facts.{unsound}
-use Rattle.nb_model.specs.Rows.{chains}
 
 abbrev pub IsOther : Cause → Type 0
 IsOther c = c ≢ Some Usage
@@ -26,10 +16,7 @@ other_first (None ∷ cs) h = other_first cs h.1
 other_first (Some r ∷ cs) h = h.0
 
 pub other_when : (test : Bool) (r : Refusal) → r ≢ Usage → IsOther (when test r)
-other_when true r h e = h (same e)
-  where
-    same : Some r ≡ Some Usage → r ≡ Usage
-    same k = cc
+other_when true r h e = h (some_same r Usage e)
 other_when false r h e = none_other e
 
 -- nor is a file that can't be a database

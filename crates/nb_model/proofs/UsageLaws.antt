@@ -1,24 +1,7 @@
 -- No statement is refused as words that name no job.
-use Rattle.std.proofs.Common.{◌≡◌, ◌≢◌, ℕ, zero, suc, List, [], ◌∷◌, ◌++◌, refl, sym, ap, subst, ◌∙◌}
-use Rattle.std.specs.Prelude.{Bool, Option, Some, None, false}
-use Rattle.std.specs.List.{AllByRecursion}
-use Rattle.std.proofs.lemmas.Bool.{true≢false}
-use Rattle.nb_host.specs.declared.refusals.Refusal.{Refusal}
-use Rattle.nb_host.specs.declared.refusals.Refusal.TheVariants.{Usage}
-use Rattle.nb_model.specs.declared.reply.Reply.{Reply}
-use Rattle.nb_model.specs.declared.reply.Reply.TheVariants.{Done, Refused}
-use Rattle.nb_model.specs.declared.statement.Statement.{Statement}
-use Rattle.nb_model.specs.declared.statement.Statement.TheVariants.{CreateDb, OpenDb, PageNew, Write, Free, BeginBackup, EndBackup, Backup, BackupSince, CopyTo, CreateTable, DropTable, Insert, Update, Delete, Get, Scan, Forced, Access as SetAccess, Reclaim, ShowCache}
-use Rattle.nb_model.specs.Account.{Ask}
-use Rattle.nb_model.specs.Forms.{Draft}
-use Rattle.nb_model.specs.Causes.{Cause, not_of_form, no_room}
-use Rattle.nb_model.specs.Chains.{Chain, History, Slot, Spot, pages_of}
-use Rattle.nb_model.specs.Outcomes.{Seen, Outcome, unless, changes}
-use Rattle.nb_model.specs.Pages.{new_turn, write_turn, free_turn, begin_turn, end_turn, ends_by, forced_turn, access_turn, cache_turn}
-use Rattle.nb_model.specs.Tables.{with_spot, in_table, in_row, create_turn, drop_turn, insert_turn, update_turn, delete_turn, get_turn, scan_turn}
-use Rattle.nb_model.specs.Backups.{room_in, starts, backup_turn, since_turn, copy_turn}
-use Rattle.nb_model.specs.Checks.{reclaim_turn}
-use Rattle.nb_model.specs.Turns.{first_turn}
+use Rattle.std.proofs.Common.{◌≡◌, ◌≢◌, ℕ, zero, suc, List, [], ◌∷◌, ◌++◌, refl, sym, ap, subst, ◌∙◌, Bool, Option, Some, None, false}
+use Rattle.nb_model.proofs.Common.{AllByRecursion, true≢false, Refusal, Usage, Reply, Done, Refused, Statement, CreateDb, OpenDb, PageNew, Write, Free, BeginBackup, EndBackup, Backup, BackupSince, CopyTo, CreateTable, DropTable, Insert, Update, Delete, Get, Scan, Forced, Reclaim, ShowCache, Ask, Draft, Cause, not_of_form, no_room, Chain, History, Slot, Spot, pages_of, Seen, Outcome, unless, changes, new_turn, write_turn, free_turn, begin_turn, end_turn, ends_by, forced_turn, access_turn, cache_turn, with_spot, in_table, in_row, create_turn, drop_turn, insert_turn, update_turn, delete_turn, get_turn, scan_turn, room_in, starts, backup_turn, since_turn, copy_turn, reclaim_turn, first_turn}
+use Rattle.nb_model.specs.declared.statement.Statement.TheVariants.{Access as SetAccess}
 use Rattle.nb_model.proofs.StatusLaws.{is_refusal}
 use Rattle.nb_model.proofs.ToldTurns.{Tells, told_turn}
 use Rattle.nb_model.proofs.UsageCauses.{IsOther, none_other, other_first, other_when, other_broken, other_raw, other_read_only, other_runs, other_short, other_short_for, other_pages, other_runs_any, other_check}

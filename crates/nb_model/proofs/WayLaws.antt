@@ -1,21 +1,9 @@
 -- The pages that wait go out one by one: what is left and what reads after each of them.
-use Rattle.std.proofs.Common.{◌≡◌, ◌≢◌, ◌⊎◌, inl, inr, ⊎_elim, ℕ, suc, ◌<◌, ◌≤◌, List, [], ◌∷◌, ◌++◌, length, refl, sym, ap, subst, ◌∙◌, arith, append_assoc, length-append}
-use Rattle.std.specs.Prelude.{Bool, true, false, ◌==◌, ◌||◌, nat_eq, nat_le}
-use Rattle.std.specs.List.{list_any}
-use Rattle.std.proofs.lemmas.Bool.{true≢false}
-use Rattle.std.proofs.lemmas.List.{append-nil}
-use Rattle.std.proofs.lemmas.Bool.Decides.{eqb_tells, leb_tells}
-use Rattle.nb_fields.specs.Places.{is_scn_place}
-use Rattle.nb_fields.specs.Header.{state_of, size_of}
-use Rattle.nb_fields.specs.States.{stalled_state, merge_state}
-use Rattle.nb_model.specs.Image.{Page, Image, page_at, first_page, image_size, image_state, is_forced, with_page}
-use Rattle.nb_model.specs.Account.{Base}
-use Rattle.nb_model.specs.Strokes.{page, noted, on_base}
-use Rattle.nb_model.specs.Trail.{Trail, bases_of, settles_at, after_stroke, HasPage, IsFirm}
-use Rattle.nb_model.specs.Behind.{IsBehind, IsRewritten, IsOnTheWay, IsRead}
+use Rattle.std.proofs.Common.{◌≡◌, ◌≢◌, ◌⊎◌, inl, inr, ⊎_elim, ℕ, suc, ◌<◌, ◌≤◌, List, [], ◌∷◌, ◌++◌, length, refl, sym, ap, subst, ◌∙◌, arith, append_assoc, length-append, Bool, true, false, ◌==◌, ◌||◌, nat_eq, nat_le}
+use Rattle.nb_model.proofs.Common.{list_any, true≢false, append-nil, eqb_tells, leb_tells, is_scn_place, state_of, size_of, stalled_state, merge_state, Page, Image, page_at, first_page, image_size, image_state, is_forced, with_page, Base, page, noted, on_base, Trail, bases_of, settles_at, after_stroke, HasPage, IsFirm, IsBehind, IsRewritten, IsOnTheWay, IsRead, Contains-push}
 use Rattle.nb_model.proofs.SoundLaws.{with_page_length}
-use Rattle.nb_model.proofs.StrokeLaws.{with_page_same, with_page_other, whole_page, stroke_page}
-use Rattle.nb_model.proofs.TrailLaws.{last_there, waits_after}
+use Rattle.nb_model.proofs.StrokeLaws.{with_page_same, with_page_other, whole_page, stroke_page, stroke-frozen, stroke-diverted}
+use Rattle.nb_model.proofs.TrailLaws.{waits_after}
 use Rattle.nb_model.proofs.BehindLaws.{f_there}
 
 -- images with the same pages are the same
@@ -44,18 +32,6 @@ module _ (b : Base) (p : ℕ) (bytes : Page) (some : 1 ≤ p) (low : p < length 
 
   pub put_long : length (on_base (page p bytes) b).image ≡ length b.image
   put_long = ap length put_image ∙ with_page_length p bytes b.image (omega arith) ∙ omega arith
-
-  pub put_frozen : (on_base (page p bytes) b).frozen ≡ b.frozen
-  unfolding on_base
-  put_frozen = refl
-
-  -- outside the stalled state no entry is noted
-  pub put_diverted : image_state b.image ≢ stalled_state → (on_base (page p bytes) b).diverted ≡ b.diverted
-  unfolding on_base
-  put_diverted main = elim (eqb_tells (image_state b.image) 1) [
-    | inl w ↦ absurd (main w.1)
-    | inr w ↦ ap (λ (t : Bool). elim t as (λ z. List ℕ) [ true ↦ noted p b.diverted | false ↦ b.diverted ]) w.0
-  ]
 
   -- and in it one more at most
   pub put_longer : (more : List ℕ) × ((on_base (page p bytes) b).diverted ≡ b.diverted ++ more)
@@ -110,13 +86,13 @@ module _ (t : Trail) (p : ℕ) (some : 1 ≤ p) (low : p < length t.base.image) 
           (way.others q (below q inside_q) plain)
     ];
     below = λ stalled. absurd (main stalled);
-    frozen = put_frozen b p own some (inside b way.long way.first) ∙ way.frozen;
+    frozen = stroke-frozen b p own ∙ way.frozen;
     diverted = (way.diverted.0, way.diverted.1 ∙ ap (λ (x : List ℕ). x ++ way.diverted.0) (sym same_table));
     merging = λ m. same_table ∙ way.merging m;
   }
     where
       same_table : (on_base (page p own) b).diverted ≡ b.diverted
-      same_table = put_diverted b p own some (inside b way.long way.first) (main_b b way.long way.first)
+      same_table = stroke-diverted b p own (main_b b way.long way.first)
 
       below : (q : ℕ) → q < length (on_base (page p own) b).image → q < length b.image
       below q low_q = omega (arith, low_q, long_put b way.long way.first, way.long)
@@ -128,7 +104,7 @@ module _ (t : Trail) (p : ℕ) (some : 1 ≤ p) (low : p < length t.base.image) 
       long = long_put b left.mixed.long left.mixed.first;
       first = first_put b left.mixed.long left.mixed.first;
       each = λ q inside_q. elim (eqb_tells q p) [
-        | inl w ↦ record { base = t.base; there = last_there t.earlier t.base; below = omega (arith, w.1, low); same = here b left.mixed.long left.mixed.first q w.1 }
+        | inl w ↦ record { base = t.base; there = Contains-push t.earlier t.base; below = omega (arith, w.1, low); same = here b left.mixed.long left.mixed.first q w.1 }
         | inr w ↦ subst (HasPage (bases_of t) q) (sym (there b left.mixed.long left.mixed.first q w.1)) (left.mixed.each q (omega (arith, inside_q, long_put b left.mixed.long left.mixed.first, left.mixed.long)))
       ];
     };
@@ -137,7 +113,7 @@ module _ (t : Trail) (p : ℕ) (some : 1 ≤ p) (low : p < length t.base.image) 
       | inr w ↦ there b left.mixed.long left.mixed.first q w.1 ∙ left.kept q at
     ];
     rest = record {
-      frozen = put_frozen b p own some (inside b left.mixed.long left.mixed.first) ∙ left.rest.frozen;
+      frozen = stroke-frozen b p own ∙ left.rest.frozen;
       diverted = (left.rest.diverted.0, left.rest.diverted.1 ∙ ap (λ (x : List ℕ). x ++ left.rest.diverted.0) (sym same_table));
       merging = λ m. same_table ∙ left.rest.merging m;
       whole = λ none. absurd (unsettled none);
@@ -145,7 +121,7 @@ module _ (t : Trail) (p : ℕ) (some : 1 ≤ p) (low : p < length t.base.image) 
   }
     where
       same_table : (on_base (page p own) b).diverted ≡ b.diverted
-      same_table = put_diverted b p own some (inside b left.mixed.long left.mixed.first) (main_b b left.mixed.long left.mixed.first)
+      same_table = stroke-diverted b p own (main_b b left.mixed.long left.mixed.first)
 
   -- What reads then: the page waits no longer.
   pub read_put : (f : Trail) (waits later : ℕ → Bool) (r : Base) → ((q : ℕ) → q ≢ p → later q ≡ waits q) → later p ≡ false → IsRead f t waits r → IsRead f t later (on_base (page p (page_at t.base.image p)) r)
@@ -160,8 +136,8 @@ module _ (t : Trail) (p : ℕ) (some : 1 ≤ p) (low : p < length t.base.image) 
       | inl w ↦ here r is.long is.first q w.1
       | inr w ↦ there r is.long is.first q w.1 ∙ is.others q (sym (as_before q w.1) ∙ none)
     ];
-    frozen = put_frozen r p own some (inside r is.long is.first) ∙ is.frozen;
-    diverted = put_diverted r p own some (inside r is.long is.first) (main_b r is.long is.first) ∙ is.diverted;
+    frozen = stroke-frozen r p own ∙ is.frozen;
+    diverted = stroke-diverted r p own (main_b r is.long is.first) ∙ is.diverted;
   }
 
 -- The way begins where the files are behind,
@@ -195,7 +171,7 @@ read_firm f t waits r behind unsettled is none = record {
   where
     by : (p : ℕ) → p < length r.image → (u : Bool) → waits p ≡ u → HasPage (bases_of t) p (page_at r.image p)
     by p low true w = record { base = f.base; there = f_there f t behind; below = omega (arith, low, is.long, behind.long); same = is.waiting p w }
-    by p low false w = record { base = t.base; there = last_there t.earlier t.base; below = omega (arith, low, is.long); same = is.others p w }
+    by p low false w = record { base = t.base; there = Contains-push t.earlier t.base; below = omega (arith, low, is.long); same = is.others p w }
 
 -- and where none waits it is what is seen.
 pub read_done : (f t : Trail) (waits : ℕ → Bool) (r : Base) → IsRead f t waits r → ((p : ℕ) → waits p ≡ false) → r ≡ t.base
@@ -227,14 +203,14 @@ module _ (f t : Trail) (p : ℕ) (bytes : Page) (is : IsBehind f t) (some : 1 �
     part = ap (λ (bs : List Base). bs ++ new ∷ []) is.part ∙ append_assoc is.before (bases_of f ++ is.behind) (new ∷ []) ∙ ap (λ (bs : List Base). is.before ++ bs) (append_assoc (bases_of f) is.behind (new ∷ []));
     long = is.long ∙ sym (put_long t.base p bytes some low);
     first = is.first ∙ sym first;
-    frozen = is.frozen ∙ sym (put_frozen t.base p bytes some low);
+    frozen = is.frozen ∙ sym (stroke-frozen t.base p bytes);
     diverted = (
       is.diverted.0 ++ longer.0,
       longer.1 ∙ ap (λ (x : List ℕ). x ++ longer.0) is.diverted.1 ∙ append_assoc f.base.diverted is.diverted.0 longer.0,
     );
     merging = λ m.
         let merges : image_state t.base.image ≡ merge_state = sym (ap state_of first) ∙ m in
-        is.merging merges ∙ sym (put_diverted t.base p bytes some low (λ stalled. absurd (omega (arith, stalled, merges))));
+        is.merging merges ∙ sym (stroke-diverted t.base p bytes (λ stalled. absurd (omega (arith, stalled, merges))));
   })
     where
       new : Base

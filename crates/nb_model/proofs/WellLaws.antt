@@ -1,11 +1,6 @@
 -- A new database is well.
-use Rattle.std.proofs.Common.{ℕ, ◌≤◌, List, refl, arith}
-use Rattle.std.specs.Prelude.{Some, IsTrue}
-use Rattle.std.specs.List.{flat_map}
-use Rattle.nb_fields.specs.Fresh.{fresh}
-use Rattle.nb_fields.specs.Places.{is_page_size}
-use Rattle.nb_model.specs.Account.{base_of, Kept}
-use Rattle.nb_model.specs.Well.{IsWell, IsWellBase}
+use Rattle.std.proofs.Common.{ℕ, ◌≤◌, List, refl, arith, Some, IsTrue}
+use Rattle.nb_model.proofs.Common.{flat_map, fresh, is_page_size, base_of, Kept, IsWell, IsWellBase}
 use Rattle.nb_model.proofs.MainLaws.{main_facts}
 use Rattle.nb_model.proofs.FreshImageLaws.{fresh_state, fresh_scn, fresh_main}
 use Rattle.nb_model.proofs.FreshSound.{fresh_sound, fresh_past}

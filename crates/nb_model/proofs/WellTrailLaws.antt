@@ -1,23 +1,6 @@
 -- Whatever a crash leaves of a well trail is well, and page strokes that fit keep a trail well.
-use Rattle.std.proofs.Common.{◌≡◌, ◌≤◌, ℕ, zero, suc, ◌<◌, List, [], ◌∷◌, ◌++◌, length, take, refl, sym, ap, subst, ◌∙◌, arith}
-use Rattle.std.specs.Prelude.{IsTrue, true, Contains}
-use Rattle.nb_fields.specs.Fresh.{fresh}
-use Rattle.nb_fields.specs.Places.{is_page_size}
-use Rattle.nb_fields.specs.Header.{is_header}
-use Rattle.nb_fields.specs.States.{normal_state, stalled_state}
-use Rattle.nb_model.specs.Going.{IsNamed}
-use Rattle.nb_model.specs.declared.statement.Statement.{Statement}
-use Rattle.nb_model.specs.Image.{Page, Image, first_page, image_state, image_scn, image_guid, with_page}
-use Rattle.nb_model.specs.Account.{Kept, Base, base_of}
-use Rattle.nb_model.specs.Strokes.{Stroke, page, merged_page, on_base}
-use Rattle.nb_model.specs.Outcomes.{Begins, Seen}
-use Rattle.nb_model.specs.Turns.{first_turn}
-use Rattle.nb_model.specs.Sound.{IsSoundImage, HasHeader}
-use Rattle.nb_model.specs.Stands.{IsKeptAs, GoesOn, HasRows, NamesPast}
-use Rattle.nb_model.specs.Trail.{Trail, settled, bases_of, after_stroke, after_strokes, IsLeft}
-use Rattle.nb_model.specs.Earlier.{IsEarlier, IsCovered}
-use Rattle.nb_model.specs.Well.{IsWellIn, IsWellBase, IsOfRecord, IsWellBaseIn, is_on_pages}
-use Rattle.nb_model.specs.WellTrail.{IsOverFrozen, AllGoOn, IsWellTrail}
+use Rattle.std.proofs.Common.{◌≡◌, ◌≤◌, ℕ, zero, suc, ◌<◌, List, [], ◌∷◌, ◌++◌, length, take, refl, sym, ap, subst, ◌∙◌, arith, IsTrue, true, Contains}
+use Rattle.nb_model.proofs.Common.{fresh, is_page_size, is_header, normal_state, stalled_state, IsNamed, Statement, Page, Image, first_page, image_state, image_scn, image_guid, with_page, Kept, Base, base_of, Stroke, page, merged_page, on_base, Begins, Seen, first_turn, IsSoundImage, HasHeader, IsKeptAs, GoesOn, HasRows, NamesPast, Trail, settled, bases_of, after_stroke, after_strokes, IsLeft, IsEarlier, IsCovered, IsWellIn, IsWellBase, IsOfRecord, IsWellBaseIn, is_on_pages, IsOverFrozen, AllGoOn, IsWellTrail, Contains-push}
 use Rattle.nb_model.proofs.FitLaws.{IsWhole, IsFitting, AreFitting}
 use Rattle.nb_model.proofs.SoundLaws.{FitsAt, header_stays, fields_stay, state_stays, guid_stays, page_sound}
 use Rattle.nb_model.proofs.PutSound.{header_whole}
@@ -26,7 +9,7 @@ use Rattle.nb_model.proofs.NoRows.{HasNoRows}
 use Rattle.nb_model.proofs.PagesFit.{pages_fit}
 use Rattle.nb_model.proofs.WellLaws.{fresh_well_base}
 use Rattle.nb_model.proofs.NormalLaws.{IsQuiet, quiet, told_whole}
-use Rattle.nb_model.proofs.TrailLaws.{last_there, trail_base}
+use Rattle.nb_model.proofs.TrailLaws.{trail_base}
 use Rattle.nb_model.proofs.MixtureLaws.{mixed_scn, mixed_state, mixed_guid}
 use Rattle.nb_model.proofs.EarlierLaws.{write_goes_on, settled_sound, bases_after, last_one, trail_goes_on, left_sound}
 use Rattle.nb_model.proofs.StalledLaws.{stroke_stalled, stroke_over, left_stalled}
@@ -47,7 +30,7 @@ of_record kept a b frozen guid is = record { backup = is.backup; kept_as = subst
 -- Whatever a crash leaves of a well trail is well.
 module _ (kept : List Kept) (t : Trail) (b : Base) (w : IsWellTrail kept t) (left : IsLeft t b) where
   there : Contains (bases_of t) t.base
-  there = last_there t.earlier t.base
+  there = Contains-push t.earlier t.base
 
   left_state : image_state b.image ≡ image_state t.base.image
   left_state = mixed_state (bases_of t) t.base b.image left.mixed
@@ -117,7 +100,7 @@ module _ (kept : List Kept) (t : Trail) (p : ℕ) (bytes : Page) (w : IsWellTrai
   whole = base_whole kept t.base w.base
 
   now_there : Contains (bases_of t) t.base
-  now_there = last_there t.earlier t.base
+  now_there = Contains-push t.earlier t.base
 
   -- all go on from a record from which all went on
   pub go_on : (r : Kept) → AllGoOn t r → AllGoOn later r
@@ -129,7 +112,7 @@ module _ (kept : List Kept) (t : Trail) (p : ℕ) (bytes : Page) (w : IsWellTrai
 
   -- the last goes on
   last_goes_on : (r : Kept) → AllGoOn later r → GoesOn r later_base.image
-  last_goes_on r all = all later_base (subst (Contains (bases_of later)) (sym base_is) (last_there later.earlier later.base))
+  last_goes_on r all = all later_base (subst (Contains (bases_of later)) (sym base_is) (Contains-push later.earlier later.base))
 
   state : image_state later_base.image ≡ image_state now
   state = ap image_state image_is ∙ state_stays now p page_now whole.fields whole.sound fits

@@ -1,26 +1,10 @@
 -- A copy of a kept image is accepted as the first file of a chain, and a kept chain gives the kept image.
-use Rattle.std.proofs.Common.{◌≡◌, ℕ, ◌+◌, ◌-◌, ◌*◌, ◌/◌, ◌%◌, ◌<◌, ◌≤◌, List, [], ◌∷◌, ◌++◌, length, take, refl, sym, ap, subst, ◌∙◌, arith, length-append}
-use Rattle.std.specs.Prelude.{Bool, true, false, not, nat_lt, Some, None, Ok}
-use Rattle.std.proofs.lemmas.List.{take-append-le}
-use Rattle.std.proofs.Math.Nat.{mul-mod_left, mul-div_cancel}
-use Rattle.nb_fields.specs.Bytes.{number_of, number_in, part}
-use Rattle.nb_fields.specs.Header.{is_header, state_of, size_of, scn_of, guid_of}
-use Rattle.nb_fields.proofs.HeaderLaws.{is_header-take}
-use Rattle.nb_fields.proofs.PartLaws.{part-take}
-use Rattle.nb_fields.specs.Places.{most_pages}
-use Rattle.nb_fields.specs.States.{stalled_state}
-use Rattle.nb_host.specs.Files.{Files}
-use Rattle.nb_host.specs.declared.refusals.Refusal.{Refusal}
-use Rattle.nb_model.specs.Image.{Page, Image, image_size, first_page, cut}
-use Rattle.nb_model.specs.Account.{Kept}
-use Rattle.nb_model.specs.Causes.{Cause, first_cause, when}
-use Rattle.nb_model.specs.Levels.{joined, numbered_from, begins_level}
-use Rattle.nb_model.specs.Restoring.{Link, whole_link, is_bad_length, not_whole, first_link, next_links, linked, verdict, applied}
-use Rattle.nb_model.specs.Sound.{IsOfSize, HasNoZeros}
-use Rattle.nb_model.specs.Line.{HoldLine, HoldsFirst, first_file, next_files, last_in}
+use Rattle.std.proofs.Common.{◌≡◌, ℕ, ◌+◌, ◌-◌, ◌*◌, ◌/◌, ◌%◌, ◌<◌, ◌≤◌, List, [], ◌∷◌, ◌++◌, length, take, refl, sym, ap, subst, ◌∙◌, arith, length-append, Bool, true, false, not, nat_lt, Some, None, Ok}
+use Rattle.nb_model.proofs.Common.{take-append-le, mul-mod_left, mul-div_cancel, number_of, number_in, part, is_header, state_of, size_of, scn_of, guid_of, is_header-take, part-take, most_pages, stalled_state, Files, Refusal, Page, Image, image_size, first_page, cut, Kept, Cause, first_cause, when, joined, numbered_from, begins_level, Link, whole_link, is_bad_length, not_whole, first_link, next_links, verdict, applied, IsOfSize, HasNoZeros, HoldLine, HoldsFirst, first_file, next_files, last_in, or_from}
+use Rattle.nb_model.specs.Restoring.{linked}
 use Rattle.nb_model.proofs.HeaderLaws.{first_byte, header-long, header-kind}
 use Rattle.nb_model.proofs.ImageLaws.{all-append, length-joined, cut-joined}
-use Rattle.nb_model.proofs.ReadLaws.{eq_yes, lt_no, or_no}
+use Rattle.nb_model.proofs.ReadLaws.{eq_yes, lt_no}
 use Rattle.nb_model.proofs.LineLaws.{line_applied}
 use Rattle.nb_model.proofs.ChainLaws.{line_accepted, held_line}
 
@@ -30,10 +14,7 @@ one_is_no_level bs = refl
 
 -- a page with a header begins no level file
 no_level : (p : Page) (rest : List ℕ) → is_header p ≡ true → begins_level (p ++ rest) ≡ false
-no_level [] rest h = absurd (none (header-long [] h))
-  where
-    none : 64 ≤ 0 → ⊥
-    none h = omega arith
+no_level [] rest h = absurd (let few : 64 ≤ 0 = header-long [] h in omega (arith, few))
 no_level (b ∷ bs) rest h = ap (λ (x : ℕ). begins_level (x ∷ (bs ++ rest))) (sym (first_byte b bs) ∙ header-kind (b ∷ bs) h) ∙ one_is_no_level (bs ++ rest)
 
 -- the first 64 bytes of a file are those of its first page
@@ -56,12 +37,12 @@ good_length : (bytes : List ℕ) (n size : ℕ) → size_of bytes ≡ size → l
 good_length bytes n size e long some least most =
     let whole : length bytes % size_of bytes ≡ 0 = ap (λ x. length bytes % x) e ∙ ap (λ x. x % size) long ∙ mul-mod_left n size in
     let count : length bytes / size_of bytes ≡ n = ap (λ x. length bytes / x) e ∙ ap (λ x. x / size) long ∙ mul-div_cancel n some in
-    or_no _ _ (ap not (eq_yes _ _ whole)) (or_no _ _ (ap (λ x. nat_lt x 5) count ∙ lt_no n 5 least) (ap (λ x. nat_lt most_pages x) count ∙ lt_no most_pages n most))
+    or_from _ _ (ap not (eq_yes _ _ whole)) (or_from _ _ (ap (λ x. nat_lt x 5) count ∙ lt_no n 5 least) (ap (λ x. nat_lt most_pages x) count ∙ lt_no most_pages n most))
 
-when_false : (t : Bool) (r : Refusal) → t ≡ false → when t r ≡ None
+pub when_false : (t : Bool) (r : Refusal) → t ≡ false → when t r ≡ None
 when_false t r e = rw e refl
 
-two_none : (a b : Cause) → a ≡ None → b ≡ None → first_cause (a ∷ b ∷ []) ≡ None
+pub two_none : (a b : Cause) → a ≡ None → b ≡ None → first_cause (a ∷ b ∷ []) ≡ None
 unfolding first_cause
 two_none a b ea eb = rw (ea, first_cause) (rw (eb, first_cause) refl)
 

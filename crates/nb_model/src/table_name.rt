@@ -1,6 +1,6 @@
 ghost use Rattle.std.specs.Prelude.{◌≡◌, IsTrue, IfSome, is_some};
 ghost use Rattle.std.specs.List.{list_all};
-ghost use Rattle.nb_model.specs.TableNames.{is_table_name, is_letter, is_table_byte};
+ghost use Rattle.nb_model.specs.TableNames.{is_table_name, is_table_byte};
 
 use arrayvec::ArrayString;
 use nb_host::as_text;

@@ -1,11 +1,8 @@
 -- Pages that wait are written out, one after another: nothing changes but which pages wait.
-use Rattle.std.proofs.Common.{◌≡◌, ℕ, refl, ap, ◌∙◌}
-use Rattle.std.specs.Prelude.{None}
-use Rattle.nb_host.specs.World.{World}
+use Rattle.std.proofs.Common.{◌≡◌, ℕ, refl, ap, ◌∙◌, None}
+use Rattle.nb_owner.proofs.Common.{World, with_rank, Held, bare}
 use Rattle.nb_change.specs.Gave.{GaveNothing}
 use Rattle.nb_change.proofs.GaveLaws.{nothing_joined}
-use Rattle.nb_cache.specs.Held.{with_rank}
-use Rattle.nb_owner.specs.Open.{Held, bare}
 use Rattle.nb_owner.proofs.RankLaws.{marked_bare}
 
 -- what stays of the world, of what is held, and of the count of faults

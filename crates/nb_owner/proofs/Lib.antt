@@ -7,3 +7,4 @@ pub mod OutLaws
 pub mod SlotLaws
 pub mod SeenLaws
 pub mod SizeLaws
+mod Common

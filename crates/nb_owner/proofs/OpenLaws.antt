@@ -1,27 +1,11 @@
 -- What is in memory is what was seen last, after each call.
-use Rattle.std.proofs.Common.{◌≡◌, ◌≢◌, ◌⊎◌, inl, inr, ⊎_elim, ℕ, zero, suc, ◌+◌, ◌-◌, ◌<◌, ◌≤◌, Bool, nat_eq, true, false, List, [], ◌∷◌, length, take, Option, Some, None, refl, sym, ap, subst, ◌∙◌, arith}
-use Rattle.std.specs.Prelude.{is_some, slice_get, MatchOption, if◌then◌else◌}
-use Rattle.std.specs.Option.{option_and_then, option_map, option_map_or}
-use Rattle.std.specs.List.{AllByRecursion, IsDistinct}
-use Rattle.std.specs.Map.{keys_of, lookup_entry, remove_entry}
-use Rattle.std.proofs.lemmas.Bool.{true≢false, eqb-false}
-use Rattle.std.proofs.lemmas.Bool.Decides.{leb_tells}
-use Rattle.nb_fields.specs.States.{normal_state, stalled_state, merge_state}
-use Rattle.lru.specs.LruCache.{lru_cache, promoted, put_entries}
-use Rattle.nb_model.specs.Image.{Page, Image, page_at, first_page, image_scn, image_guid, trimmed, with_page}
-use Rattle.nb_model.specs.Account.{Ask, Base}
-use Rattle.nb_model.specs.Strokes.{page, begin, ends, finish, on_base, with_control}
-use Rattle.nb_model.specs.Trail.{Trail, after_stroke}
+use Rattle.std.proofs.Common.{◌≡◌, ◌≢◌, ◌⊎◌, inl, inr, ⊎_elim, ℕ, zero, suc, ◌+◌, ◌-◌, ◌<◌, ◌≤◌, Bool, nat_eq, true, false, List, [], ◌∷◌, length, take, Option, Some, None, refl, sym, ap, subst, ◌∙◌, arith, is_some, slice_get, MatchOption, if◌then◌else◌}
+use Rattle.nb_owner.proofs.Common.{option_and_then, option_map, option_map_or, AllByRecursion, IsDistinct, keys_of, lookup_entry, remove_entry, true≢false, eqb-false, leb_tells, normal_state, lru_cache, promoted, put_entries, Page, Image, page_at, first_page, image_scn, image_guid, trimmed, with_page, Ask, Base, page, begin, ends, finish, with_control, Trail, after_stroke, trail_base, World, Fits, merged_fits, Slot, slot_of, rank_of, with_rank, dropped, NoneWaits, IsNoLater, GoesFirst, Held, Pages, IsOpen, HasBlock, AreOf, IsValid, bare, used, behind_first, but_below, begun_image, ended_image, stroke_page}
 use Rattle.nb_model.proofs.StrokeLaws.{with_page_same, with_page_other}
-use Rattle.nb_model.proofs.TrailLaws.{trail_base}
 use Rattle.nb_model.proofs.TrimLaws.{trimmed_length, trimmed_at, trimmed_past, finish_base}
-use Rattle.nb_host.specs.World.{World}
-use Rattle.nb_base.specs.Open.{Fits, IsOpen as AreOpen}
+use Rattle.nb_base.specs.Open.{IsOpen as AreOpen}
 use Rattle.nb_base.proofs.ControlLaws.{with_control-behind}
 use Rattle.nb_base.proofs.EndLaws.{finished_length}
-use Rattle.nb_base.proofs.LeftLaws.{merged_fits, stroke-image}
-use Rattle.nb_cache.specs.Held.{Slot, slot_of, rank_of, with_rank, dropped, NoneWaits, IsNoLater, GoesFirst}
-use Rattle.nb_owner.specs.Open.{Held, Pages, IsOpen, HasBlock, AreOf, IsValid, bare, used, behind_first, but_below}
 use Rattle.nb_owner.proofs.UsedLaws.{All-dropped, All-put, All-found, once_put, once_removed, promoted_put, promoted_absent}
 use Rattle.nb_owner.proofs.RankLaws.{none_found, marked_keys, marked_long, found_rank, slot_put}
 
@@ -43,7 +27,7 @@ module _ (pages : Pages) (once : IsDistinct nat_eq (keys_of pages)) where
     where
       written : (after_stroke (page p bytes) t).base.image ≡ with_page p bytes t.base.image
       written =
-          ap (λ (b : Base). b.image) (trail_base (page p bytes) t) ∙ stroke-image t.base p bytes
+          ap (λ (b : Base). b.image) (trail_base (page p bytes) t) ∙ stroke_page t.base p bytes
           ∙ ap (λ (x : Page). with_page p x t.base.image) (merged_fits p bytes t.base.image fits.front)
 
   -- page 0 has another control block
@@ -52,14 +36,6 @@ module _ (pages : Pages) (once : IsDistinct nat_eq (keys_of pages)) where
       subst (λ (image : Image). AreOf image (behind_first pages)) (sym is)
       (All-dropped 0 pages once (λ e. e.1.bytes ≡ page_at before e.0) (λ e. e.1.bytes ≡ page_at (with_control state scn guid before) e.0)
       (λ e apart of. of ∙ sym (with_control-behind state scn guid before e.0 (λ first. eqb-false 0 e.0 apart (sym first)))) all)
-
-  begun_image : (b : Base) (guid : List ℕ) (ask : Option Ask) → (on_base (begin guid ask) b).image ≡ with_control stalled_state (image_scn b.image + 1) guid b.image
-  unfolding on_base
-  begun_image b guid ask = refl
-
-  ended_image : (b : Base) → (on_base ends b).image ≡ with_control merge_state (image_scn b.image + 1) (image_guid b.image) b.image
-  unfolding on_base
-  ended_image b = refl
 
   pub of_begun : (t : Trail) (guid : List ℕ) (ask : Option Ask) → AreOf t.base.image pages → AreOf (after_stroke (begin guid ask) t).base.image (behind_first pages)
   of_begun t guid ask all = of_control t.base.image _ 1 _ guid (ap (λ (b : Base). b.image) (trail_base (begin guid ask) t) ∙ begun_image t.base guid ask) all
@@ -291,10 +267,6 @@ module _ (cache after : Rattle.nb_cache.specs.Held.Held) (before size : ℕ) (va
 pub found_slot : (o : Option Slot) (into old : List ℕ) → is_some o ≡ true → MatchOption o (into ≡ old) (λ slot. into ≡ slot.bytes) → (slot : Slot) × (o ≡ Some slot) × (into ≡ slot.bytes)
 found_slot None into old is filled = cc
 found_slot (Some slot) into old is filled = (slot, refl, filled)
-
-pub missed_slot : (o : Option Slot) → is_some o ≡ false → o ≡ None
-missed_slot None is = refl
-missed_slot (Some slot) is = cc
 
 -- it is that page of the image
 pub found_page : (image : Image) (pages : Pages) (p : ℕ) (slot : Slot) → slot_of pages p ≡ Some slot → AreOf image pages → slot.bytes ≡ page_at image p

@@ -1,33 +1,11 @@
 -- The pages that wait go out: what a crash leaves at each moment, and what reads.
-use Rattle.std.proofs.Common.{◌≡◌, ◌≢◌, inl, inr, ⊎_elim, ℕ, ◌<◌, ◌≤◌, List, [], length, refl, sym, ap, subst, ◌∙◌, arith}
-use Rattle.std.specs.Prelude.{Bool, true, false, Option, Some, None, is_some}
-use Rattle.std.proofs.lemmas.Bool.{true≢false}
-use Rattle.std.proofs.lemmas.Bool.Decides.{eqb_tells}
-use Rattle.nb_fields.specs.Places.{is_scn_place}
-use Rattle.nb_fields.specs.Header.{state_of, size_of}
-use Rattle.nb_fields.specs.States.{normal_state}
-use Rattle.nb_host.specs.Files.{Files}
-use Rattle.nb_host.specs.World.{World}
+use Rattle.std.proofs.Common.{◌≡◌, ◌≢◌, inl, inr, ⊎_elim, ℕ, ◌<◌, ◌≤◌, List, [], length, refl, sym, ap, subst, ◌∙◌, arith, Bool, true, false, Option, Some, None, is_some}
+use Rattle.nb_owner.proofs.Common.{true≢false, eqb_tells, is_scn_place, state_of, size_of, normal_state, Files, World, IsTimely, Names, Only, Changes, begun, rested, composed, Page, Image, page_at, first_page, image_size, image_state, Base, page, on_base, Trail, settled, IsLeft, IsFirm, StandsIn, ShowsIn, IsOnTheWay, IsRead, behind_firm, way_left, way_start, way_put, firm_put, read_start, read_put, read_firm, read_done, Agrees, StandsFirm, MayPut, PutLeft, rank_of, with_rank, NoneWaits, StandsAs, Held, Pages, waits, IsWaiting, IsOpen, NoScnWaits, GoesOut, none_some}
 use Rattle.nb_host.specs.Crash.{LeavesAll}
-use Rattle.nb_host.specs.Moments.{IsTimely}
-use Rattle.nb_change.specs.Changes.{Names, Only, Changes}
-use Rattle.nb_change.proofs.ChangesLaws.{begun, rested, composed}
 use Rattle.nb_page.specs.Quiet.{Quiet}
-use Rattle.nb_model.specs.Image.{Page, Image, page_at, first_page, image_size, image_state}
-use Rattle.nb_model.specs.Account.{Base}
-use Rattle.nb_model.specs.Strokes.{page, on_base}
-use Rattle.nb_model.specs.Trail.{Trail, settled, IsLeft, IsFirm, StandsIn, ShowsIn}
-use Rattle.nb_model.specs.Behind.{IsOnTheWay, IsRead}
 use Rattle.nb_model.specs.Waiting.{rank_of as rank_for}
 use Rattle.nb_model.proofs.CoveredLaws.{firm_left}
-use Rattle.nb_model.proofs.BehindLaws.{behind_firm, way_left}
-use Rattle.nb_model.proofs.WayLaws.{way_start, way_put, firm_put, read_start, read_put, read_firm, read_done}
-use Rattle.nb_base.specs.Open.{IsOpen as AreOpen, Agrees}
-use Rattle.nb_base.specs.Firm.{StandsFirm}
-use Rattle.nb_base.specs.Put.{MayPut, PutLeft}
-use Rattle.nb_cache.specs.Held.{rank_of, with_rank, NoneWaits}
-use Rattle.nb_base.specs.Going.{StandsAs}
-use Rattle.nb_owner.specs.Open.{Held, Pages, waits, IsWaiting, IsOpen, NoScnWaits, GoesOut}
+use Rattle.nb_base.specs.Open.{IsOpen as AreOpen}
 use Rattle.nb_owner.proofs.RankLaws.{rank_marked, rank_marked_other, waits_there, none_found, marked_of}
 use Rattle.nb_owner.proofs.WaitLaws.{agrees_same, plain_table}
 
@@ -87,7 +65,7 @@ module _ (held : Held) (f t : Trail) (P : Base → Type 0) (same : (b : Base) �
     pages = marked_of t.base.image p None held.pages out.pages;
     behind = out.behind;
     each = λ q r still. elim (eqb_tells q p) [
-      | inl e ↦ absurd (none_some (sym gone ∙ sym (ap (rank_of later) e.1) ∙ still))
+      | inl e ↦ absurd (none_some {X = ℕ} _ (sym gone ∙ sym (ap (rank_of later) e.1) ∙ still))
       | inr e ↦ out.each q r (sym (rank_marked_other p q None held.pages e.1) ∙ still)
     ];
     normal = out.normal;
@@ -99,9 +77,6 @@ module _ (held : Held) (f t : Trail) (P : Base → Type 0) (same : (b : Base) �
 
       gone : rank_of (with_rank p None held.pages) p ≡ None
       gone = rank_marked p None held.pages (waits_there p rank held.pages at)
-
-      none_some : {r : ℕ} → None ≡ Some r → ⊥
-      none_some e = cc
 
 -- The way begins: SCN pages are to go out first, or none waits.
 module _ (w : World) (held : Held) (t : Trail) (is : IsOpen w held t) (normal : image_state t.base.image ≡ normal_state) where

@@ -1,22 +1,6 @@
 -- Which pages wait, as one is kept, is marked, or is dropped.
-use Rattle.std.proofs.Common.{◌≡◌, ◌≢◌, inl, inr, ℕ, zero, suc, ◌+◌, ◌-◌, ◌<◌, ◌≤◌, List, [], ◌∷◌, length, take, refl, sym, ap, subst, ◌∙◌, arith}
-use Rattle.std.specs.Prelude.{Bool, true, false, nat_eq, Option, Some, None, is_some, if◌then◌else◌, slice_get, Contains}
-use Rattle.std.specs.List.{AllByRecursion, IsDistinct}
-use Rattle.std.specs.Option.{option_and_then, option_map, option_map_or}
-use Rattle.std.specs.Map.{keys_of, lookup_entry, remove_entry}
-use Rattle.std.proofs.lemmas.Bool.{true≢false, eqb-true}
-use Rattle.std.proofs.lemmas.Bool.Decides.{eqb_tells}
-use Rattle.std.proofs.lemmas.Map.Keys.{IsDistinct-head, IsDistinct-tail}
-use Rattle.lru.specs.LruCache.{lru_cache, promoted, put_entries}
-use Rattle.lru.proofs.CallerLemmas.{Contains-lookup_entry}
-use Rattle.lru.proofs.Pairs.{lookup-lookup_entry}
-use Rattle.nb_model.specs.Image.{Image}
-use Rattle.nb_cache.specs.Held.{Slot, slot_of, rank_of, with_rank, dropped, NoneWaits}
-use Rattle.nb_owner.specs.Open.{Pages, AreOf, bare}
-
--- a test of two numbers that differ
-pub other_false : (p q : ℕ) → p ≢ q → nat_eq p q ≡ false
-other_false p q ne = elim (eqb_tells p q) [ inl w ↦ absurd (ne w.1) | inr w ↦ w.0 ]
+use Rattle.std.proofs.Common.{◌≡◌, ◌≢◌, inl, inr, ℕ, zero, suc, ◌+◌, ◌-◌, ◌<◌, ◌≤◌, List, [], ◌∷◌, length, take, refl, sym, ap, subst, ◌∙◌, arith, Bool, true, false, nat_eq, Option, Some, None, is_some, if◌then◌else◌, slice_get, Contains}
+use Rattle.nb_owner.proofs.Common.{AllByRecursion, IsDistinct, option_and_then, option_map, option_map_or, keys_of, lookup_entry, remove_entry, true≢false, eqb-true, eqb_tells, IsDistinct-head, IsDistinct-tail, lru_cache, promoted, put_entries, Contains-lookup_entry, lookup-lookup_entry, Image, Slot, slot_of, rank_of, with_rank, dropped, NoneWaits, Pages, AreOf, bare, eq_other, eq_self}
 
 -- the first page and the others
 pub rank_here : (p : ℕ) (e : ℕ × Slot) (es : Pages) → nat_eq p e.0 ≡ true → rank_of (e ∷ es) p ≡ e.1.rank
@@ -36,7 +20,7 @@ by_place P p e es here next = (elim (nat_eq p e.0) as (λ b. nat_eq p e.0 ≡ b 
 pub rank_removed : (q p : ℕ) (es : Pages) → p ≢ q → rank_of (remove_entry (nat_eq q) es) p ≡ rank_of es p
 rank_removed q p [] ne = refl
 rank_removed q p (e ∷ es) ne = (elim (nat_eq q e.0) as (λ b. nat_eq q e.0 ≡ b → rank_of (remove_entry (nat_eq q) (e ∷ es)) p ≡ rank_of (e ∷ es) p) [
-  | true ↦ λ is. let key : q ≡ e.0 = eqb-true q e.0 is in ap (λ (xs : Pages). rank_of xs p) (sym (removed e es is)) ∙ sym (rank_next p e es (other_false p e.0 (λ same. ne (same ∙ sym key))))
+  | true ↦ λ is. let key : q ≡ e.0 = eqb-true q e.0 is in ap (λ (xs : Pages). rank_of xs p) (sym (removed e es is)) ∙ sym (rank_next p e es (eq_other p e.0 (λ same. ne (same ∙ sym key))))
   | false ↦ λ is. ap (λ (xs : Pages). rank_of xs p) (kept e es is) ∙ again e es (rank_removed q p es ne)
 ]) refl
   where
@@ -53,7 +37,7 @@ rank_removed q p (e ∷ es) ne = (elim (nat_eq q e.0) as (λ b. nat_eq q e.0 ≡
 pub rank_marked_other : (q p : ℕ) (rank : Option ℕ) (es : Pages) → p ≢ q → rank_of (with_rank q rank es) p ≡ rank_of es p
 rank_marked_other q p rank [] ne = refl
 rank_marked_other q p rank (e ∷ es) ne = (elim (nat_eq q e.0) as (λ b. nat_eq q e.0 ≡ b → rank_of (with_rank q rank (e ∷ es)) p ≡ rank_of (e ∷ es) p) [
-  | true ↦ λ is. let key : q ≡ e.0 = eqb-true q e.0 is in let apart : nat_eq p e.0 ≡ false = other_false p e.0 (λ same. ne (same ∙ sym key)) in rw is (rw apart refl)
+  | true ↦ λ is. let key : q ≡ e.0 = eqb-true q e.0 is in let apart : nat_eq p e.0 ≡ false = eq_other p e.0 (λ same. ne (same ∙ sym key)) in rw is (rw apart refl)
   | false ↦ λ is. rw is (by_place (λ x. rank_of (e ∷ with_rank q rank es) p ≡ x) p e es (λ at. rank_here p e (with_rank q rank es) at) (λ at. rank_next p e (with_rank q rank es) at ∙ rank_marked_other q p rank es ne))
 ]) refl
 
@@ -110,10 +94,10 @@ module _ (held : Rattle.nb_cache.specs.Held.Held) (p : ℕ) (v : Slot) (some : 0
       last is = ap (λ (b : Bool). option_and_then (λ (e : ℕ × Slot). option_map (λ _. e.0) e.1.rank) (if b then None else slice_get held.pages (held.cap - 1))) (sym (absent is)) ∙ none
 
       by : (o : Option (ℕ × Slot)) → lookup_entry (nat_eq p) held.pages ≡ o → rank_of (after o) q ≡ rank_of held.pages q
-      by None is = rank_next q (p, v) (take (held.cap - 1) held.pages) (other_false q p ne) ∙ rank_taken q (held.cap - 1) held.pages (omega (arith, some, long)) (last is)
+      by None is = rank_next q (p, v) (take (held.cap - 1) held.pages) (eq_other q p ne) ∙ rank_taken q (held.cap - 1) held.pages (omega (arith, some, long)) (last is)
       by (Some e) is =
           let key : p ≡ e.0 = eqb-true p e.0 (Contains-lookup_entry (nat_eq p) held.pages e is).1 in
-          rank_next q (e.0, v) (remove_entry (nat_eq p) held.pages) (other_false q e.0 (λ same. ne (same ∙ sym key))) ∙ rank_removed p q held.pages ne
+          rank_next q (e.0, v) (remove_entry (nat_eq p) held.pages) (eq_other q e.0 (λ same. ne (same ∙ sym key))) ∙ rank_removed p q held.pages ne
 
 -- a page that is looked at goes first, and waits as it did
 pub rank_promoted : (p q : ℕ) (es : Pages) → rank_of (promoted (nat_eq p) es) q ≡ rank_of es q
@@ -146,15 +130,12 @@ fewer_wait p r (e ∷ es) is = (elim (nat_eq p e.0) as (λ b. nat_eq p e.0 ≡ b
   | false ↦ λ at. rw at (let less = fewer_wait p r es (sym (rank_next p e es at) ∙ is) in omega (arith, less))
 ]) refl
 
-pub own_true : (p : ℕ) → nat_eq p p ≡ true
-own_true p = elim (eqb_tells p p) [ inl w ↦ w.0 | inr w ↦ absurd (w.1 refl) ]
-
 -- a page that was kept is there
 pub slot_put : (p : ℕ) (v : Slot) (es : Pages) (cap : ℕ) → slot_of (put_entries nat_eq (lru_cache es cap) p v) p ≡ Some v
 slot_put p v es cap = by (lookup_entry (nat_eq p) es) refl
   where
     by : (o : Option (ℕ × Slot)) → lookup_entry (nat_eq p) es ≡ o → slot_of (option_map_or (λ e. (e.0, v) ∷ remove_entry (nat_eq p) es) o ((p, v) ∷ take (cap - 1) es)) p ≡ Some v
-    by None is = let own : nat_eq p p ≡ true = own_true p in rw own refl
+    by None is = let own : nat_eq p p ≡ true = eq_self p in rw own refl
     by (Some e) is = let own : nat_eq p e.0 ≡ true = (Contains-lookup_entry (nat_eq p) es e is).1 in rw own refl
 
 pub slot_kept : (p : ℕ) (v : Slot) (es : Pages) (cap : ℕ) → is_some (slot_of (put_entries nat_eq (lru_cache es cap) p v) p) ≡ true
@@ -200,13 +181,13 @@ marked_none p (e ∷ es) none = (elim (nat_eq p e.0) as (λ b. nat_eq p e.0 ≡ 
 -- no page is there twice, so the rank of one that is there is found
 pub found_rank : (es : Pages) → IsDistinct nat_eq (keys_of es) → (p : ℕ) (slot : Slot) → Contains es (p, slot) → rank_of es p ≡ slot.rank
 found_rank [] once p slot (k, low, is) = absurd (omega (arith, low))
-found_rank (e ∷ es) once p slot (zero, low, is) = rank_here p e es (ap (λ (x : ℕ × Slot). nat_eq p x.0) is ∙ own_true p) ∙ ap (λ (x : ℕ × Slot). x.1.rank) is
+found_rank (e ∷ es) once p slot (zero, low, is) = rank_here p e es (ap (λ (x : ℕ × Slot). nat_eq p x.0) is ∙ eq_self p) ∙ ap (λ (x : ℕ × Slot). x.1.rank) is
 found_rank (e ∷ es) once p slot (suc k, low, is) =
     let there : Contains es (p, slot) = (k, omega (arith, low), is) in
     rank_next p e es (eq_sym e.0 p (apart (λ n. nat_eq e.0 n ≡ false) es (p, slot) (IsDistinct-head nat_eq e.0 (keys_of es) once) there)) ∙ found_rank es (IsDistinct-tail nat_eq e.0 (keys_of es) once) p slot there
   where
     eq_sym : (a b : ℕ) → nat_eq a b ≡ false → nat_eq b a ≡ false
-    eq_sym a b ne = other_false b a (λ same. absurd (true≢false (sym (own_true a) ∙ subst (λ (n : ℕ). nat_eq a n ≡ false) same ne)))
+    eq_sym a b ne = eq_other b a (λ same. absurd (true≢false (sym (eq_self a) ∙ subst (λ (n : ℕ). nat_eq a n ≡ false) same ne)))
 
     apart : (P : ℕ → Type 0) (xs : Pages) (x : ℕ × Slot) → AllByRecursion P (keys_of xs) → Contains xs x → P x.0
     apart P [] x all (k, low, is) = absurd (omega (arith, low))

@@ -1,22 +1,11 @@
 -- What is seen is what the files hold, with each page that waits written over.
-use Rattle.std.proofs.Common.{◌≡◌, ◌≢◌, inl, inr, ℕ, suc, ◌<◌, List, [], ◌∷◌, length, ◌++◌, refl, sym, ap, subst, ◌∙◌, arith, get_or-set_other}
-use Rattle.std.specs.Prelude.{false, nat_eq, is_some, Option, None, Some}
-use Rattle.std.specs.List.{AllByRecursion, IsDistinct}
-use Rattle.std.specs.Map.{keys_of}
-use Rattle.std.proofs.lemmas.Bool.Decides.{eqb_tells, leb_tells}
-use Rattle.std.proofs.lemmas.Map.Keys.{IsDistinct-head, IsDistinct-tail}
-use Rattle.nb_host.specs.World.{World}
-use Rattle.nb_model.specs.Image.{Page, Image, Numbered, page_at, image_size, written_at, overwritten}
-use Rattle.nb_model.specs.Account.{Base}
-use Rattle.nb_model.specs.Trail.{Trail}
+use Rattle.std.proofs.Common.{◌≡◌, ◌≢◌, inl, inr, ℕ, suc, ◌<◌, List, [], ◌∷◌, length, ◌++◌, refl, sym, ap, subst, ◌∙◌, arith, get_or-set_other, false, nat_eq, is_some, Option, None, Some}
+use Rattle.nb_owner.proofs.Common.{AllByRecursion, IsDistinct, keys_of, eqb_tells, leb_tells, IsDistinct-head, IsDistinct-tail, World, Page, Image, Numbered, page_at, image_size, written_at, overwritten, Base, Trail, same_pages, Slot, rank_of, Pages, Held, AreOf, IsOpen, waits, eq_self}
 use Rattle.nb_model.specs.Waiting.{seen}
-use Rattle.nb_model.proofs.WayLaws.{same_pages}
 use Rattle.nb_model.proofs.OwnerLaws.{written_length}
 use Rattle.nb_base.proofs.WrittenLaws.{written_same}
-use Rattle.nb_cache.specs.Held.{Slot, rank_of}
-use Rattle.nb_owner.specs.Open.{Pages, Held, AreOf, IsOpen, waits}
 use Rattle.nb_owner.specs.Seen.{IsSeenOver, waiting_in}
-use Rattle.nb_owner.proofs.RankLaws.{own_true, rank_here, rank_next}
+use Rattle.nb_owner.proofs.RankLaws.{rank_here, rank_next}
 
 -- a page that isn't in memory doesn't wait
 none_waits : (p : ℕ) (es : Pages) → AllByRecursion (λ k. nat_eq p k ≡ false) (keys_of es) → rank_of es p ≡ None
@@ -73,7 +62,7 @@ overwrites size t (e ∷ es) f once of low long agree =
     by : ((g : Image) → length g ≡ length t → AgreeBut es g t → overwritten size (waiting_in es) g ≡ t) → (r : Option ℕ) → e.1.rank ≡ r → overwritten size (waiting_in (e ∷ es)) f ≡ t
     by rest None is = rw is (rest f long (quiet is))
     by rest (Some rank) is =
-        let there : e.0 < length f = let h = low e.0 rank (rank_here e.0 e es (own_true e.0) ∙ is) in omega (arith, h, long) in
+        let there : e.0 < length f = let h = low e.0 rank (rank_here e.0 e es (eq_self e.0) ∙ is) in omega (arith, h, long) in
         rw is (rest (written_at size (e.0, e.1.bytes) f) (omega (arith, long, there, written_length size e.0 e.1.bytes f)) (agree_written size t e es f of.0 there long agree))
 
 -- the parts of a database that is seen so

@@ -1,16 +1,8 @@
 -- Each page of a database that is open has the size of a page.
-use Rattle.std.proofs.Common.{◌≡◌, ℕ, ◌<◌, length, Option, Some, None, refl, sym, ap, ◌∙◌, arith}
-use Rattle.std.specs.Prelude.{is_some}
-use Rattle.nb_fields.specs.Header.{size_of}
-use Rattle.nb_host.specs.World.{World}
-use Rattle.nb_model.specs.Image.{page_at, image_size}
-use Rattle.nb_model.specs.Owner.{delta_name}
+use Rattle.std.proofs.Common.{◌≡◌, ℕ, ◌<◌, length, Option, Some, None, refl, sym, ap, ◌∙◌, arith, is_some}
+use Rattle.nb_owner.proofs.Common.{size_of, World, page_at, image_size, delta_name, Trail, Holds, holds, base-sizes, rank_of, Held, IsOpen}
 use Rattle.nb_model.specs.Sound.{IsOfSize}
-use Rattle.nb_model.specs.Trail.{Trail}
 use Rattle.nb_model.proofs.SoundLaws.{all_from}
-use Rattle.nb_base.proofs.OwnedLaws.{Holds, holds, base-sizes}
-use Rattle.nb_cache.specs.Held.{rank_of}
-use Rattle.nb_owner.specs.Open.{Held, IsOpen}
 
 pub open_sized : (w : World) (held : Held) (t : Trail) → IsOpen w held t → IsOfSize (image_size t.base.image) t.base.image
 open_sized w held t is = all_from (λ page. length page ≡ image_size t.base.image) t.base.image (λ p low. by p low (rank_of held.pages p) refl)

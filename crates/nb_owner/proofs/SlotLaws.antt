@@ -1,21 +1,7 @@
 -- The pages that wait go into their slots in the stalled state.
-use Rattle.std.proofs.Common.{◌≡◌, ◌≢◌, inl, inr, ℕ, ◌<◌, ◌≤◌, [], length, refl, sym, ap, ◌∙◌, arith, length-append}
-use Rattle.std.specs.Prelude.{true, Option, Some, None, is_some}
-use Rattle.std.proofs.lemmas.Bool.{true≢false}
-use Rattle.std.proofs.lemmas.Bool.Decides.{eqb_tells}
-use Rattle.nb_fields.specs.States.{stalled_state}
-use Rattle.nb_host.specs.World.{World}
-use Rattle.nb_host.specs.Moments.{IsTimely}
-use Rattle.nb_change.specs.Changes.{Only, Changes}
-use Rattle.nb_change.proofs.ChangesLaws.{begun}
-use Rattle.nb_model.specs.Image.{page_at}
-use Rattle.nb_model.specs.Owner.{delta_name, entry_for}
-use Rattle.nb_model.specs.Trail.{Trail, StandsIn}
-use Rattle.nb_model.proofs.BehindLaws.{way_left}
-use Rattle.nb_base.specs.Going.{GoesIn, MaySlot}
+use Rattle.std.proofs.Common.{◌≡◌, ◌≢◌, inl, inr, ℕ, ◌<◌, ◌≤◌, [], length, refl, sym, ap, ◌∙◌, arith, length-append, true, Option, Some, None, is_some}
+use Rattle.nb_owner.proofs.Common.{true≢false, eqb_tells, stalled_state, World, IsTimely, Only, Changes, begun, page_at, delta_name, entry_for, Trail, StandsIn, way_left, GoesIn, MaySlot, rank_of, with_rank, Held, waits, IsOpen, GoesSlot, none_some}
 use Rattle.nb_base.proofs.SlotLaws.{goes_in}
-use Rattle.nb_cache.specs.Held.{rank_of, with_rank}
-use Rattle.nb_owner.specs.Open.{Held, waits, IsOpen, GoesSlot}
 use Rattle.nb_owner.proofs.RankLaws.{rank_marked, rank_marked_other, waits_there, marked_of}
 use Rattle.nb_owner.proofs.WaitLaws.{drafted_waits}
 
@@ -54,10 +40,7 @@ module _ (w : World) (held : Held) (f t : Trail) (out : GoesSlot w held f t) (p 
     goes = goes;
     pages = marked_of t.base.image p None held.pages out.pages;
     each = λ q r still. elim (eqb_tells q p) [
-      | inl e ↦ absurd (none_some (sym (rank_marked p None held.pages (waits_there p rank held.pages at)) ∙ sym (ap (rank_of (with_rank p None held.pages)) e.1) ∙ still))
+      | inl e ↦ absurd (none_some {X = ℕ} _ (sym (rank_marked p None held.pages (waits_there p rank held.pages at)) ∙ sym (ap (rank_of (with_rank p None held.pages)) e.1) ∙ still))
       | inr e ↦ out.each q r (sym (rank_marked_other p q None held.pages e.1) ∙ still)
     ];
   }
-    where
-      none_some : {r : ℕ} → None ≡ Some r → ⊥
-      none_some e = cc

@@ -1,13 +1,6 @@
 -- The pages in memory, as one is used or dropped.
 use Rattle.std.proofs.Common.{◌≡◌, ℕ, zero, suc, ◌-◌, true, false, nat_eq, List, [], ◌∷◌, take, Option, Some, None, refl, sym, ap, subst, ◌∙◌}
-use Rattle.std.specs.List.{AllByRecursion, IsDistinct}
-use Rattle.std.specs.Option.{option_map, option_map_or}
-use Rattle.std.specs.Map.{keys_of, lookup, lookup_entry, remove_entry}
-use Rattle.std.proofs.lemmas.Bool.{eqb-true}
-use Rattle.std.proofs.lemmas.Map.Keys.{IsDistinct-head, IsDistinct-tail, IsDistinct-cons}
-use Rattle.lru.specs.LruCache.{lru_cache, promoted, put_entries}
-use Rattle.lru.proofs.CallerLemmas.{Contains-lookup_entry}
-use Rattle.lru.proofs.Pairs.{lookup-lookup_entry}
+use Rattle.nb_owner.proofs.Common.{AllByRecursion, IsDistinct, option_map, option_map_or, keys_of, lookup, lookup_entry, remove_entry, eqb-true, IsDistinct-head, IsDistinct-tail, IsDistinct-cons, lru_cache, promoted, put_entries, Contains-lookup_entry, lookup-lookup_entry}
 
 module _ {V : Type 0} (p : ℕ) where
   abbrev Other : ℕ × V → Type 0

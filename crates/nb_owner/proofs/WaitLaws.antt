@@ -1,38 +1,15 @@
 -- What is open while pages wait, and that one more waits.
-use Rattle.std.proofs.Common.{◌≡◌, ◌≢◌, inl, inr, ⊎_elim, ℕ, suc, ◌+◌, ◌<◌, ◌≤◌, List, [], ◌∷◌, ◌++◌, length, refl, sym, ap, subst, ◌∙◌, arith, append_assoc, length-append}
-use Rattle.std.specs.Prelude.{Bool, true, false, ◌==◌, ◌&&◌, not, nat_eq, nat_lt, Option, Some, None, is_some}
-use Rattle.std.specs.List.{AllByRecursion}
-use Rattle.std.proofs.lemmas.Bool.{true≢false}
-use Rattle.std.proofs.lemmas.Bool.Decides.{eqb_tells, leb_tells}
-use Rattle.std.proofs.lemmas.List.{append-nil}
-use Rattle.lru.specs.LruCache.{lru_cache, put_entries}
+use Rattle.std.proofs.Common.{◌≡◌, ◌≢◌, inl, inr, ⊎_elim, ℕ, suc, ◌+◌, ◌<◌, ◌≤◌, List, [], ◌∷◌, ◌++◌, length, refl, sym, ap, subst, ◌∙◌, arith, append_assoc, length-append, Bool, true, false, ◌==◌, ◌&&◌, not, nat_eq, nat_lt, Option, Some, None, is_some}
+use Rattle.nb_owner.proofs.Common.{AllByRecursion, true≢false, eqb_tells, leb_tells, append-nil, lru_cache, put_entries, is_scn_place, most_pages, is_header, state_of, size_of, normal_state, stalled_state, World, option_and_then, Page, Image, page_at, first_page, image_size, image_state, is_forced, Base, entry_for, page, on_base, Trail, after_stroke, ShowsIn, behind_left, behind_firm, trail_base, same_pages, put_same, put_other, put_first, put_long, put_longer, wait_behind, wait_unsettled, behind_itself, Agrees, StandsFirm, Drafts, stroke-stalled, noted-there, noted-new, entry-later, entry-added, entry-front, entry_at, later, Slot, slot_of, rank_of, with_rank, dropped, NoneWaits, Held, Pages, AreOf, waits, IsWaiting, AreDrafted, Waits, IsOpen, IsValid, may_wait, cache_of, rank_in, both_true, eq_self, not_true, some_same, not_there, stroke-frozen, stroke-diverted}
 use Rattle.nb_fields.specs.Bytes.{is_zeros, number_in}
-use Rattle.nb_fields.specs.Places.{is_scn_place, most_pages}
-use Rattle.nb_fields.specs.Header.{is_header, state_of, size_of}
-use Rattle.nb_fields.specs.States.{normal_state, stalled_state}
 use Rattle.nb_host.specs.Calls.{IsStill}
-use Rattle.nb_host.specs.World.{World}
-use Rattle.std.specs.Option.{option_and_then}
-use Rattle.nb_model.specs.Image.{Page, Image, page_at, first_page, image_size, image_state, is_forced}
-use Rattle.nb_model.specs.Account.{Base}
-use Rattle.nb_model.specs.Owner.{entry_for}
-use Rattle.nb_model.specs.Strokes.{page, on_base}
-use Rattle.nb_model.specs.Trail.{Trail, after_stroke, ShowsIn}
 use Rattle.nb_model.specs.Waiting.{rank_of as rank_for}
-use Rattle.nb_model.proofs.BehindLaws.{behind_left, behind_firm}
-use Rattle.nb_model.proofs.TrailLaws.{trail_base}
-use Rattle.nb_model.proofs.WayLaws.{same_pages, put_same, put_other, put_first, put_long, put_frozen, put_diverted, put_longer, wait_behind, wait_unsettled, behind_itself}
-use Rattle.nb_base.specs.Open.{IsOpen as AreOpen, Agrees}
-use Rattle.nb_base.specs.Firm.{StandsFirm}
+use Rattle.nb_base.specs.Open.{IsOpen as AreOpen}
 use Rattle.nb_base.specs.Seen.{IsSeen}
-use Rattle.nb_base.specs.Going.{Drafts}
-use Rattle.nb_base.proofs.LeftLaws.{stroke-stalled, noted-there, noted-new}
 use Rattle.nb_base.proofs.MergingLaws.{seen_still}
-use Rattle.nb_base.proofs.OwnedLaws.{entry-first, entry-later, entry-added, entry-front, entry_at, later}
-use Rattle.nb_cache.specs.Held.{Slot, slot_of, rank_of, with_rank, dropped, NoneWaits}
-use Rattle.nb_owner.specs.Open.{Held, Pages, AreOf, waits, IsWaiting, AreDrafted, Waits, IsOpen, IsValid, may_wait, cache_of, rank_in}
 use Rattle.nb_owner.proofs.UsedLaws.{All-put}
-use Rattle.nb_owner.proofs.RankLaws.{rank_kept, rank_kept_other, rank_marked, rank_marked_other, none_found, own_true, slot_kept, marked_of}
+use Rattle.nb_owner.proofs.RankLaws.{rank_kept, rank_kept_other, rank_marked, rank_marked_other, none_found, slot_kept, marked_of}
+use Rattle.nb_model.proofs.EntryLaws.{for_here}
 
 -- what is held of a database agrees with one that has the same page 0, length, frozen image and entries
 pub agrees_same : (held : Rattle.nb_base.specs.Open.Held) (a b : Base) → length a.image ≡ length b.image → first_page a.image ≡ first_page b.image → a.frozen ≡ b.frozen → a.diverted ≡ b.diverted → Agrees held a → Agrees held b
@@ -167,7 +144,7 @@ entry_front : (p : ℕ) (xs ys : List ℕ) → entry_for p ys ≡ None → entry
 unfolding entry_for
 entry_front p [] ys none = none
 entry_front p (x ∷ xs) ys none = elim (eqb_tells p x) [
-  | inl e ↦ entry-first p x (xs ++ ys) e.1 ∙ sym (entry-first p x xs e.1)
+  | inl e ↦ for_here p x (xs ++ ys) e.1 ∙ sym (for_here p x xs e.1)
   | inr e ↦ entry-later p x (xs ++ ys) e.1 ∙ ap later (entry_front p xs ys none) ∙ sym (entry-later p x xs e.1)
 ]
 
@@ -216,34 +193,21 @@ module _ (w : World) (held : Held) (t : Trail) (is : IsOpen w held t) (valid : I
       (kept_ranks held valid p bytes absent drops_none)
       (All-put p held.pages valid.once held.cap (record { bytes = bytes; rank = None }) (λ e. e.1.bytes ≡ page_at t.base.image e.0) (λ e. e.1.bytes ≡ page_at t.base.image e.0) (λ e apart of. of) same is.pages)
 
--- why a write may wait
-and_parts : (a b : Bool) → (a && b) ≡ true → (a ≡ true) × (b ≡ true)
-and_parts true b e = (refl, e)
-and_parts false b e = absurd (true≢false (sym e))
-
-not_true : (a : Bool) → not a ≡ true → a ≡ false
-not_true true e = absurd (true≢false (sym e))
-not_true false e = refl
-
 pub may_wait_parts : (held : Held) (p : ℕ) → may_wait held p ≡ true → (held.files.forced ≡ false) × (held.files.state ≤ 1) × (1 ≤ p) × (p < held.files.count) × (dropped (cache_of held) p ≡ None)
 may_wait_parts held p is =
-    let a = and_parts (not held.files.forced) (nat_lt held.files.state 2 && (not (p == 0) && (nat_lt p held.files.count && not (is_some (dropped (cache_of held) p))))) is in
-    let b = and_parts (nat_lt held.files.state 2) (not (p == 0) && (nat_lt p held.files.count && not (is_some (dropped (cache_of held) p)))) a.1 in
-    let c = and_parts (not (p == 0)) (nat_lt p held.files.count && not (is_some (dropped (cache_of held) p))) b.1 in
-    let d = and_parts (nat_lt p held.files.count) (not (is_some (dropped (cache_of held) p))) c.1 in (
+    let a = both_true (not held.files.forced) (nat_lt held.files.state 2 && (not (p == 0) && (nat_lt p held.files.count && not (is_some (dropped (cache_of held) p))))) is in
+    let b = both_true (nat_lt held.files.state 2) (not (p == 0) && (nat_lt p held.files.count && not (is_some (dropped (cache_of held) p)))) a.1 in
+    let c = both_true (not (p == 0)) (nat_lt p held.files.count && not (is_some (dropped (cache_of held) p))) b.1 in
+    let d = both_true (nat_lt p held.files.count) (not (is_some (dropped (cache_of held) p))) c.1 in (
       not_true held.files.forced a.0,
       elim (leb_tells (suc held.files.state) 2) [ inl w ↦ omega (arith, w.1) | inr w ↦ absurd (true≢false (sym b.0 ∙ w.0)) ],
       elim (eqb_tells p 0) [ inl w ↦ absurd (true≢false (sym (sym (not_true (p == 0) c.0) ∙ w.0))) | inr w ↦ some p w.1 ],
       elim (leb_tells (suc p) held.files.count) [ inl w ↦ omega (arith, w.1) | inr w ↦ absurd (true≢false (sym d.0 ∙ w.0)) ],
-      gone (dropped (cache_of held) p) (not_true (is_some (dropped (cache_of held) p)) d.1),
+      not_there (dropped (cache_of held) p) (not_true (is_some (dropped (cache_of held) p)) d.1),
     )
   where
     some : (p : ℕ) → p ≢ 0 → 1 ≤ p
     some p ne = omega (arith, ne)
-
-    gone : (o : Option ℕ) → is_some o ≡ false → o ≡ None
-    gone None e = refl
-    gone (Some x) e = absurd (true≢false e)
 
 -- The rank goes by page 0.
 rank_same : (a b : Image) (p : ℕ) → first_page a ≡ first_page b → rank_for a p ≡ rank_for b p
@@ -282,7 +246,7 @@ module _ (w : World) (held : Held) (t : Trail) (is : IsOpen w held t) (valid : I
   long = ap (λ (b : Base). length b.image) base_is ∙ put_long t.base p bytes some low_t
 
   frozen : (after_stroke (page p bytes) t).base.frozen ≡ t.base.frozen
-  frozen = ap (λ (b : Base). b.frozen) base_is ∙ put_frozen t.base p bytes some low_t
+  frozen = ap (λ (b : Base). b.frozen) base_is ∙ stroke-frozen t.base p bytes
 
   unsettled : (after_stroke (page p bytes) t).earlier ≢ []
   unsettled = wait_unsettled is.sees t p bytes is.waits.behind some low_t loose
@@ -292,7 +256,7 @@ module _ (w : World) (held : Held) (t : Trail) (is : IsOpen w held t) (valid : I
   more = let longer = put_longer t.base p bytes some low_t in (longer.0, ap (λ (b : Base). b.diverted) base_is ∙ longer.1)
 
   table_main : image_state t.base.image ≢ stalled_state → (after_stroke (page p bytes) t).base.diverted ≡ t.base.diverted
-  table_main main = ap (λ (b : Base). b.diverted) base_is ∙ put_diverted t.base p bytes some low_t main
+  table_main main = ap (λ (b : Base). b.diverted) base_is ∙ stroke-diverted t.base p bytes main
 
   table_there : image_state t.base.image ≡ stalled_state → (k : ℕ) → entry_for p t.base.diverted ≡ Some k → (after_stroke (page p bytes) t).base.diverted ≡ t.base.diverted
   table_there stalled k at = ap (λ (b : Base). b.diverted) base_is ∙ stroke-stalled t.base p bytes stalled ∙ noted-there p t.base.diverted k at
@@ -362,7 +326,7 @@ module _ (w : World) (held : Held) (t : Trail) (is : IsOpen w held t) (valid : I
   pages_more : AreOf (after_stroke (page p bytes) t).base.image (with_rank p (Some rank) (put_entries nat_eq (lru_cache held.pages held.cap) p (record { bytes = bytes; rank = rank_of held.pages p })))
   pages_more = marked_of (after_stroke (page p bytes) t).base.image p (Some rank) kept
       (All-put p held.pages valid.once held.cap (record { bytes = bytes; rank = rank_of held.pages p }) (λ e. e.1.bytes ≡ page_at t.base.image e.0) (λ e. e.1.bytes ≡ page_at later_t.base.image e.0)
-      (λ e apart of. of ∙ sym (page_other e.0 (λ same. absurd (true≢false (sym (own_true p) ∙ subst (λ (n : ℕ). nat_eq p n ≡ false) same apart))))) (sym page_same) is.pages)
+      (λ e apart of. of ∙ sym (page_other e.0 (λ same. absurd (true≢false (sym (eq_self p) ∙ subst (λ (n : ℕ). nat_eq p n ≡ false) same apart))))) (sym page_same) is.pages)
 
   -- With these entries, of which so many are drafted.
   module _ (entries : List ℕ) (drafted : ℕ) (entries_are : entries ≡ (after_stroke (page p bytes) t).base.diverted)
@@ -378,13 +342,10 @@ module _ (w : World) (held : Held) (t : Trail) (is : IsOpen w held t) (valid : I
         | inr e ↦ is.waits.clean q (ap is_some (sym (rank_other q e.1)) ∙ clean) ∙ sym (page_other q e.1)
       ];
       each = λ q r at. elim (eqb_tells q p) [
-        | inl e ↦ subst (λ (n : ℕ). IsWaiting later_t n r) (sym e.1) (subst (IsWaiting later_t p) (same_rank (sym rank_own ∙ sym (ap (rank_of marked) e.1) ∙ at)) waiting_own)
+        | inl e ↦ subst (λ (n : ℕ). IsWaiting later_t n r) (sym e.1) (subst (IsWaiting later_t p) (some_same {X = ℕ} _ _ (sym rank_own ∙ sym (ap (rank_of marked) e.1) ∙ at)) waiting_own)
         | inr e ↦ waiting_other q r e.1 (is.waits.each q r (sym (rank_other q e.1) ∙ at))
       ];
     }
-      where
-        same_rank : {a b : ℕ} → Some a ≡ Some b → a ≡ b
-        same_rank e = cc
 
     agrees_more : Agrees (record held.files { entries = entries; drafted = drafted }) (after_stroke (page p bytes) t).base
     agrees_more = record {

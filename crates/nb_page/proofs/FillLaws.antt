@@ -1,14 +1,7 @@
 -- What the writes after the head of a blank page leave.
-use Rattle.std.proofs.Common.{◌≡◌, ℕ, zero, suc, ◌+◌, ◌-◌, ◌/◌, ◌%◌, ◌^◌, ◌<◌, ◌≤◌, List, [], ◌∷◌, ◌++◌, length, take, drop, replicate, refl, sym, ap, ◌∙◌, arith, append_assoc, length-append, length-drop}
-use Rattle.std.specs.Prelude.{slice_set, Bool, true, false, if◌then◌else◌}
+use Rattle.std.proofs.Common.{◌≡◌, ℕ, zero, suc, ◌+◌, ◌-◌, ◌/◌, ◌%◌, ◌^◌, ◌<◌, ◌≤◌, List, [], ◌∷◌, ◌++◌, length, take, drop, replicate, refl, sym, ap, ◌∙◌, arith, append_assoc, length-append, length-drop, slice_set, Bool, true, false, if◌then◌else◌}
+use Rattle.nb_page.proofs.Common.{length-take-le, length-replicate, length-set, take-append-drop, take-append-le, take_at, take_more_set, take-replicate, drop_all, append-nil, replicate-append-replicate, put_mid, bytes_of, with_part, padded, page_of, with_payload, stamped, taken_bits, same_entries, put_mid-with_part, padded-append, padded-append-zeros, with_part-padded, with_part-padded_next, stamped-zeros}
 use mir.Val.{bool_byte}
-use Rattle.std.proofs.lemmas.List.{length-take-le, length-replicate, length-set, take-append-drop, take-append-le, take_at, take_more_set, take-replicate, drop_all, append-nil, replicate-append-replicate}
-use borrow.Rule.Slice.PartMut.{put_mid}
-use Rattle.nb_fields.specs.Bytes.{bytes_of, with_part, padded}
-use Rattle.nb_fields.specs.Page.{page_of, with_payload, stamped}
-use Rattle.nb_fields.specs.Payloads.{taken_bits, same_entries}
-use Rattle.nb_fields.proofs.PartLaws.{put_mid-with_part}
-use Rattle.nb_fields.proofs.PageLaws.{padded-append, padded-append-zeros, with_part-padded, with_part-padded_next, stamped-zeros}
 use Rattle.nb_page.specs.Blank.{IsBlank}
 
 -- a blank page is its head with zeros after

@@ -1,10 +1,7 @@
 -- Which names are free, by the start of the file and the file beside it.
-use Rattle.std.proofs.Common.{◌≡◌, ℕ, List, take, true, false, ap, sym, ◌∙◌}
-use Rattle.std.specs.Prelude.{◌&&◌, not, Some, None, Bool}
-use Rattle.nb_host.specs.Files.{File, Files, bytes_of}
-use Rattle.nb_fields.specs.Free.{is_free_file}
-use Rattle.nb_fields.proofs.HeaderLaws.{is_free_file-take, is_free_file-none}
-use Rattle.nb_page.specs.Free.{is_free_name, has_delta}
+use Rattle.std.proofs.Common.{◌≡◌, ℕ, List, take, true, false, ap, sym, ◌∙◌, ◌&&◌, not, Some, None, Bool}
+use Rattle.nb_page.proofs.Common.{File, Files, is_free_file, is_free_file-take, is_free_file-none, is_free_name, has_delta}
+use Rattle.nb_host.specs.Files.{bytes_of}
 
 -- no file is free as an empty one is
 pub is_free_file-start : (file : File) (start : List ℕ) → start ≡ take 64 (bytes_of file) → is_free_file (Some start) ≡ is_free_file file

@@ -1,20 +1,6 @@
 -- The form of a header, by the fields that were read.
-use Rattle.std.proofs.Common.{◌≡◌, ℕ, ◌+◌, ◌≤◌, List, ◌++◌, length, refl, ap, sym, true, arith, ◌<◌, ◌^◌, take, drop, append_assoc, ⊎_elim, length-drop, length-append, ◌∙◌}
-use Rattle.std.specs.Prelude.{◌&&◌, ◌||◌, ◌==◌, not, nat_le, nat_lt}
-use Rattle.std.proofs.lemmas.Bool.{cases_eq, and_from, or_left, or_right, ne_eqb, lt-ltb, le-leb, not_from_false}
-use Rattle.std.proofs.lemmas.List.{length-take-le, take_at, drop_at, drop-drop}
-use Rattle.nb_fields.specs.Bytes.{bytes_of, number_of, number_in, part, with_part, is_zeros}
-use Rattle.nb_fields.proofs.NumberLaws.{number_of-bytes_of}
-use Rattle.nb_fields.specs.Places.{is_page_size}
-use Rattle.nb_fields.proofs.PartLaws.{part-with_part_before}
-use Rattle.nb_fields.specs.Header.{signature, is_header, is_marked, is_sound, state_of, pending_of}
-use Rattle.nb_fields.specs.Free.{is_unfinished}
-use Rattle.nb_fields.specs.Payloads.{control_block}
-use Rattle.nb_fields.proofs.PageLaws.{written_next, part-append}
-use Rattle.nb_fields.proofs.HeaderLaws.{is_header-long}
-use Rattle.nb_fields.specs.States.{stalled_state, applying_state}
-use Rattle.nb_page.specs.declared.header.Header.{Header}
-use Rattle.nb_page.specs.Header.{header_in, HasForm}
+use Rattle.std.proofs.Common.{◌≡◌, ℕ, ◌+◌, ◌≤◌, List, ◌++◌, length, refl, ap, sym, true, arith, ◌<◌, ◌^◌, take, drop, append_assoc, ⊎_elim, length-drop, length-append, ◌∙◌, ◌&&◌, ◌||◌, ◌==◌, not, nat_le, nat_lt}
+use Rattle.nb_page.proofs.Common.{cases_eq, and_from, or_left, or_right, ne_eqb, lt-ltb, le-leb, not_from_false, length-take-le, take_at, drop_at, drop-drop, bytes_of, number_of, number_in, part, with_part, is_zeros, number_of-bytes_of, is_page_size, part-with_part_before, signature, is_header, is_marked, is_sound, state_of, pending_of, is_unfinished, control_block, written_next, part-append, is_header-long, stalled_state, applying_state, Header, header_in, HasForm}
 
 pub is_header-fields : (first : List ℕ) (header : Header) → 64 ≤ length first → header ≡ header_in first
     → is_header first ≡ (is_marked first && is_sound header.state header.page_size header.scn)

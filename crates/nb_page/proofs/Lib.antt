@@ -3,3 +3,5 @@ pub mod HeaderLaws
 pub mod FreeLaws
 pub mod FillLaws
 pub mod StampLaws
+pub mod BlankLaws
+mod Common

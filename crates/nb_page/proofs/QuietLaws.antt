@@ -1,6 +1,6 @@
 -- How runs of calls that change nothing go on.
 use Rattle.std.proofs.Common.{◌≡◌, inl, inr, ⊎_elim, ℕ, List, refl, ◌∙◌, arith}
-use Rattle.nb_host.specs.Files.{Files}
+use Rattle.nb_page.proofs.Common.{Files}
 use Rattle.nb_host.specs.World.{World}
 use Rattle.nb_host.specs.Crash.{Leaves, Untouched}
 use Rattle.nb_host.specs.Calls.{IsStill}

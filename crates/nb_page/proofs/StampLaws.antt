@@ -1,11 +1,9 @@
 -- A page that gets a text and is stamped, in either order, is the page stamped with that text.
 -- The other order is `with_payload-stamped` of `nb_fields`.
-use Rattle.std.proofs.Common.{◌≡◌, ℕ, ◌+◌, ◌-◌, ◌%◌, ◌^◌, ◌≤◌, List, ◌++◌, length, take, drop, ap, ◌∙◌, arith, length-drop}
-use Rattle.std.proofs.lemmas.List.{length-take-le, drop_at, drop-append-le, take-append-le}
-use Rattle.nb_fields.specs.Bytes.{number_of, number_in, padded}
-use Rattle.nb_fields.specs.Page.{head_of, page_of, with_payload, stamped, generation_of}
-use Rattle.nb_fields.proofs.PartLaws.{number_in-take}
-use Rattle.nb_fields.proofs.PageLaws.{padded_whole}
+use Rattle.std.proofs.Common.{◌≡◌, ℕ, ◌+◌, ◌-◌, ◌%◌, ◌^◌, ◌≤◌, List, ◌++◌, length, take, drop, ap, ◌∙◌, arith, length-drop, refl}
+use Rattle.nb_page.proofs.Common.{length-take-le, drop_at, drop-append-le, take-append-le, number_of, number_in, padded, head_of, page_of, with_payload, stamped, generation_of, number_in-take, padded_whole}
+use Rattle.nb_fields.specs.Page.{stamp_of}
+use Rattle.nb_page.specs.Head.{head_in}
 
 pub drop-with_payload : (page payload : List ℕ) → 16 ≤ length page → drop 16 (with_payload page payload) ≡ padded (length page - 16) payload
 unfolding with_payload
@@ -32,3 +30,8 @@ stamped-with_payload page kind payload scn number h =
     let behind : padded (length written - 16) (drop 16 written) ≡ rest =
     padded_whole (length written - 16) (drop 16 written) (length-drop 16 written) ∙ drop-with_payload page payload (omega arith) in
     ap (λ xs. head_of kind ((generation_of written + 1) % 2 ^ 32) scn number ++ xs) behind ∙ ap (λ g. head_of kind ((g + 1) % 2 ^ 32) scn number ++ rest) generation
+
+-- the stamp of a page, as its head has it
+pub stamp_in : (page : List ℕ) → (head_in page).scn ≡ stamp_of page
+unfolding head_in
+stamp_in page = refl

@@ -1,16 +1,8 @@
 -- One bit of an inventory page is changed by changing its byte.
-use Rattle.std.proofs.Common.{◌≡◌, ◌≢◌, ℕ, zero, suc, ◌+◌, ◌-◌, ◌*◌, ◌/◌, ◌%◌, ◌^◌, ◌<◌, ◌≤◌, inl, inr, List, length, get_or, sym, ap, ◌∙◌, arith, bit_and, bit_or, w8}
-use Rattle.std.specs.Int.{bit_at}
-use Rattle.std.proofs.Math.ListN.{set}
-use Rattle.std.proofs.Math.Nat.{pow-suc}
-use Rattle.std.proofs.lemmas.Bool.{cases_eq}
-use Rattle.std.proofs.lemmas.List.{length-set, get_or-set_same, get_or-set_other}
+use Rattle.std.proofs.Common.{◌≡◌, ◌≢◌, ℕ, zero, suc, ◌+◌, ◌-◌, ◌*◌, ◌/◌, ◌%◌, ◌^◌, ◌<◌, inl, inr, List, length, get_or, sym, ap, ◌∙◌, arith, bit_and, bit_or, w8}
+use Rattle.nb_pip.proofs.Common.{bit_at, set, pow-suc, cases_eq, length-set, get_or-set_same, get_or-set_other, shr_and_one, bit_at_lowest, bit_at-suc, same_from_bits_below, bit_at_set_same, bit_at_set_other, bit_at_clear_same, bit_at_clear_other, bits_in, bit_of, byte_of, bits, bit_at-most}
 use Rattle.std.proofs.lemmas.Grind.{same_number_lists, get_or-set_at}
 use Rattle.std.proofs.lemmas.List.FromFn.{length-map-range_with_len, get_or-map-range_with_len}
-use Rattle.std.proofs.lemmas.Nat.Bits.{shr_and_one, bit_at_lowest, bit_at-suc, same_from_bits_below, bit_at_set_same, bit_at_set_other, bit_at_clear_same, bit_at_clear_other}
-use Rattle.nb_fields.specs.Places.{bits_in}
-use Rattle.nb_fields.specs.Payloads.{bit_of}
-use Rattle.nb_pip.specs.Bits.{byte_of, bits}
 
 -- a byte has the value v at one bit, and at the others what it had
 pub record SetsBit (old new bit v : ℕ) : Type 0 where
@@ -72,14 +64,6 @@ module _ (page : List ℕ) (bit byte v : ℕ) (inside : bit < bits_in (length pa
         | inr ne ↦ bit_of-other k ne ∙ sym (get_or-set_other (bits page) bit k v 0 ne ∙ get_or-bits page k 0 (omega arith))
       ])
 
--- a number's bit counts as much as that power of two, and no more than the number
-bit-most : (n m : ℕ) → bit_at n m * 2 ^ m ≤ n
-bit-most n zero = omega (arith, bit_at_lowest n)
-bit-most n (suc m) =
-    let rest = bit-most (n / 2) m in
-    let same : bit_at n (suc m) * 2 ^ suc m ≡ 2 * (bit_at (n / 2) m * 2 ^ m) = ap (λ (t : ℕ). t * 2 ^ suc m) (bit_at-suc n m) ∙ ap (λ (x : ℕ). bit_at (n / 2) m * x) (pow-suc 2 m) ∙ omega arith in
-    omega arith
-
 -- one number has the value v at a bit, and at the others what the other has
 exchanged : (w old new bit v : ℕ) → old < 2 ^ w → new < 2 ^ w → bit < w → bit_at new bit ≡ v → ((i : ℕ) → i < w → i ≢ bit → bit_at new i ≡ bit_at old i)
     → new + bit_at old bit * 2 ^ bit ≡ old + v * 2 ^ bit
@@ -103,5 +87,5 @@ exchanged (suc w) old new (suc m) v low high inside here others =
 pub set_byte : (old new bit v : ℕ) → old < 256 → new < 256 → bit < 8 → SetsBit old new bit v → new ≡ old - bit_at old bit * 2 ^ bit + v * 2 ^ bit
 set_byte old new bit v low high inside sets =
     let sum = exchanged 8 old new bit v low high inside sets.here sets.others in
-    let most = bit-most old bit in
+    let most = bit_at-most old bit in
     omega (arith, sum, most)

@@ -1,8 +1,6 @@
 -- A page inventory page of free bits, filled from the front.
 use Rattle.std.proofs.Common.{◌≡◌, ℕ, suc, ◌+◌, ◌-◌, ◌≤◌, List, ◌++◌, length, take, replicate, sym, ap, ◌∙◌, arith, append_assoc, length-append}
-use Rattle.std.proofs.lemmas.List.{append-nil, drop_all, length-replicate, take-replicate}
-use Rattle.nb_fields.specs.Bytes.{bytes_of, with_part}
-use Rattle.nb_fields.specs.Payloads.{taken_bits, inventory_payload}
+use Rattle.nb_pip.proofs.Common.{append-nil, drop_all, length-replicate, take-replicate, bytes_of, with_part, taken_bits, inventory_payload}
 use Rattle.nb_fields.proofs.NumberLaws.{length-bytes_of}
 use Rattle.nb_fields.proofs.PageLaws.{written_next}
 

@@ -1,13 +1,6 @@
 -- The lowest free bit, searched byte by byte.
 use Rattle.std.proofs.Common.{◌≡◌, ℕ, ◌+◌, ◌-◌, ◌*◌, ◌/◌, ◌%◌, ◌^◌, ◌<◌, ◌≤◌, inl, inr, sym, ap, ◌∙◌, arith, List, length, get_or, w8}
-use Rattle.std.specs.Int.{bit_at, trailing_zeros}
-use Rattle.std.proofs.Math.Nat.{div-div-eq-div-mul, div-le_self}
-use Rattle.std.proofs.lemmas.Bool.{cases_lt}
-use Rattle.std.proofs.lemmas.Nat.{pow-add}
-use Rattle.std.proofs.lemmas.Nat.Bits.{bit_at-zero, bit_at_above, bit_at-trailing_zeros}
-use Rattle.nb_fields.specs.Places.{bits_in}
-use Rattle.nb_fields.specs.Payloads.{bit_of}
-use Rattle.nb_pip.specs.Bits.{byte_of, bits, AreUsed, IsLowestFree}
+use Rattle.nb_pip.proofs.Common.{bit_at, trailing_zeros, div-div-eq-div-mul, div-le_self, cases_lt, pow-add, bit_at-zero, bit_at_above, bit_at-trailing_zeros, bits_in, bit_of, byte_of, bits, AreUsed, IsLowestFree}
 use Rattle.nb_pip.specs.Ones.{AreZeros, IsLowestOne}
 use Rattle.nb_pip.proofs.BitLaws.{get_or-bits}
 

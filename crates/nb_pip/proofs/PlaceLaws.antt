@@ -1,9 +1,6 @@
 -- The test of a place finds the places of all inventory pages.
-use Rattle.std.proofs.Common.{◌≡◌, ℕ, zero, suc, ◌+◌, ◌*◌, ◌/◌, ◌%◌, ◌<◌, ◌≤◌, ◌==◌, ⊎_elim, sym, ap, ◌∙◌, arith}
-use Rattle.std.specs.Prelude.{IsTrue}
-use Rattle.std.proofs.Math.Nat.{mul-mod_left, le-mul_of_pos_right}
-use Rattle.std.proofs.lemmas.Bool.{eqb-true, eq-eqb, or_cases, or_left, or_right}
-use Rattle.nb_fields.specs.Places.{bits_in, inventory_place, is_inventory_place}
+use Rattle.std.proofs.Common.{◌≡◌, ℕ, zero, suc, ◌+◌, ◌*◌, ◌/◌, ◌%◌, ◌<◌, ◌≤◌, ◌==◌, ⊎_elim, sym, ap, ◌∙◌, arith, IsTrue}
+use Rattle.nb_pip.proofs.Common.{mul-mod_left, le-mul_of_pos_right, eqb-true, eq-eqb, or_cases, or_left, or_right, bits_in, inventory_place, is_inventory_place}
 
 place_at : (size page k : ℕ) → k * bits_in size ≡ page + 1 → (j : ℕ) × (inventory_place size j ≡ page)
 place_at size page zero e = absurd (omega arith)

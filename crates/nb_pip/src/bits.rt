@@ -1,4 +1,4 @@
-ghost use Rattle.std.specs.Prelude.{◌≡◌, ◌↔◌, ℕ, ◌<◌, ◌≤◌, length, slice_index, slice_set, IsTrue, MatchOption};
+ghost use Rattle.std.specs.Prelude.{◌≡◌, ◌↔◌, ◌<◌, ◌≤◌, length, slice_index, slice_set, IsTrue, MatchOption};
 ghost use Rattle.nb_fields.specs.Places.{is_page_size, bits_in};
 ghost use Rattle.nb_pip.specs.Bits.{bits, byte_of, with_bit, KeepsOtherBytes, AreUsed, IsLowestFree};
 ghost use Rattle.nb_pip.specs.Ones.{AreZeros, IsLowestOne};

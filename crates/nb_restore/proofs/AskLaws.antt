@@ -1,11 +1,6 @@
 -- The record of a backup with another ask: what it holds besides is the same.
-use Rattle.std.proofs.Common.{◌≡◌, length, sym, ap, ◌∙◌, arith}
-use Rattle.std.specs.Prelude.{Option}
-use Rattle.nb_fields.proofs.PartLaws.{length-part}
-use Rattle.nb_model.specs.Image.{first_page}
-use Rattle.nb_model.specs.Account.{Ask, Kept}
-use Rattle.nb_model.specs.Stands.{IsBegun}
-use Rattle.nb_model.proofs.HeaderLaws.{header-long}
+use Rattle.std.proofs.Common.{◌≡◌, length, sym, ap, ◌∙◌, arith, Option}
+use Rattle.nb_restore.proofs.Common.{length-part, first_page, Ask, Kept, IsBegun, header-long}
 
 -- the record with that ask
 abbrev pub with_ask : Option Ask → Kept → Kept

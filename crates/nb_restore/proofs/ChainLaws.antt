@@ -1,51 +1,10 @@
 -- What the files of an accepted chain are: level 0, and the level files after it.
-use Rattle.std.proofs.Common.{◌≡◌, ◌≢◌, ℕ, zero, suc, ◌+◌, ◌*◌, ◌<◌, ◌≤◌, List, [], ◌∷◌, length, take, drop, get_or, refl, sym, ap, subst, ◌∙◌, arith}
-use Rattle.std.specs.Prelude.{Bool, true, false, not, ◌==◌, Some, None, Result, Ok, Err, Contains}
+use Rattle.std.proofs.Common.{◌≡◌, ◌≢◌, ℕ, zero, suc, ◌+◌, ◌*◌, ◌<◌, ◌≤◌, List, [], ◌∷◌, length, take, drop, get_or, refl, sym, ap, subst, ◌∙◌, arith, Bool, true, false, not, ◌==◌, Some, None, Result, Ok, Err, Contains}
+use Rattle.nb_restore.proofs.Common.{eqb-true, take-take, number_in, is_free_file, is_header, signature, state_of, size_of, is_header-take, number_in-take, stalled_state, File, Files, same_name, Refusal, NoFile, BadLevel, ChainLevel, ChainGuid, ChainSize, ChainScn, Page, first_page, Cause, first_cause, when, Head, Contents, begins_level, joined, read_level, Link, level_link, whole_link, is_bad_length, not_whole, first_link, not_behind, next_link, linked, next_links, verdict, IsOfSize, page-joined, IsSource, AreSources, ok_same, err_not_ok, some_none}
 use Rattle.std.specs.Cmp.Lexicographic.{told_text}
-use Rattle.std.proofs.lemmas.Bool.{eqb-true, true≢false}
-use Rattle.std.proofs.lemmas.List.{take-take}
-use Rattle.nb_fields.specs.Bytes.{number_in}
-use Rattle.nb_fields.specs.Free.{is_free_file}
-use Rattle.nb_fields.specs.Header.{is_header, signature, state_of, size_of}
-use Rattle.nb_fields.proofs.HeaderLaws.{is_header-take}
-use Rattle.nb_fields.proofs.PartLaws.{number_in-take}
-use Rattle.nb_fields.specs.States.{stalled_state}
-use Rattle.nb_host.specs.Files.{File, Files}
-use Rattle.nb_host.specs.Names.{same_name}
-use Rattle.nb_host.specs.declared.refusals.Refusal.{Refusal}
-use Rattle.nb_host.specs.declared.refusals.Refusal.TheVariants.{NoFile, BadLevel, ChainLevel, ChainGuid, ChainSize, ChainScn}
-use Rattle.nb_model.specs.Image.{Page, first_page}
-use Rattle.nb_model.specs.Causes.{Cause, first_cause, when}
-use Rattle.nb_model.specs.Levels.{Head, Contents, begins_level, joined, read_level}
-use Rattle.nb_model.specs.Restoring.{Link, level_link, whole_link, is_bad_length, not_whole, first_link, not_behind, next_link, linked, next_links, verdict}
-use Rattle.nb_model.specs.Sound.{IsOfSize}
 use Rattle.nb_model.proofs.FreeLaws.{free_no_level, free_header}
-use Rattle.nb_model.proofs.ImageLaws.{page-joined}
-use Rattle.nb_restore.specs.Sources.{IsSource, AreSources}
-use Rattle.nb_restore.proofs.AnswerLaws.{ok_same, err_ok}
-
--- causes of which none applies, one after another
-pub clear_head : (c : Cause) (cs : List Cause) → first_cause (c ∷ cs) ≡ None → (c ≡ None) × (first_cause cs ≡ None)
-unfolding first_cause
-clear_head None cs e = (refl, e)
-clear_head (Some r) cs e = absurd (some_none e)
-  where
-    some_none : Some r ≡ None → ⊥
-    some_none h = cc
-
-pub when_clear : (test : Bool) (r : Refusal) → when test r ≡ None → test ≡ false
-when_clear true r e = absurd (some_none e)
-  where
-    some_none : Some r ≡ None → ⊥
-    some_none h = cc
-when_clear false r e = refl
-
-pub not_false : (b : Bool) → not b ≡ false → b ≡ true
-not_false true e = refl
-not_false false e = absurd (true≢false e)
-
-pub test_passed : (test : Bool) (r : Refusal) → when (not test) r ≡ None → test ≡ true
-test_passed test r e = not_false test (when_clear (not test) r e)
+use Rattle.nb_model.proofs.PutSound.{no_first, not_when}
+use Rattle.nb_model.proofs.TurnCases.{is_so}
 
 -- what the head of a level file in place k names of the file before it
 pub record GoesBehind (k : ℕ) (last : Link) (h : Head) : Type 0 where
@@ -57,15 +16,15 @@ pub record GoesBehind (k : ℕ) (last : Link) (h : Head) : Type 0 where
 pub goes_behind : (k : ℕ) (last : Link) (name : List ℕ) (c : Contents) → not_behind k last name c ≡ None → GoesBehind k last c.head
 unfolding not_behind
 goes_behind k last name c none =
-    let level = clear_head _ _ none in
-    let guid = clear_head _ _ level.1 in
-    let size = clear_head _ _ guid.1 in
-    let scn = clear_head _ _ size.1 in
+    let level = no_first _ _ none in
+    let guid = no_first _ _ level.1 in
+    let size = no_first _ _ guid.1 in
+    let scn = no_first _ _ size.1 in
     record {
-      level = eqb-true c.head.level k (test_passed (c.head.level == k) (ChainLevel name c.head.level k) level.0);
-      previous = told_text c.head.previous last.guid true (sym (test_passed (same_name c.head.previous last.guid) (ChainGuid name c.head.previous last.guid) guid.0));
-      size = eqb-true c.head.size last.size (test_passed (c.head.size == last.size) (ChainSize name c.head.size last.size) size.0);
-      previous_scn = eqb-true c.head.previous_scn last.scn (test_passed (c.head.previous_scn == last.scn) (ChainScn name c.head.previous_scn last.scn) scn.0);
+      level = eqb-true c.head.level k (is_so (c.head.level == k) (ChainLevel name c.head.level k) level.0);
+      previous = told_text c.head.previous last.guid true (sym (is_so (same_name c.head.previous last.guid) (ChainGuid name c.head.previous last.guid) guid.0));
+      size = eqb-true c.head.size last.size (is_so (c.head.size == last.size) (ChainSize name c.head.size last.size) size.0);
+      previous_scn = eqb-true c.head.previous_scn last.scn (is_so (c.head.previous_scn == last.scn) (ChainScn name c.head.previous_scn last.scn) scn.0);
     }
 
 -- the file after another is a level file
@@ -81,7 +40,7 @@ level_file k last name bytes l e = by (begins_level bytes) (number_in 16 4 bytes
   where
     behind : (c : Contents) → read_level bytes ≡ Ok c → (cause : Cause) → not_behind k last name c ≡ cause
         → elim cause as (λ x. Result Link Refusal) [ Some refusal ↦ Err refusal | None ↦ Ok (level_link c) ] ≡ Ok l → IsLevelFile k last bytes l
-    behind c read (Some r) is h = absurd (err_ok r l (Err r) refl h)
+    behind c read (Some r) is h = absurd (err_not_ok r l (Err r) refl h)
     behind c read None is h = record { contents = c; read = read; behind = goes_behind k last name c is; is = ok_same l (level_link c) (Ok (level_link c)) h refl }
 
     by : (begins signed : Bool) (r : Result Contents ℕ) → read_level bytes ≡ r
@@ -92,9 +51,9 @@ level_file k last name bytes l e = by (begins_level bytes) (number_in 16 4 bytes
             | Ok c ↦ elim (not_behind k last name c) as (λ x. Result Link Refusal) [ Some refusal ↦ Err refusal | None ↦ Ok (level_link c) ]
           ]
         ] ≡ Ok l → IsLevelFile k last bytes l
-    by false true r is h = absurd (err_ok (ChainLevel name 0 k) l (Err (ChainLevel name 0 k)) refl h)
-    by false false r is h = absurd (err_ok (BadLevel name 0) l (Err (BadLevel name 0)) refl h)
-    by true signed (Err at) is h = absurd (err_ok (BadLevel name at) l (Err (BadLevel name at)) refl h)
+    by false true r is h = absurd (err_not_ok (ChainLevel name 0 k) l (Err (ChainLevel name 0 k)) refl h)
+    by false false r is h = absurd (err_not_ok (BadLevel name 0) l (Err (BadLevel name 0)) refl h)
+    by true signed (Err at) is h = absurd (err_not_ok (BadLevel name at) l (Err (BadLevel name at)) refl h)
     by true signed (Ok c) is h = behind c is (not_behind k last name c) refl h
 
 -- links with one before them
@@ -105,7 +64,7 @@ record IsLinked (l : Link) (links : List Link) (rest : Result (List Link) Refusa
 
 linked_parts : (l : Link) (links : List Link) (rest : Result (List Link) Refusal) → linked l rest ≡ Ok links → IsLinked l links rest
 linked_parts l links (Ok more) e = record { more = more; all = ok_same links (l ∷ more) (Ok (l ∷ more)) e refl; is = refl }
-linked_parts l links (Err r) e = absurd (err_ok r links (Err r) refl e)
+linked_parts l links (Err r) e = absurd (err_not_ok r links (Err r) refl e)
 
 -- the files after another begin with a level file
 pub record IsNextSplit (files : Files) (k : ℕ) (last : Link) (name : List ℕ) (names : List (List ℕ)) (links : List Link) : Type 0 where
@@ -124,7 +83,7 @@ split_next files k last name names links e = by (files name) refl e
   where
     one : (bytes : List ℕ) → files name ≡ Some bytes → (answer : Result Link Refusal) → next_link k last name bytes ≡ answer
         → elim answer as (λ x. Result (List Link) Refusal) [ Err refusal ↦ Err refusal | Ok l ↦ linked l (next_links files (k + 1) l names) ] ≡ Ok links → IsNextSplit files k last name names links
-    one bytes there (Err r) is h = absurd (err_ok r links (Err r) refl h)
+    one bytes there (Err r) is h = absurd (err_not_ok r links (Err r) refl h)
     one bytes there (Ok l) is h =
         let parts = linked_parts l links (next_links files (k + 1) l names) h in
         record { bytes = bytes; there = there; link = l; accepted = is; level = level_file k last name bytes l is; rest = parts.more; all = parts.all; next = parts.is }
@@ -134,7 +93,7 @@ split_next files k last name names links e = by (files name) refl e
           | None ↦ Err (NoFile name)
           | Some bytes ↦ elim (next_link k last name bytes) as (λ x. Result (List Link) Refusal) [ Err refusal ↦ Err refusal | Ok l ↦ linked l (next_links files (k + 1) l names) ]
         ] ≡ Ok links → IsNextSplit files k last name names links
-    by None is h = absurd (err_ok (NoFile name) links (Err (NoFile name)) refl h)
+    by None is h = absurd (err_not_ok (NoFile name) links (Err (NoFile name)) refl h)
     by (Some bytes) is h = one bytes is (next_link k last name bytes) refl h
 
 pub none_next : (files : Files) (k : ℕ) (last : Link) (links : List Link) → next_links files k last [] ≡ Ok links → [] ≡ links
@@ -182,7 +141,7 @@ split_chain files name others links e = by (files name) refl e
   where
     one : (bytes : List ℕ) → files name ≡ Some bytes → (answer : Result Link Refusal) → first_link name bytes ≡ answer
         → elim answer as (λ x. Result (List Link) Refusal) [ Err refusal ↦ Err refusal | Ok l ↦ linked l (next_links files 1 l others) ] ≡ Ok links → IsSplit files name others links
-    one bytes there (Err r) is h = absurd (err_ok r links (Err r) refl h)
+    one bytes there (Err r) is h = absurd (err_not_ok r links (Err r) refl h)
     one bytes there (Ok l) is h =
         let parts = linked_parts l links (next_links files 1 l others) h in
         record { bytes = bytes; there = there; first = l; accepted = is; rest = parts.more; all = parts.all; next = parts.is }
@@ -192,7 +151,7 @@ split_chain files name others links e = by (files name) refl e
           | None ↦ Err (NoFile name)
           | Some bytes ↦ elim (first_link name bytes) as (λ x. Result (List Link) Refusal) [ Err refusal ↦ Err refusal | Ok l ↦ linked l (next_links files 1 l others) ]
         ] ≡ Ok links → IsSplit files name others links
-    by None is h = absurd (err_ok (NoFile name) links (Err (NoFile name)) refl h)
+    by None is h = absurd (err_not_ok (NoFile name) links (Err (NoFile name)) refl h)
     by (Some bytes) is h = one bytes is (first_link name bytes) refl h
 
 -- level 0 is a database in the stalled state
@@ -206,9 +165,6 @@ whole_parts : (name bytes : List ℕ) → not_whole name bytes ≡ None → (is_
 unfolding not_whole
 whole_parts name bytes e = by (is_header bytes) refl e
   where
-    some_none : (r : Refusal) → Some r ≡ None → ⊥
-    some_none r h = cc
-
     by : (header : Bool) → is_header bytes ≡ header
         → elim header as (λ x. Cause) [
           | false ↦ Some (BadLevel name 0)
@@ -216,9 +172,9 @@ whole_parts name bytes e = by (is_header bytes) refl e
         ] ≡ None → (is_header bytes ≡ true) × (state_of bytes ≡ stalled_state) × (is_bad_length bytes ≡ false)
     by false is h = absurd (some_none (BadLevel name 0) h)
     by true is h =
-        let state = clear_head _ _ h in
-        let long = clear_head _ _ state.1 in
-        (is, eqb-true (state_of bytes) 1 (test_passed (state_of bytes == stalled_state) (BadLevel name 22) state.0), when_clear (is_bad_length bytes) (BadLevel name (length bytes)) long.0)
+        let state = no_first _ _ h in
+        let long = no_first _ _ state.1 in
+        (is, eqb-true (state_of bytes) 1 (is_so (state_of bytes == stalled_state) (BadLevel name 22) state.0), not_when (is_bad_length bytes) (BadLevel name (length bytes)) long.0)
 
 pub copy_of : (name bytes : List ℕ) (l : Link) → first_link name bytes ≡ Ok l → IsCopy bytes l
 unfolding first_link
@@ -229,9 +185,9 @@ copy_of name bytes l e = by (begins_level bytes) (read_level bytes) (not_whole n
           | true ↦ elim r as (λ x. Result Link Refusal) [ Err at ↦ Err (BadLevel name at) | Ok c ↦ Err (ChainLevel name c.head.level 0) ]
           | false ↦ elim cause as (λ x. Result Link Refusal) [ Some refusal ↦ Err refusal | None ↦ Ok (whole_link bytes) ]
         ] ≡ Ok l → IsCopy bytes l
-    by true (Err at) cause is h = absurd (err_ok (BadLevel name at) l (Err (BadLevel name at)) refl h)
-    by true (Ok c) cause is h = absurd (err_ok (ChainLevel name c.head.level 0) l (Err (ChainLevel name c.head.level 0)) refl h)
-    by false r (Some refusal) is h = absurd (err_ok refusal l (Err refusal) refl h)
+    by true (Err at) cause is h = absurd (err_not_ok (BadLevel name at) l (Err (BadLevel name at)) refl h)
+    by true (Ok c) cause is h = absurd (err_not_ok (ChainLevel name c.head.level 0) l (Err (ChainLevel name c.head.level 0)) refl h)
+    by false r (Some refusal) is h = absurd (err_not_ok refusal l (Err refusal) refl h)
     by false r None is h = let parts = whole_parts name bytes is in record { is = ok_same l (whole_link bytes) (Ok (whole_link bytes)) h refl; header = parts.0; stalled = parts.1; whole = parts.2 }
 
 -- so its name isn't free

@@ -1,18 +1,6 @@
 -- What the target reads as, one page after another.
-use Rattle.std.proofs.Common.{◌≡◌, inl, inr, ℕ, zero, suc, ◌+◌, ◌-◌, ◌*◌, ◌<◌, ◌≤◌, List, [], ◌∷◌, ◌++◌, length, take, drop, replicate, refl, sym, ap, subst, ◌∙◌, arith, append_assoc, length-append, mul-le-mul_right, add-mul}
-use Rattle.std.specs.Prelude.{Some}
-use Rattle.std.proofs.lemmas.Bool.{cases_lt}
-use Rattle.std.proofs.lemmas.List.{take_all, drop_all, set_split, length-replicate}
-use Rattle.nb_fields.specs.Places.{most_pages}
-use Rattle.nb_host.specs.Files.{File, padded, put_at, with_page}
-use Rattle.nb_model.specs.Image.{Page, Image, Numbered, first_page, written_at, overwritten}
-use Rattle.nb_model.specs.Levels.{joined}
-use Rattle.nb_model.specs.Restoring.{Link, all_over}
-use Rattle.nb_model.specs.Sound.{IsOfSize}
-use Rattle.nb_model.proofs.ImageLaws.{all-append, all-take, all-drop, all-replicate, joined-append, length-joined, joined-zeros}
-use Rattle.nb_model.proofs.PutLaws.{put-joined}
-use Rattle.nb_chain.proofs.ImageLaws.{written-inside, written-past, length-written}
-use Rattle.nb_restore.specs.Copied.{Holds, Overwrites, OverwritesAll}
+use Rattle.std.proofs.Common.{◌≡◌, inl, inr, ℕ, zero, suc, ◌+◌, ◌-◌, ◌*◌, ◌<◌, ◌≤◌, List, [], ◌∷◌, ◌++◌, length, take, drop, replicate, refl, sym, ap, subst, ◌∙◌, arith, append_assoc, length-append, mul-le-mul_right, add-mul, Some}
+use Rattle.nb_restore.proofs.Common.{cases_lt, take_all, drop_all, set_split, length-replicate, most_pages, File, padded, put_at, with_page, Page, Image, Numbered, first_page, written_at, overwritten, joined, Link, all_over, IsOfSize, all-append, all-take, all-drop, all-replicate, joined-append, length-joined, joined-zeros, put-joined, written-inside, written-past, length-written, Holds, Overwrites, OverwritesAll}
 
 -- pages written one list after another
 pub overwritten-append : (size : ℕ) (xs ys : List Numbered) (image : Image) → overwritten size (xs ++ ys) image ≡ overwritten size ys (overwritten size xs image)
@@ -111,10 +99,7 @@ overwrites_joined size xs ys a b c p q r first second start image holds =
 -- one page that isn't page 0 is written
 pub overwrites_page : (size n : ℕ) (page : Page) (before after : File) (first : Page) → 1 ≤ n → n < most_pages → length page ≡ size → after ≡ with_page before (n * length page) page → Overwrites size ((n, page) ∷ []) before after first first
 overwrites_page size zero page before after first some below long put start image holds = absurd (omega arith)
-overwrites_page size (suc n) page before after first some below long put start [] holds = absurd (none holds.some)
-  where
-    none : 1 ≤ 0 → ⊥
-    none h = omega arith
+overwrites_page size (suc n) page before after first some below long put start [] holds = absurd (let few : 1 ≤ 0 = holds.some in omega (arith, few))
 overwrites_page size (suc n) page before after first some below long put start (p ∷ ps) holds =
     subst (λ (x : Image). Holds size start first x after) (sym (overwritten-one size (suc n, page) (p ∷ ps))) (record {
       reads = put ∙ ap (λ (f : File). with_page f (suc n * length page) page) holds.reads
@@ -131,10 +116,7 @@ overwrites_page size (suc n) page before after first some below long put start (
 -- page 0 is held
 pub overwrites_first : (size n : ℕ) (page : Page) (file : File) (first last : Page) → n ≡ 0 → length page ≡ size → last ≡ page → Overwrites size ((n, page) ∷ []) file file first last
 overwrites_first size (suc n) page file first last none long same start image holds = absurd (omega (arith, none))
-overwrites_first size zero page file first last none long same start [] holds = absurd (empty holds.some)
-  where
-    empty : 1 ≤ 0 → ⊥
-    empty h = omega arith
+overwrites_first size zero page file first last none long same start [] holds = absurd (let few : 1 ≤ 0 = holds.some in omega (arith, few))
 overwrites_first size zero page file first last none long same start (p ∷ ps) holds =
     let image_is : overwritten size ((0, page) ∷ []) (p ∷ ps) ≡ page ∷ ps = overwritten-one size (0, page) (p ∷ ps) ∙ written-zero size page p ps in
     subst (λ (x : Image). Holds size start last x file) (sym image_is) (record {

@@ -1,30 +1,9 @@
 -- Page 0 in the normal state makes the target the database that the chain gives.
-use Rattle.std.proofs.Common.{◌≡◌, inl, inr, ℕ, ◌+◌, ◌*◌, ◌≤◌, [], ◌∷◌, ◌++◌, length, take, drop, replicate, refl, sym, ap, subst, ◌∙◌, arith, length-append}
-use Rattle.std.specs.Prelude.{true, false, IsTrue, Some}
-use Rattle.std.proofs.lemmas.Bool.{and_parts, and_from}
-use Rattle.std.proofs.lemmas.List.{take-append-le}
-use Rattle.nb_fields.specs.Bytes.{bytes_of, with_part, number_in, is_zeros}
-use Rattle.nb_fields.specs.Header.{is_header, is_marked, is_sound, state_of, size_of, scn_of, guid_of, pending_of}
-use Rattle.nb_fields.specs.Places.{is_page_size, most_pages}
-use Rattle.nb_fields.proofs.HeaderLaws.{is_header-long}
-use Rattle.nb_fields.proofs.PartLaws.{length-with_part, number_in-with_part, number_in-with_part_other}
-use Rattle.nb_fields.proofs.SizeLaws.{size_facts}
-use Rattle.nb_fields.specs.States.{normal_state}
-use Rattle.nb_host.specs.Files.{File, bytes_of as file_bytes, put_at, with_page}
-use Rattle.nb_host.specs.Crash.{PageLeft}
-use Rattle.nb_page.specs.declared.header.Header.{Header}
+use Rattle.std.proofs.Common.{◌≡◌, inl, inr, ℕ, ◌+◌, ◌*◌, ◌≤◌, [], ◌∷◌, ◌++◌, length, take, drop, replicate, refl, sym, ap, subst, ◌∙◌, arith, length-append, true, false, IsTrue, Some}
+use Rattle.nb_restore.proofs.Common.{and_parts, and_from, take-append-le, with_part, number_in, is_zeros, is_header, is_marked, is_sound, state_of, size_of, scn_of, guid_of, pending_of, is_page_size, most_pages, is_header-long, length-with_part, number_in-with_part, number_in-with_part_other, size_facts, normal_state, File, put_at, with_page, PageLeft, Header, Page, Image, trimmed, joined, HoldsMain, IsOfSize, fixed, header-long, form, header-size, header-scn, header-other, Trimming, trimming, trimmed-other, trimmed-before, main_laid, put-first, BeginsWith, Holds, IsFree, IsFreeOr, IsUnfinishedPage}
+use Rattle.nb_fields.specs.Bytes.{bytes_of}
+use Rattle.nb_host.specs.Files.{bytes_of as file_bytes}
 use Rattle.nb_page.proofs.HeaderLaws.{is_sound-form}
-use Rattle.nb_model.specs.Image.{Page, Image, trimmed}
-use Rattle.nb_model.specs.Levels.{joined}
-use Rattle.nb_model.specs.Main.{HoldsMain}
-use Rattle.nb_model.specs.Sound.{IsOfSize}
-use Rattle.nb_model.specs.Strokes.{fixed}
-use Rattle.nb_model.proofs.HeaderLaws.{header-long, form, header-size, header-scn, header-other}
-use Rattle.nb_model.proofs.ImageLaws.{Trimming, trimming, trimmed-other, trimmed-before}
-use Rattle.nb_model.proofs.MainLaws.{main_laid}
-use Rattle.nb_model.proofs.PutLaws.{put-first}
-use Rattle.nb_restore.specs.Copied.{BeginsWith, Holds}
-use Rattle.nb_restore.specs.Target.{IsFree, IsFreeOr, IsUnfinishedPage}
 use Rattle.nb_restore.proofs.HeadLaws.{HasHead}
 use Rattle.nb_restore.proofs.TargetLaws.{free_front}
 
@@ -108,10 +87,7 @@ module _ (size : ℕ) (start first : Page) (image : Image) (file : File) (is : I
   written_whole last last_is = by image holds head
     where
       by : (i : Image) → Holds size start first i file → HasHead size 5 i → HoldsMain (fixed (trimmed i)) (with_page file (0 * length last) last)
-      by [] h k = absurd (none h.some)
-        where
-          none : 1 ≤ 0 → ⊥
-          none j = omega arith
+      by [] h k = absurd (let few : 1 ≤ 0 = h.some in omega (arith, few))
       by (p ∷ ps) h k =
           let page : last ≡ normal_page p = last_is ∙ ap normal_page h.page_0 in
           let long : length last ≡ size = ap length page ∙ normal-length p k.header ∙ h.sizes.0 in

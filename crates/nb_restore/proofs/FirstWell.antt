@@ -1,14 +1,6 @@
 -- An image whose page 0 becomes another with the same control fields, but for the state, stays well.
-use Rattle.std.proofs.Common.{◌≡◌, ℕ, List, length, sym, ap, subst, ◌∙◌, arith}
-use Rattle.std.specs.Prelude.{true}
-use Rattle.nb_fields.specs.Header.{is_header, state_of, size_of, scn_of, guid_of}
-use Rattle.nb_fields.specs.Page.{stamp_of}
-use Rattle.nb_model.specs.Image.{Page, Image, first_page}
-use Rattle.nb_model.specs.Account.{Kept}
-use Rattle.nb_model.specs.Sound.{HasHeader, IsSoundImage}
-use Rattle.nb_model.specs.Stands.{IsKeptAs, GoesOn, NamesPast}
-use Rattle.nb_model.specs.Well.{IsWellIn}
-use Rattle.nb_model.proofs.FirstPageLaws.{with_first, IsLaterFirst, first, new_header, first_sound, first_goes_on, first_past}
+use Rattle.std.proofs.Common.{◌≡◌, ℕ, List, length, sym, ap, subst, ◌∙◌, arith, true}
+use Rattle.nb_restore.proofs.Common.{is_header, state_of, size_of, scn_of, guid_of, stamp_of, Page, Image, first_page, Kept, HasHeader, IsSoundImage, IsKeptAs, GoesOn, NamesPast, IsWellIn, with_first, IsLaterFirst, first, new_header, first_sound, first_goes_on, first_past}
 
 -- page 0 may become this page
 pub record IsLikeFirst (before page : Page) : Type 0 where

@@ -1,16 +1,8 @@
 -- An image in the normal state, with nothing else changed, stays sound and goes on from what it went on from.
 use Rattle.std.proofs.Common.{◌≡◌, inl, List, [], ◌∷◌, refl, subst, arith}
+use Rattle.nb_restore.proofs.Common.{part-with_part_other, Page, Image, first_page, Kept, fixed, HasHeader, IsSoundImage, GoesOn, NamesPast, IsWell, header-long, with_first}
 use Rattle.nb_fields.specs.Bytes.{bytes_of}
-use Rattle.nb_fields.proofs.PartLaws.{part-with_part_other}
-use Rattle.nb_model.specs.Image.{Page, Image, first_page}
-use Rattle.nb_model.specs.Account.{Kept}
-use Rattle.nb_model.specs.Strokes.{fixed}
-use Rattle.nb_model.specs.Sound.{HasHeader, IsSoundImage}
-use Rattle.nb_model.specs.Stands.{GoesOn, NamesPast}
-use Rattle.nb_model.specs.Well.{IsWell}
-use Rattle.nb_model.proofs.HeaderLaws.{header-long}
 use Rattle.nb_restore.proofs.FinishLaws.{normal_page, normal-length, normal-state, normal-size, normal-header, before, past, two}
-use Rattle.nb_model.proofs.FirstPageLaws.{with_first}
 use Rattle.nb_restore.proofs.FirstWell.{IsLikeFirst, first_well}
 
 -- page 0 is that page in the normal state

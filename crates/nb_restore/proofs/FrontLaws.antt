@@ -1,18 +1,6 @@
 -- The first 64 bytes of the target stay while pages after page 0 are written.
-use Rattle.std.proofs.Common.{◌≡◌, ◌⊎◌, inl, inr, ⊎_elim, ℕ, ◌+◌, ◌-◌, ◌*◌, ◌≤◌, List, ◌++◌, length, take, drop, replicate, sym, ap, subst, ◌∙◌, arith, length-append, mul-le-mul_right}
-use Rattle.std.specs.Prelude.{Bool, IsTrue, Some, Result, Ok, Err, OnOk}
-use Rattle.std.proofs.lemmas.List.{take-append-le, take-take, length-take-le, length-replicate}
-use Rattle.nb_host.specs.Files.{File, Files, bytes_of, padded, put_at, with_file, with_page}
-use Rattle.nb_host.specs.World.{World}
-use Rattle.nb_host.specs.Crash.{AppendLeft, PageLeft}
-use Rattle.nb_host.specs.Calls.{AppendsBytes, IsStill, WritesPage}
-use Rattle.nb_host.specs.Moments.{IsTimely, Passes}
-use Rattle.nb_change.specs.Changes.{Changes, Only, Moved}
-use Rattle.nb_change.proofs.NameLaws.{with_file-same}
-use Rattle.nb_change.proofs.ResultLaws.{whole_on_ok, on_ok_then}
-use Rattle.nb_change.proofs.CallLaws.{bytes_alone, page_alone}
-use Rattle.nb_change.proofs.MovedLaws.{moved_begun, moved_still, moved_joined}
-use Rattle.nb_restore.specs.Copied.{BeginsWith, KeepsFront}
+use Rattle.std.proofs.Common.{◌≡◌, ◌⊎◌, inl, inr, ⊎_elim, ℕ, ◌+◌, ◌-◌, ◌*◌, ◌≤◌, List, ◌++◌, length, take, drop, replicate, sym, ap, subst, ◌∙◌, arith, length-append, Bool, IsTrue, Some, Result, Ok, Err, OnOk}
+use Rattle.nb_restore.proofs.Common.{take-append-le, take-take, length-take-le, length-replicate, File, Files, bytes_of, padded, put_at, with_page, World, AppendLeft, PageLeft, AppendsBytes, IsStill, WritesPage, IsTimely, Passes, Changes, Only, Moved, whole_on_ok, on_ok_then, bytes_alone, page_alone, moved_begun, moved_still, moved_joined, BeginsWith, KeepsFront, with_file-named, far_behind}
 
 -- bytes after, and a page after
 front_grown : (front more : List ℕ) (b : File) → BeginsWith front b → BeginsWith front (Some (bytes_of b ++ more))
@@ -46,24 +34,16 @@ pub keeps_bytes : (len : ℕ) (bytes : List ℕ) (b c : File) → AppendLeft len
 keeps_bytes len bytes b c (inl same) front begins = subst (λ (f : File). BeginsWith front f) (sym same) begins
 keeps_bytes len bytes b c (inr (torn, from, there, grown)) front begins = subst (λ (f : File). BeginsWith front f) (sym grown) (front_grown front torn b begins)
 
--- page n lies after the header
-pub far_behind : (n size : ℕ) → 1 ≤ n → 1024 ≤ size → 64 ≤ n * size
-far_behind n size some wide = let low : 1 * size ≤ n * size = mul-le-mul_right size some in omega (arith, low, wide)
-
--- the file under a name that was just given to it
-pub named : (old new : Files) (name : List ℕ) (file : File) → new ≡ with_file old name file → new name ≡ file
-named old new name file is = ap (λ (f : Files). f name) is ∙ with_file-same old name file
-
 -- at Ok the page was put
 pub put_on_ok : {T E : Type 0} (tells : Bool) (result : Result T E) (old new : World) (name : List ℕ) (at : ℕ) (page : List ℕ) → IsTrue tells → WritesPage tells result old new name at page → OnOk result (new.files name ≡ with_page (old.files name) at page)
-put_on_ok tells result old new name at page told writes = on_ok_then result (named old.files new.files name (with_page (old.files name) at page)) (whole_on_ok result old.files _ new.files (writes.files told))
+put_on_ok tells result old new name at page told writes = on_ok_then result (with_file-named old.files new.files name (with_page (old.files name) at page)) (whole_on_ok result old.files _ new.files (writes.files told))
 
 -- the file reads as before the page was written, or with it
 pub page_read : {T E : Type 0} (tells : Bool) (result : Result T E) (old new : World) (name : List ℕ) (at : ℕ) (page : List ℕ) → IsTrue tells → WritesPage tells result old new name at page
     → (new.files name ≡ old.files name) ⊎ (new.files name ≡ with_page (old.files name) at page)
-page_read tells (Ok value) old new name at page told writes = inr (named old.files new.files name (with_page (old.files name) at page) (writes.files told))
+page_read tells (Ok value) old new name at page told writes = inr (with_file-named old.files new.files name (with_page (old.files name) at page) (writes.files told))
 page_read tells (Err e) old new name at page told writes =
-    ⊎_elim (λ same. inl (ap (λ (f : Files). f name) same)) (λ put. inr (named old.files new.files name (with_page (old.files name) at page) put)) (writes.files told)
+    ⊎_elim (λ same. inl (ap (λ (f : Files). f name) same)) (λ put. inr (with_file-named old.files new.files name (with_page (old.files name) at page) put)) (writes.files told)
 
 module _ (name : List ℕ) where
   -- before the first call

@@ -1,16 +1,8 @@
 -- Page 0 of what a chain gives has a header, and page 0 of each level file too.
-use Rattle.std.proofs.Common.{◌≡◌, ◌≢◌, ◌⊎◌, inl, inr, ℕ, ◌+◌, ◌≤◌, List, [], ◌∷◌, length, ap, ◌∙◌, arith}
-use Rattle.std.specs.Prelude.{true, ◌==◌, Ok}
-use Rattle.std.proofs.lemmas.Bool.{and_parts, cases_eq, eqb-true}
-use Rattle.nb_fields.specs.Header.{is_header, state_of, size_of}
-use Rattle.nb_fields.specs.States.{stalled_state}
-use Rattle.nb_model.specs.Image.{Page, Image, Numbered, first_page, written_at, overwritten}
-use Rattle.nb_model.specs.Levels.{Head, Contents, AreRising, is_first_page, read_level}
-use Rattle.nb_model.specs.Restoring.{Link, all_over}
+use Rattle.std.proofs.Common.{◌≡◌, ◌≢◌, ◌⊎◌, inl, inr, ℕ, ◌+◌, ◌≤◌, List, [], ◌∷◌, length, ap, ◌∙◌, arith, true, ◌==◌, Ok}
+use Rattle.nb_restore.proofs.Common.{and_parts, cases_eq, eqb-true, is_header, state_of, size_of, stalled_state, Page, Image, Numbered, first_page, written_at, overwritten, Head, Contents, AreRising, is_first_page, read_level, Link, all_over, length-written, IsHeaded, AreHeaded}
 use Rattle.nb_model.proofs.LevelWalk.{FirstIsZero}
 use Rattle.nb_level.proofs.PagesLaws.{level_pages}
-use Rattle.nb_chain.proofs.ImageLaws.{length-written}
-use Rattle.nb_restore.specs.Sources.{IsHeaded, AreHeaded}
 use Rattle.nb_restore.proofs.CopiedLaws.{first-written}
 
 -- Page 0 has a header that names the page size, and there are at least so many pages.

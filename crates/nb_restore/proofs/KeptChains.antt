@@ -1,34 +1,12 @@
 -- Files that are those of a chain of kept backups are accepted. A file after them that isn't in its place, or is foreign, is refused.
-use Rattle.std.proofs.Common.{◌≡◌, ◌≢◌, ℕ, ◌+◌, ◌≤◌, List, [], ◌∷◌, ◌++◌, length, refl, sym, ap, subst, ◌∙◌, arith}
-use Rattle.std.specs.Prelude.{Bool, true, false, ◌&&◌, ◌==◌, nat_le, Option, Some, None, Ok, Err, Contains}
-use Rattle.std.specs.Cmp.Lexicographic.{told_text}
-use Rattle.std.specs.List.{AllByRecursion}
-use Rattle.std.proofs.lemmas.Bool.{and_parts}
-use Rattle.nb_fields.specs.Bytes.{number_in}
-use Rattle.nb_fields.specs.Header.{header_length, is_header, is_marked, is_sound, signature, version, state_of, size_of, scn_of}
-use Rattle.nb_host.specs.Files.{Files}
-use Rattle.nb_host.specs.Names.{is_delta, same_name}
-use Rattle.nb_host.specs.declared.refusals.Refusal.{Refusal}
-use Rattle.nb_host.specs.declared.refusals.Refusal.TheVariants.{ChainLevel, ChainGuid}
-use Rattle.nb_model.specs.Image.{image_size}
-use Rattle.nb_model.specs.Account.{Ask, Kept, Account}
-use Rattle.nb_model.specs.Causes.{first_cause}
-use Rattle.nb_model.specs.Levels.{Contents, begins_level, read_level, file_of, taken}
-use Rattle.nb_model.specs.Line.{HoldLine, first_file, next_files, last_in}
-use Rattle.nb_model.specs.Restoring.{Link, level_link, whole_link, first_link, not_behind, next_link, next_links, linked, verdict}
-use Rattle.nb_model.specs.Sound.{HasNoZeros, IsSoundImage}
-use Rattle.nb_model.specs.Stands.{to_record, Stands}
-use Rattle.nb_model.proofs.ChainLaws.{kept_accepted, step_there}
-use Rattle.nb_model.proofs.ReadLaws.{eq_no, eq_yes}
+use Rattle.std.proofs.Common.{◌≡◌, ◌≢◌, ℕ, ◌+◌, ◌≤◌, List, [], ◌∷◌, ◌++◌, length, refl, sym, ap, subst, ◌∙◌, arith, Bool, true, false, ◌&&◌, ◌==◌, nat_le, Option, Some, None, Ok, Err, Contains}
+use Rattle.nb_restore.proofs.Common.{AllByRecursion, and_parts, number_in, header_length, is_header, is_marked, is_sound, signature, version, state_of, size_of, scn_of, Files, is_delta, Refusal, ChainLevel, ChainGuid, image_size, Ask, Kept, Account, first_cause, Contents, begins_level, read_level, file_of, taken, HoldLine, first_file, next_files, last_in, Link, level_link, whole_link, first_link, not_behind, next_link, next_links, linked, verdict, HasNoZeros, IsSoundImage, to_record, Stands, kept_accepted, step_there, eq_no, eq_yes, no_level_begins, not_level, chain_accepted, chain_gives, copy_accepted, verdict_there, first_fields, AreLinksOf, GiveLast, HoldChain, HoldLevels, HoldsCopy, HoldsLevel, IsLinkOf, next_broken, err_not_ok}
 use Rattle.nb_model.proofs.SoundLaws.{kind_of_header}
-use Rattle.nb_model.proofs.StandsLaws.{no_level_begins, not_level}
-use Rattle.nb_model.proofs.WholeLaws.{chain_accepted, chain_gives, copy_accepted, verdict_there, first_fields}
-use Rattle.nb_restore.specs.Kept.{AreLinksOf, GiveLast, HoldChain, HoldLevels, HoldsCopy, HoldsLevel, IsLinkOf}
 use Rattle.nb_restore.proofs.AskLaws.{with_ask}
-use Rattle.nb_restore.proofs.AnswerLaws.{err_ok}
 use Rattle.nb_restore.proofs.ChainLaws.{IsCopy, IsLevelFile}
 use Rattle.nb_restore.proofs.KeptFirst.{HoldsKeptFirst, kept_first}
 use Rattle.nb_restore.proofs.KeptNext.{HoldsKeptNext, kept_next}
+use Rattle.nb_host.proofs.NameLaws.{same_other}
 
 -- a line tells of these records, with other asks at most
 abbrev AreAlike : List Kept → List Kept → Type 0
@@ -140,12 +118,12 @@ module _ (files : Files) (account : Account) (stands : Stands files account) whe
             ∙ ap (linked m) (walk (k + 1) p m ns qs refl refl refl holds.1 (λ x guid. ap (λ i. next_links files i x more) (let e : (k + 1) + length ns ≡ k + length (n ∷ ns) = omega arith in e) ∙ at_end x guid))
 
 -- a file that is read as a level begins as one
-level_begins : (bytes : List ℕ) (c : Contents) → read_level bytes ≡ Ok c → begins_level bytes ≡ true
+pub level_begins : (bytes : List ℕ) (c : Contents) → read_level bytes ≡ Ok c → begins_level bytes ≡ true
 level_begins bytes c read = by (begins_level bytes) refl
   where
     by : (b : Bool) → begins_level bytes ≡ b → begins_level bytes ≡ true
     by true is = is
-    by false is = absurd (err_ok 0 c (read_level bytes) (not_level bytes is) read)
+    by false is = absurd (err_not_ok 0 c (read_level bytes) (not_level bytes is) read)
 
 -- a level stands in the place of level 0
 first_refused : (name bytes : List ℕ) (c : Contents) → begins_level bytes ≡ true → read_level bytes ≡ Ok c → first_link name bytes ≡ Err (ChainLevel name c.head.level 0)
@@ -156,21 +134,9 @@ pub verdict_first : (files : Files) (name : List ℕ) (names : List (List ℕ)) 
 unfolding verdict
 verdict_first files name names bytes c there read = rw (there, verdict) (rw (first_refused name bytes c (level_begins bytes c read) read, verdict) refl)
 
--- a file after another is refused
-next_refused : (files : Files) (k : ℕ) (last : Link) (name : List ℕ) (names : List (List ℕ)) (bytes : List ℕ) (refusal : Refusal) → files name ≡ Some bytes → next_link k last name bytes ≡ Err refusal → next_links files k last (name ∷ names) ≡ Err refusal
-unfolding next_links
-next_refused files k last name names bytes refusal there refused = rw (there, next_links) (rw (refused, next_links) refl)
-
-level_refused : (k : ℕ) (last : Link) (name bytes : List ℕ) (c : Contents) (refusal : Refusal) → begins_level bytes ≡ true → read_level bytes ≡ Ok c → not_behind k last name c ≡ Some refusal → next_link k last name bytes ≡ Err refusal
+pub level_refused : (k : ℕ) (last : Link) (name bytes : List ℕ) (c : Contents) (refusal : Refusal) → begins_level bytes ≡ true → read_level bytes ≡ Ok c → not_behind k last name c ≡ Some refusal → next_link k last name bytes ≡ Err refusal
 unfolding next_link
 level_refused k last name bytes c refusal begins read refused = rw (begins, next_link) (rw (read, next_link) (rw (refused, next_link) refl))
-
-names_differ : (m n : List ℕ) → m ≢ n → same_name m n ≡ false
-names_differ m n other = by (same_name m n) refl
-  where
-    by : (b : Bool) → same_name m n ≡ b → same_name m n ≡ false
-    by false is = is
-    by true is = absurd (other (told_text m n true (sym is)))
 
 -- for its level, or for the GUID that it names
 pub wrong_level : (k : ℕ) (last : Link) (name : List ℕ) (c : Contents) → c.head.level ≢ k → not_behind k last name c ≡ Some (ChainLevel name c.head.level k)
@@ -179,11 +145,11 @@ wrong_level k last name c other = rw (eq_no c.head.level k other, first_cause) r
 
 pub wrong_guid : (k : ℕ) (last : Link) (name : List ℕ) (c : Contents) → c.head.level ≡ k → c.head.previous ≢ last.guid → not_behind k last name c ≡ Some (ChainGuid name c.head.previous last.guid)
 unfolding not_behind first_cause
-wrong_guid k last name c same other = rw (eq_yes c.head.level k same, first_cause) (rw (names_differ c.head.previous last.guid other, first_cause) refl)
+wrong_guid k last name c same other = rw (eq_yes c.head.level k same, first_cause) (rw (same_other c.head.previous last.guid other, first_cause) refl)
 
 pub level_behind : (files : Files) (k : ℕ) (last : Link) (name : List ℕ) (names : List (List ℕ)) (bytes : List ℕ) (c : Contents) (refusal : Refusal) → files name ≡ Some bytes → read_level bytes ≡ Ok c → not_behind k last name c ≡ Some refusal
     → next_links files k last (name ∷ names) ≡ Err refusal
-level_behind files k last name names bytes c refusal there read refused = next_refused files k last name names bytes refusal there (level_refused k last name bytes c refusal (level_begins bytes c read) read refused)
+level_behind files k last name names bytes c refusal there read refused = next_broken files k last name names bytes refusal there (level_refused k last name bytes c refusal (level_begins bytes c read) read refused)
 
 -- pages with a header are no level, and have the signature
 header_signed : (bytes : List ℕ) → is_header bytes ≡ true → (number_in 16 4 bytes == signature) ≡ true
@@ -200,4 +166,4 @@ pages_refused k last name bytes begins signed = rw (begins, next_link) (rw (sign
 
 pub copy_behind : (files : Files) (k : ℕ) (last : Link) (name : List ℕ) (names : List (List ℕ)) (bytes : List ℕ) → files name ≡ Some bytes → is_header bytes ≡ true → next_links files k last (name ∷ names) ≡ Err (ChainLevel name 0 k)
 copy_behind files k last name names bytes there header =
-    next_refused files k last name names bytes (ChainLevel name 0 k) there (pages_refused k last name bytes (no_level_begins bytes (kind_of_header bytes header)) (header_signed bytes header))
+    next_broken files k last name names bytes (ChainLevel name 0 k) there (pages_refused k last name bytes (no_level_begins bytes (kind_of_header bytes header)) (header_signed bytes header))

@@ -1,31 +1,9 @@
 -- Level 0 of a chain whose records are kept: the pages of its record, and pages of zeros after.
-use Rattle.std.proofs.Common.{◌≡◌, inl, inr, ℕ, suc, ◌/◌, ◌%◌, ◌≤◌, List, ◌++◌, length, refl, sym, ap, subst, ◌∙◌, arith, div-add-mod'}
-use Rattle.std.specs.Prelude.{true, false, not, ◌||◌, ◌==◌, nat_lt, Some, None}
-use Rattle.std.proofs.lemmas.Bool.{true≢false, eqb-true, or_parts}
-use Rattle.std.proofs.lemmas.Bool.Decides.{leb_tells}
-use Rattle.nb_fields.specs.Header.{is_header, size_of, guid_of}
-use Rattle.nb_fields.proofs.SizeLaws.{size_facts}
-use Rattle.nb_fields.specs.Places.{most_pages}
-use Rattle.nb_host.specs.Files.{Files}
-use Rattle.nb_host.specs.Names.{is_delta}
-use Rattle.nb_model.specs.Image.{Page, Image, image_size, image_in}
-use Rattle.nb_model.specs.Account.{Kept, Account}
-use Rattle.nb_model.specs.Causes.{not_database}
-use Rattle.nb_model.specs.Levels.{joined}
-use Rattle.nb_model.specs.Line.{HoldsFirst}
-use Rattle.nb_model.specs.Restoring.{Link, is_bad_length}
-use Rattle.nb_model.specs.Sound.{IsOfSize, IsSoundImage}
-use Rattle.nb_model.specs.Stands.{to_record, IsKeptAs, IsBegun, IsCopyOf, Stands}
+use Rattle.std.proofs.Common.{◌≡◌, ℕ, ◌/◌, ◌%◌, ◌≤◌, List, ◌++◌, length, refl, ap, subst, ◌∙◌, arith, div-add-mod', true, false, not, ◌||◌, ◌==◌, nat_lt, Some, None}
+use Rattle.nb_restore.proofs.Common.{eqb-true, or_parts, is_header, size_of, guid_of, size_facts, most_pages, Files, is_delta, Page, Image, image_size, image_in, Kept, Account, not_database, joined, HoldsFirst, Link, is_bad_length, IsOfSize, IsSoundImage, to_record, IsKeptAs, IsBegun, IsCopyOf, Stands, header-size, all-right, IsLaid, laid, copy_image, not_false, not_lt}
 use Rattle.nb_model.proofs.FormLaws.{no_cause}
-use Rattle.nb_model.proofs.HeaderLaws.{header-size}
-use Rattle.nb_model.proofs.ImageLaws.{all-right}
-use Rattle.nb_model.proofs.MainLaws.{IsLaid, laid}
-use Rattle.nb_model.proofs.OpenedLaws.{copy_image}
 use Rattle.nb_restore.proofs.AskLaws.{with_ask, begun_with}
-use Rattle.nb_restore.proofs.ChainLaws.{IsCopy, not_false}
-
-no_less : (m n : ℕ) → nat_lt n m ≡ false → m ≤ n
-no_less m n e = elim (leb_tells (suc n) m) [ inl w ↦ absurd (true≢false (sym w.0 ∙ e)) | inr w ↦ omega (arith, w.1) ]
+use Rattle.nb_restore.proofs.ChainLaws.{IsCopy}
 
 -- so many whole pages as a database may have
 record HasGoodLength (bytes : List ℕ) : Type 0 where
@@ -38,7 +16,7 @@ good_length bytes good =
     let count : ℕ = length bytes / size_of bytes in
     let parts = or_parts (not (length bytes % size_of bytes == 0)) (nat_lt count 5 || nat_lt most_pages count) good in
     let counts = or_parts (nat_lt count 5) (nat_lt most_pages count) parts.1 in
-    record { whole = eqb-true (length bytes % size_of bytes) 0 (not_false _ parts.0); least = no_less 5 count counts.0; most = no_less count most_pages counts.1 }
+    record { whole = eqb-true (length bytes % size_of bytes) 0 (not_false _ parts.0); least = not_lt 5 count counts.0; most = not_lt count most_pages counts.1 }
 
 is_formed : (bytes : List ℕ) → is_header bytes ≡ true → HasGoodLength bytes → not_database bytes ≡ None
 is_formed bytes header good =

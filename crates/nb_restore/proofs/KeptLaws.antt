@@ -1,26 +1,8 @@
 -- A chain of kept backups gives the image that the begin of its last one kept, and what is restored of it is well.
-use Rattle.std.proofs.Common.{◌≡◌, ℕ, ◌+◌, ◌≤◌, List, [], ◌∷◌, length, refl, sym, ap, subst, ◌∙◌, arith}
-use Rattle.std.specs.Prelude.{false, Option, Some, None, Ok, Contains}
-use Rattle.std.specs.List.{AllByRecursion}
-use Rattle.nb_host.specs.Files.{Files}
-use Rattle.nb_host.specs.Names.{is_delta}
-use Rattle.nb_model.specs.Image.{Image, image_size, first_page}
-use Rattle.nb_model.specs.Account.{Ask, Kept, Base, base_of, Account}
-use Rattle.nb_model.specs.Levels.{taken}
-use Rattle.nb_model.specs.Line.{HoldLine, first_file, next_files, last_in}
-use Rattle.nb_model.specs.Restoring.{Link, first_link, next_link, next_links, verdict, applied}
-use Rattle.nb_model.specs.Sound.{HasHeader, HasNoZeros, IsSoundImage}
-use Rattle.nb_model.specs.Stands.{to_record, Stands}
-use Rattle.nb_model.specs.Strokes.{fixed}
-use Rattle.nb_model.specs.Trail.{settled}
-use Rattle.nb_model.specs.Well.{IsWellBase}
+use Rattle.std.proofs.Common.{◌≡◌, ℕ, ◌+◌, ◌≤◌, List, [], ◌∷◌, length, refl, sym, ap, subst, ◌∙◌, arith, false, Option, Some, None, Ok, Contains}
+use Rattle.nb_restore.proofs.Common.{AllByRecursion, Files, is_delta, Image, image_size, first_page, Ask, Kept, Base, base_of, Account, taken, HoldLine, first_file, next_files, last_in, Link, first_link, next_link, next_links, verdict, applied, HasHeader, HasNoZeros, IsSoundImage, to_record, Stands, fixed, settled, IsWellBase, kept_accepted, header-room, copy_accepted, chain_accepted, chain_gives, AreKept, last_guid, GivesKept, IsLinkOf, some_same, ok_same}
 use Rattle.nb_model.specs.WellTrail.{IsWellTrail}
-use Rattle.nb_model.proofs.ChainLaws.{kept_accepted}
-use Rattle.nb_model.proofs.HeaderLaws.{header-room}
 use Rattle.nb_model.proofs.WellTrailLaws.{settled_well, well_normal}
-use Rattle.nb_model.proofs.WholeLaws.{copy_accepted, chain_accepted, chain_gives}
-use Rattle.nb_restore.specs.Kept.{AreKept, last_guid, GivesKept, IsLinkOf}
-use Rattle.nb_restore.proofs.AnswerLaws.{ok_same, some_same}
 use Rattle.nb_restore.proofs.AskLaws.{with_ask}
 use Rattle.nb_restore.proofs.ChainLaws.{split_chain, split_next, copy_of}
 use Rattle.nb_restore.proofs.FixedLaws.{fixed_well}

@@ -1,28 +1,11 @@
 -- A level file of a chain whose records are kept: it is the file of a record that goes on from the one before it.
-use Rattle.std.proofs.Common.{◌≡◌, ◌≢◌, inl, inr, ℕ, ◌≤◌, List, [], ◌∷◌, ◌++◌, length, take, refl, sym, ap, subst, ◌∙◌, arith}
-use Rattle.std.specs.Prelude.{Bool, true, false, ◌&&◌, ◌==◌, nat_le, Option, Some, None, Ok, Contains}
-use Rattle.std.proofs.lemmas.List.{append-nil}
+use Rattle.std.proofs.Common.{◌≡◌, ◌≢◌, inl, inr, ℕ, ◌≤◌, List, [], ◌∷◌, ◌++◌, length, take, refl, sym, ap, subst, ◌∙◌, arith, Bool, true, false, ◌&&◌, ◌==◌, nat_le, Option, Some, None, Ok, Contains}
+use Rattle.nb_restore.proofs.Common.{append-nil, is_header, Files, is_delta, Image, Numbered, first_page, Ask, Kept, Account, Head, Contents, IsHead, joined, taken, changed, body_bytes, end_bytes, head_then, head_in, head_for, file_for, file_of, level_bytes, read_level, HoldsNext, Link, IsSoundImage, nil, to_record, IsKeptAs, IsBegun, Stands, header-size, header-room, same-header, eq_no, joined_front, header_no_level, IsTold, level_told, some_same}
 use Rattle.nb_fields.specs.Bytes.{bytes_of}
-use Rattle.nb_fields.specs.Header.{is_header}
-use Rattle.nb_host.specs.Files.{Files}
-use Rattle.nb_host.specs.Names.{is_delta}
-use Rattle.nb_model.specs.Image.{Image, Numbered, first_page}
-use Rattle.nb_model.specs.Account.{Ask, Kept, Account}
-use Rattle.nb_model.specs.Levels.{Head, Contents, IsHead, joined, taken, changed, body_bytes, end_bytes, head_then, head_in, head_for, file_for, file_of, level_bytes, read_level}
-use Rattle.nb_model.specs.Line.{HoldsNext}
-use Rattle.nb_model.specs.Restoring.{Link}
-use Rattle.nb_model.specs.Sound.{IsSoundImage}
-use Rattle.nb_model.specs.Stands.{nil, to_record, IsKeptAs, IsBegun, Stands}
 use Rattle.nb_model.proofs.ChangedLaws.{sound_changed}
-use Rattle.nb_model.proofs.HeaderLaws.{header-size, header-room, same-header}
-use Rattle.nb_model.proofs.ReadLaws.{eq_no}
-use Rattle.nb_model.proofs.OpenedLaws.{joined_front}
-use Rattle.nb_model.proofs.StandsLaws.{header_no_level}
-use Rattle.nb_restore.proofs.AnswerLaws.{some_same}
 use Rattle.nb_restore.proofs.AskLaws.{with_ask, begun_with, guid_long}
 use Rattle.nb_restore.proofs.ChainLaws.{IsLevelFile}
 use Rattle.nb_restore.proofs.ParentLaws.{LeadsTo, AsksFrom, own_asks, span_asks}
-use Rattle.nb_level.proofs.ToldLaws.{IsTold, level_told}
 use Rattle.nb_restore.proofs.ReadLaws.{reads_level, reads_previous}
 
 -- pages with a header are no level file

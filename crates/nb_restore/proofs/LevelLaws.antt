@@ -1,25 +1,12 @@
 -- The pages of a level file, and of the level files, as far as they were written.
-use Rattle.std.proofs.Common.{◌≡◌, ◌≢◌, ℕ, List, [], ◌∷◌, ◌++◌, length, refl, sym, ap, subst, ◌∙◌, arith, append_assoc}
-use Rattle.std.specs.Prelude.{Bool, IsTrue, Result, Ok, Err}
-use Rattle.std.proofs.lemmas.List.{append-nil}
+use Rattle.std.proofs.Common.{◌≡◌, ◌≢◌, ℕ, List, [], ◌∷◌, ◌++◌, length, refl, sym, ap, subst, ◌∙◌, arith, append_assoc, Bool, IsTrue, Result, Ok, Err}
+use Rattle.nb_restore.proofs.Common.{append-nil, File, Files, bytes_of, Fault, Refused, Device, Memory, BadLevel, Page, Numbered, behind, Link, NextSays, Reading, still_to_come, IsDone, Overwrites, OverwritesAll, IsReady, AreReady, AreOfPages, ok_same, err_not_ok, nil_from_length}
 use Rattle.std.specs.Iterator.{Yields}
 use Rattle.std.specs.Vec.Iter.{into_iter_items, into_iter_len, into_iter_steps}
 use Rattle.std.specs.declared.vec.IntoIter.{IntoIter}
-use Rattle.nb_host.specs.Files.{File, Files, bytes_of}
-use Rattle.nb_host.specs.declared.faults.Fault.{Fault}
-use Rattle.nb_host.specs.declared.faults.Fault.TheVariants.{Refused, Device, Memory}
-use Rattle.nb_host.specs.declared.refusals.Refusal.TheVariants.{BadLevel}
-use Rattle.nb_model.specs.Image.{Page, Numbered}
-use Rattle.nb_model.specs.Levels.{behind}
-use Rattle.nb_model.specs.Restoring.{Link}
-use Rattle.nb_level.specs.Answers.{NextSays}
-use Rattle.nb_level.specs.Reading.{Reading, still_to_come}
 use Rattle.nb_level.specs.declared.item.Item.{Item}
 use Rattle.nb_level.specs.declared.item.Item.TheVariants.{PageAt, End}
 use Rattle.nb_chain.proofs.PageLaws.{gives_there}
-use Rattle.nb_restore.specs.Copied.{IsDone, Overwrites, OverwritesAll}
-use Rattle.nb_restore.specs.Sources.{IsReady, AreReady, AreOfPages}
-use Rattle.nb_restore.proofs.AnswerLaws.{ok_same, err_ok}
 use Rattle.nb_restore.proofs.CopiedLaws.{overwrites_none, overwrites_joined, all_none, all_more}
 
 -- whatever is to be done, a fault says the same of it
@@ -41,7 +28,7 @@ so_far_none size bytes reader records file first coming = record { done = []; re
 
 behind_ok : (rs rest : List Numbered) (r : Result (List Numbered) ℕ) → behind rs r ≡ Ok rest → (more : List Numbered) × (r ≡ Ok more) × (rest ≡ rs ++ more)
 behind_ok rs rest (Ok more) e = (more, refl, sym (ok_same (rs ++ more) rest (Ok (rs ++ more)) refl e))
-behind_ok rs rest (Err at) e = absurd (err_ok at rest (Err at) refl e)
+behind_ok rs rest (Err at) e = absurd (err_not_ok at rest (Err at) refl e)
 
 -- one page more of them
 pub so_far_more : (size : ℕ) (bytes : List ℕ) (reader next : Reading) (records : List Numbered) (n : ℕ) (page : Page) (a b c : File) (p q r : Page) → SoFar size bytes reader records a b p q
@@ -64,7 +51,7 @@ so_far_all size bytes reader records a b p q so_far none =
 
 -- no place of the file is broken
 pub so_far_broken : (size : ℕ) (bytes : List ℕ) (reader : Reading) (records : List Numbered) (at : ℕ) (a b : File) (p q : Page) → SoFar size bytes reader records a b p q → still_to_come bytes reader ≡ Err at → ⊥
-so_far_broken size bytes reader records at a b p q so_far broken = err_ok at so_far.rest (still_to_come bytes reader) broken so_far.coming
+so_far_broken size bytes reader records at a b p q so_far broken = err_not_ok at so_far.rest (still_to_come bytes reader) broken so_far.coming
 
 module _ (size : ℕ) (reader : Reading) (records : List Numbered) (tells : Bool) (told : IsTrue tells) (file now : File) (there : now ≡ file) (a b : File) (p q : Page) (so_far : SoFar size (bytes_of file) reader records a b p q) where
   -- the next page is read, and written over
@@ -169,13 +156,9 @@ counted : {X A : Type 0} (s : IntoIter X A) (xs : List X) (t : IntoIter X A) →
 counted s [] t long y = subst (λ i. into_iter_len i ≡ length (into_iter_items i)) y long
 counted s (x ∷ xs) t long y = counted y.0 xs t (let one = ap length y.1.0 in let fewer = y.1.1 in omega (arith, one, fewer, long)) y.2
 
-nothing_left : {X : Type 0} (xs : List X) → length xs ≡ 0 → xs ≡ []
-nothing_left [] none = refl
-nothing_left (x ∷ xs) none = absurd (omega (arith, none))
-
 pub all_taken : {X A : Type 0} (all : List X) (s : IntoIter X A) (xs : List X) (t : IntoIter X A) → into_iter_items s ≡ all → into_iter_len s ≡ length all → Yields into_iter_steps s xs t → into_iter_len t ≡ 0 → all ≡ xs ++ []
 all_taken all s xs t given long y none =
-    sym given ∙ taken_front s xs t y ∙ ap (λ ys. xs ++ ys) (nothing_left (into_iter_items t) (sym (counted s xs t (long ∙ ap length (sym given)) y) ∙ none))
+    sym given ∙ taken_front s xs t y ∙ ap (λ ys. xs ++ ys) (nil_from_length (into_iter_items t) (sym (counted s xs t (long ∙ ap length (sym given)) y) ∙ none))
 
 -- a reader among readers of pages of that size
 pub of_pages_at : (size : ℕ) (front : List Reading) (reader : Reading) (more all : List Reading) → all ≡ front ++ reader ∷ more → AreOfPages size all → reader.head.page_size ≡ size

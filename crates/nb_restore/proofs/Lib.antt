@@ -1,4 +1,3 @@
-pub mod AnswerLaws
 pub mod CopiedLaws
 pub mod FrontLaws
 pub mod LevelLaws
@@ -23,3 +22,4 @@ pub mod KeptLaws
 pub mod FirstWell
 pub mod KeptChains
 pub mod FixedLaws
+mod Common

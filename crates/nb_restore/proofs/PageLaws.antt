@@ -1,12 +1,6 @@
 -- A page of level 0, as it is read.
-use Rattle.std.proofs.Common.{◌≡◌, ℕ, ◌*◌, ◌<◌, List, length, take, drop, ap, subst, ◌∙◌}
-use Rattle.std.specs.Prelude.{Bool, true, false, Some}
-use Rattle.nb_host.specs.Files.{File, bytes_of}
-use Rattle.nb_host.specs.Calls.{ReadsPage}
-use Rattle.nb_model.specs.Image.{Page, page_at}
-use Rattle.nb_model.specs.Levels.{joined}
-use Rattle.nb_model.specs.Sound.{IsOfSize}
-use Rattle.nb_model.proofs.ImageLaws.{page-joined}
+use Rattle.std.proofs.Common.{◌≡◌, ℕ, ◌*◌, ◌<◌, List, length, take, drop, ap, subst, ◌∙◌, Bool, true, false, Some}
+use Rattle.nb_restore.proofs.Common.{File, bytes_of, ReadsPage, Page, page_at, joined, IsOfSize, page-joined}
 
 module _ (size : ℕ) (ps : List Page) (number : ℕ) (below : number < length ps) (sizes : IsOfSize size ps) where
   -- the page that was read

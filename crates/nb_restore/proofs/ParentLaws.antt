@@ -1,10 +1,7 @@
 -- What the records of backups go on from, in one step or in many.
-use Rattle.std.proofs.Common.{◌≡◌, ◌≢◌, ◌<◌, List, [], ◌∷◌, sym, subst, ◌∙◌, arith}
-use Rattle.std.specs.Prelude.{Some, Contains}
-use Rattle.nb_host.specs.Files.{Files}
-use Rattle.nb_model.specs.Account.{Ask, Kept, Account}
+use Rattle.std.proofs.Common.{◌≡◌, ◌≢◌, ◌<◌, List, [], ◌∷◌, sym, subst, ◌∙◌, arith, Some, Contains}
+use Rattle.nb_restore.proofs.Common.{Files, Ask, Kept, Account, nil, IsKeptAs, IsParent, IsLineTo, IsSpan, GoesOnFrom, Stands}
 use Rattle.nb_model.specs.Follows.{Follows}
-use Rattle.nb_model.specs.Stands.{nil, IsKeptAs, IsParent, IsLineTo, IsSpan, GoesOnFrom, Stands}
 use Rattle.nb_model.proofs.FollowsLaws.{follows_on}
 
 -- the backup q came after r, and its image follows that of r
@@ -12,7 +9,7 @@ pub record LeadsTo (r q : Kept) : Type 0 where
   pub earlier : r.scn < q.scn
   pub follows : Follows r.image r.scn q.image
 
-leads_on : (a b c : Kept) → LeadsTo a b → LeadsTo b c → LeadsTo a c
+pub leads_on : (a b c : Kept) → LeadsTo a b → LeadsTo b c → LeadsTo a c
 leads_on a b c f g = record { earlier = omega (arith, f.earlier, g.earlier); follows = follows_on f.follows g.follows (omega (arith, f.earlier)) }
 
 -- what is asked for goes on from a kept record, to q

@@ -1,10 +1,6 @@
 -- Level 0 after its page 0, as far as it was copied.
-use Rattle.std.proofs.Common.{◌≡◌, ℕ, ◌+◌, ◌-◌, ◌<◌, ◌≤◌, List, ◌++◌, length, take, drop, sym, ap, ◌∙◌, arith, append_assoc, length-drop}
-use Rattle.std.specs.Prelude.{Some}
-use Rattle.std.proofs.lemmas.List.{append-nil, drop-drop, length-take-le, take_all}
-use Rattle.std.proofs.Math.Seq.{take-add}
-use Rattle.nb_host.specs.Files.{File, bytes_of, with_bytes}
-use Rattle.nb_host.specs.Calls.{ReadsBytes}
+use Rattle.std.proofs.Common.{◌≡◌, ℕ, ◌+◌, ◌-◌, ◌<◌, ◌≤◌, List, ◌++◌, length, take, drop, sym, ap, ◌∙◌, arith, append_assoc, length-drop, Some}
+use Rattle.nb_restore.proofs.Common.{append-nil, drop-drop, length-take-le, take_all, take-add, File, bytes_of, with_bytes, ReadsBytes}
 
 module _ (at : ℕ) (bytes before after : List ℕ) (file : File) (got : ℕ) (there : file ≡ Some bytes) (fits : at + length before ≤ length bytes) (reads : ReadsBytes file at before after got) where
   whole_is : take got after ≡ take (length before) (drop at bytes)

@@ -1,20 +1,7 @@
 -- Page 0 of level 0, and the page that stands in its place until the restore is done.
-use Rattle.std.proofs.Common.{◌≡◌, ℕ, ◌*◌, ◌≤◌, List, length, replicate, refl, sym, ap, arith}
-use Rattle.std.specs.Prelude.{Bool, true, false, ◌&&◌, ◌==◌, IsTrue, Some}
-use Rattle.std.proofs.lemmas.Bool.{and_parts, eqb-true, true≢false}
-use Rattle.nb_fields.specs.Bytes.{number_in, is_zeros}
-use Rattle.nb_fields.specs.Header.{is_header, is_marked, signature, version}
-use Rattle.nb_fields.specs.Page.{kind_of, number_of_page}
+use Rattle.std.proofs.Common.{◌≡◌, ℕ, ◌*◌, ◌≤◌, List, length, replicate, refl, sym, ap, arith, Bool, true, false, ◌&&◌, ◌==◌, IsTrue, Some}
+use Rattle.nb_restore.proofs.Common.{and_parts, eqb-true, true≢false, number_in, is_zeros, is_header, is_marked, signature, version, kind_of, number_of_page, File, ReadsPage, Header, HasForm, header_in, Page, first_page, joined, IsOfSize, form, IsUnfinishedPage}
 use Rattle.nb_fields.specs.Kinds.{header_kind}
-use Rattle.nb_host.specs.Files.{File}
-use Rattle.nb_host.specs.Calls.{ReadsPage}
-use Rattle.nb_page.specs.declared.header.Header.{Header}
-use Rattle.nb_page.specs.Header.{HasForm, header_in}
-use Rattle.nb_model.specs.Image.{Page, first_page}
-use Rattle.nb_model.specs.Levels.{joined}
-use Rattle.nb_model.specs.Sound.{IsOfSize}
-use Rattle.nb_model.proofs.HeaderLaws.{form}
-use Rattle.nb_restore.specs.Target.{IsUnfinishedPage}
 use Rattle.nb_restore.proofs.PageLaws.{read_whole}
 
 -- page 0 is read

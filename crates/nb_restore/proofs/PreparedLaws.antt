@@ -1,33 +1,12 @@
 -- An accepted chain is read again as what it was, and gives a plan.
-use Rattle.std.proofs.Common.{◌≡◌, ◌≢◌, ℕ, ◌*◌, ◌≤◌, List, [], ◌∷◌, length, sym, ap, subst, ◌∙◌, arith}
-use Rattle.std.specs.Prelude.{true, Some, Ok, Err, Contains}
+use Rattle.std.proofs.Common.{◌≡◌, ◌≢◌, ℕ, ◌*◌, ◌≤◌, List, [], ◌∷◌, length, sym, ap, subst, ◌∙◌, arith, true, Some, Ok, Err, Contains}
+use Rattle.nb_restore.proofs.Common.{and_parts, is_free_file, is_header, size_of, size_facts, most_pages, Files, Fault, Refused, Device, Memory, HasForm, Page, first_page, cut, trimmed, joined, Link, whole_link, first_link, verdict, all_over, applied, IsOfSize, Pages, pages_of, cut-joined, Reading, over, IsDone, IsAccepted, IsPrepared, PlanSays, IsLevel0, AreSources, AreReady, IsTaken, IsPlan, IsUnfinishedPage, some_same, ok_same}
 use Rattle.std.specs.Global.{Vec}
-use Rattle.std.proofs.lemmas.Bool.{and_parts}
-use Rattle.nb_fields.specs.Free.{is_free_file}
-use Rattle.nb_fields.specs.Header.{is_header, size_of}
-use Rattle.nb_fields.proofs.SizeLaws.{size_facts}
-use Rattle.nb_fields.specs.Places.{most_pages}
-use Rattle.nb_host.specs.Files.{Files}
-use Rattle.nb_host.specs.declared.faults.Fault.{Fault}
-use Rattle.nb_host.specs.declared.faults.Fault.TheVariants.{Refused, Device, Memory}
 use Rattle.nb_page.specs.Free.{is_free_name}
-use Rattle.nb_page.specs.Header.{HasForm}
-use Rattle.nb_model.specs.Image.{Page, first_page, cut, trimmed}
-use Rattle.nb_model.specs.Levels.{joined}
-use Rattle.nb_model.specs.Restoring.{Link, whole_link, first_link, verdict, all_over, applied}
-use Rattle.nb_model.specs.Sound.{IsOfSize}
-use Rattle.nb_model.proofs.ImageLaws.{Pages, pages_of, cut-joined}
-use Rattle.nb_level.specs.Reading.{Reading}
 use Rattle.nb_chain.specs.declared.first_file.First.{First}
 use Rattle.nb_chain.specs.Chain.{IsFirstOf}
 use Rattle.nb_chain.specs.First.{FirstSays}
-use Rattle.nb_chain.proofs.ImageLaws.{over}
 use Rattle.nb_chain.proofs.StartLaws.{size_is}
-use Rattle.nb_restore.specs.Copied.{IsDone}
-use Rattle.nb_restore.specs.Plan.{IsAccepted, IsPrepared, PlanSays}
-use Rattle.nb_restore.specs.Sources.{IsLevel0, AreSources, AreReady, IsTaken}
-use Rattle.nb_restore.specs.Target.{IsPlan, IsUnfinishedPage}
-use Rattle.nb_restore.proofs.AnswerLaws.{ok_same, some_same}
 use Rattle.nb_restore.proofs.ChainLaws.{sources, IsSplit, split_chain, IsCopy, copy_of, copy_apart, page_0_header, page_0_size, all_apart}
 
 -- nothing but the device fails, and memory

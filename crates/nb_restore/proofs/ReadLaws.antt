@@ -1,9 +1,7 @@
 -- What is read of a level file where a head was written.
 use Rattle.std.proofs.Common.{◌≡◌, ℕ, zero, suc, ◌+◌, ◌*◌, ◌/◌, ◌%◌, List, ◌∷◌, length, take, refl, ap, ◌∙◌, arith}
-use Rattle.std.proofs.lemmas.List.{take_at, drop_at}
-use Rattle.nb_fields.specs.Bytes.{number_of, bytes_of, number_in}
-use Rattle.nb_model.specs.Image.{Numbered}
-use Rattle.nb_model.specs.Levels.{Head, head_then, head_in, level_bytes}
+use Rattle.nb_restore.proofs.Common.{take_at, drop_at, number_of, number_in, Numbered, Head, head_then, head_in, level_bytes}
+use Rattle.nb_fields.specs.Bytes.{bytes_of}
 
 -- the lowest bytes of a number spell them again
 pub bytes_again : (w v : ℕ) → bytes_of w (number_of (bytes_of w v)) ≡ bytes_of w v

@@ -1,16 +1,6 @@
 -- What a plan gives: the target holds level 0, and then all that is written over it.
-use Rattle.std.proofs.Common.{◌≡◌, ◌≢◌, ℕ, ◌*◌, ◌≤◌, List, [], ◌∷◌, ◌++◌, length, drop, sym, ap, subst, ◌∙◌, arith}
-use Rattle.std.specs.Prelude.{Some, Ok}
-use Rattle.nb_fields.specs.Places.{most_pages}
-use Rattle.nb_host.specs.Files.{File, Files, bytes_of}
-use Rattle.nb_model.specs.Image.{Page, first_page}
-use Rattle.nb_model.specs.Levels.{joined}
-use Rattle.nb_model.specs.Restoring.{Link}
-use Rattle.nb_level.specs.Reading.{Reading, still_to_come}
-use Rattle.nb_model.specs.Sound.{IsOfSize}
-use Rattle.nb_model.proofs.ImageLaws.{drop-joined}
-use Rattle.nb_restore.specs.Copied.{Holds}
-use Rattle.nb_restore.specs.Sources.{IsLevel0, AreReady}
+use Rattle.std.proofs.Common.{◌≡◌, ◌≢◌, ℕ, ◌*◌, ◌≤◌, List, [], ◌∷◌, ◌++◌, length, drop, sym, ap, subst, ◌∙◌, arith, Some, Ok}
+use Rattle.nb_restore.proofs.Common.{most_pages, File, Files, bytes_of, Page, first_page, joined, Link, Reading, still_to_come, IsOfSize, drop-joined, Holds, IsLevel0, AreReady}
 use Rattle.nb_restore.proofs.HeadLaws.{HasHead, AllHeaded}
 
 -- with all of level 0 after its start the target holds level 0, but for its page 0

@@ -1,33 +1,9 @@
 -- What a restore leaves, from its plan on.
-use Rattle.std.proofs.Common.{◌≡◌, ◌⊎◌, inl, inr, ⊎_elim, ℕ, List, length, get_or, sym, ap, subst, ◌∙◌}
-use Rattle.std.specs.Prelude.{Result, Ok, Err, true}
-use Rattle.nb_fields.specs.Free.{is_free_file}
-use Rattle.std.proofs.lemmas.Bool.{true≢false}
-use Rattle.nb_host.specs.Files.{File, Files}
-use Rattle.nb_host.specs.World.{World}
-use Rattle.nb_host.specs.Crash.{Leaves, LeavesAll}
-use Rattle.nb_host.specs.declared.faults.Fault.{Fault}
-use Rattle.nb_host.specs.declared.faults.Fault.TheVariants.{Refused, Device, Memory}
-use Rattle.nb_change.specs.Changes.{Changes, Only, NoNames, Remade}
-use Rattle.nb_change.specs.Gave.{GaveNothing}
-use Rattle.nb_change.proofs.ChangesLaws.{rested, kept_then}
-use Rattle.nb_change.proofs.GaveLaws.{nothing_joined}
+use Rattle.std.proofs.Common.{◌≡◌, ◌⊎◌, inl, inr, ⊎_elim, ℕ, List, length, get_or, sym, ap, subst, ◌∙◌, Result, Ok, Err, true}
+use Rattle.nb_restore.proofs.Common.{is_free_file, true≢false, File, Files, World, Leaves, LeavesAll, Fault, Refused, Device, Memory, Changes, Only, NoNames, Remade, GaveNothing, rested, kept_then, nothing_joined, durable_is, Quiet, Page, Image, HoldsMain, Link, verdict, applied, fixed, ShowsIn, owner_main, IsDone, IsPrepared, PlanSays, base_from, RestoreLeft, RestoreAnswers, Restores, IsFreeOr, IsPlan, KeepsImage, ReadsOr, restored, err_not_ok}
 use Rattle.nb_change.proofs.MomentLaws.{left_before}
-use Rattle.nb_change.proofs.SettledLaws.{durable_is}
-use Rattle.nb_page.specs.Quiet.{Quiet}
-use Rattle.nb_model.specs.Image.{Page, Image}
-use Rattle.nb_model.specs.Main.{HoldsMain}
 use Rattle.nb_model.specs.Owner.{delta_name}
-use Rattle.nb_model.specs.Restoring.{Link, verdict, applied}
-use Rattle.nb_model.specs.Strokes.{fixed}
-use Rattle.nb_model.specs.Trail.{ShowsIn}
-use Rattle.nb_model.proofs.MainLaws.{owner_main}
 use Rattle.nb_restore.specs.declared.plan.Plan.{Plan}
-use Rattle.nb_restore.specs.Copied.{IsDone}
-use Rattle.nb_restore.specs.Plan.{IsPrepared, PlanSays}
-use Rattle.nb_restore.specs.Restore.{base_from, RestoreLeft, RestoreAnswers, Restores}
-use Rattle.nb_restore.specs.Target.{IsFreeOr, IsPlan, KeepsImage, ReadsOr, restored}
-use Rattle.nb_restore.proofs.AnswerLaws.{err_ok}
 
 -- no plan was made, so nothing is done
 pub not_prepared : (old mid : World) (target : List ℕ) (names : List (List ℕ)) (fault : Fault) → Quiet old mid → PlanSays old.files target names (Err fault) → Restores (Err fault) old mid target names
@@ -89,7 +65,7 @@ module _ (old mid new : World) (target : List ℕ) (names : List (List ℕ)) (pl
     reads = reads_all reads;
     gave = gave_all gave;
     taken = λ taken. absurd (true≢false (sym prepared.chain.free ∙ taken));
-    broken = λ refusal broken. absurd (err_ok refusal links (verdict old.files names) broken prepared.chain.accepted);
+    broken = λ refusal broken. absurd (err_not_ok refusal links (verdict old.files names) broken prepared.chain.accepted);
   }
 
   -- the device failed while the target was made

@@ -1,20 +1,7 @@
 -- The level files of a chain are ready to be read again.
-use Rattle.std.proofs.Common.{◌≡◌, ℕ, suc, ◌+◌, ◌<◌, List, [], ◌∷◌, ◌++◌, length, drop, get_or, refl, sym, ap, subst, ◌∙◌, arith, append_assoc}
-use Rattle.std.specs.Prelude.{Bool, IsTrue, Ok, Err}
-use Rattle.std.proofs.lemmas.List.{append-nil}
-use Rattle.std.proofs.Math.Seq.{drop-cons}
-use Rattle.nb_host.specs.Files.{File, Files, bytes_of}
-use Rattle.nb_host.specs.declared.faults.Fault.{Fault}
-use Rattle.nb_host.specs.declared.faults.Fault.TheVariants.{Refused, Device, Memory}
-use Rattle.nb_model.specs.Image.{Numbered}
-use Rattle.nb_model.specs.Levels.{read_level}
-use Rattle.nb_model.specs.Restoring.{Link}
-use Rattle.nb_level.specs.Answers.{StartSays}
+use Rattle.std.proofs.Common.{◌≡◌, ℕ, suc, ◌+◌, ◌<◌, List, [], ◌∷◌, ◌++◌, length, drop, get_or, refl, sym, ap, subst, ◌∙◌, arith, append_assoc, Bool, IsTrue, Ok, Err}
+use Rattle.nb_restore.proofs.Common.{append-nil, drop-cons, File, Files, bytes_of, Fault, Refused, Device, Memory, Numbered, read_level, Link, StartSays, Reading, still_to_come, AreHeaded, IsSource, AreSources, IsReady, AreReady, AreOfPages, IsTaken, with_head-is, some_same}
 use Rattle.nb_level.specs.Heads.{head_of}
-use Rattle.nb_level.specs.Reading.{Reading, still_to_come}
-use Rattle.nb_restore.specs.Sources.{AreHeaded, IsSource, AreSources, IsReady, AreReady, AreOfPages, IsTaken}
-use Rattle.nb_restore.proofs.AnswerLaws.{some_same}
-use Rattle.nb_level.proofs.ToldLaws.{with_head-is}
 use Rattle.nb_restore.proofs.HeadLaws.{level-headed}
 
 -- a reader that has begun to read such a file

@@ -1,34 +1,7 @@
 -- The target is made, so that a crash leaves its name free, and made whole by its page 0.
-use Rattle.std.proofs.Common.{◌≡◌, inl, inr, ⊎_elim, ℕ, zero, suc, ◌+◌, ◌-◌, ◌*◌, ◌≤◌, List, [], ◌++◌, length, take, drop, replicate, refl, sym, ap, subst, ◌∙◌, arith}
-use Rattle.std.specs.Prelude.{Bool, true, ◌&&◌, ◌==◌, IsTrue, None, Some, Result, Ok, Err, OnOk}
-use Rattle.std.proofs.lemmas.Bool.{or_left, or_right, and_from}
-use Rattle.std.proofs.lemmas.List.{append-nil, drop_all}
-use Rattle.nb_fields.specs.Bytes.{is_zeros}
-use Rattle.nb_fields.specs.Free.{is_free_file, is_unfinished}
-use Rattle.nb_fields.specs.Header.{is_header, state_of, pending_of}
-use Rattle.nb_fields.proofs.HeaderLaws.{is_free_file-take}
-use Rattle.nb_fields.specs.States.{applying_state}
-use Rattle.nb_host.specs.Files.{File, Files, bytes_of, padded, put_at, with_page}
-use Rattle.nb_host.specs.World.{World}
-use Rattle.nb_host.specs.Crash.{Leaves, PageLeft, IsDurable}
-use Rattle.nb_host.specs.Calls.{Remakes, WritesPage, Syncs}
-use Rattle.nb_host.specs.Moments.{IsTimely, Passes}
-use Rattle.nb_change.specs.Changes.{Changes, Only, Moved, Remade}
-use Rattle.nb_change.proofs.ChangesLaws.{still_more, weaker_has, remade_on}
-use Rattle.nb_change.proofs.CallLaws.{page_others, remade_alone, remade_step}
-use Rattle.nb_change.proofs.MovedLaws.{moved_from, remade_begun}
-use Rattle.nb_change.proofs.ResultLaws.{on_ok_then}
-use Rattle.nb_change.proofs.SettledLaws.{synced}
-use Rattle.nb_model.specs.Image.{Page, Image}
-use Rattle.nb_restore.specs.Copied.{BeginsWith, KeepsFront}
-use Rattle.nb_restore.specs.Target.{IsFree, IsFreeOr, IsKept, IsUnfinishedPage, ReadsOr}
-use Rattle.nb_restore.proofs.FrontLaws.{named, page_read}
-
--- zeros
-zeros-take : (k n : ℕ) → is_zeros (take k (replicate n 0)) ≡ true
-zeros-take zero n = refl
-zeros-take (suc k) zero = refl
-zeros-take (suc k) (suc n) = zeros-take k n
+use Rattle.std.proofs.Common.{◌≡◌, inl, inr, ⊎_elim, ℕ, ◌+◌, ◌-◌, ◌*◌, ◌≤◌, List, [], ◌++◌, length, take, drop, replicate, refl, sym, ap, subst, ◌∙◌, arith, Bool, ◌&&◌, ◌==◌, IsTrue, None, Some, Result, Ok, Err, OnOk}
+use Rattle.nb_restore.proofs.Common.{or_left, or_right, and_from, append-nil, drop_all, is_zeros, is_free_file, is_unfinished, is_header, state_of, pending_of, is_free_file-take, applying_state, File, Files, bytes_of, padded, put_at, with_page, World, Leaves, PageLeft, IsDurable, Remakes, WritesPage, Syncs, IsTimely, Passes, Changes, Only, Moved, Remade, still_more, weaker_has, remade_on, page_others, remade_alone, remade_step, moved_from, remade_begun, on_ok_then, synced, Page, Image, BeginsWith, KeepsFront, IsFree, IsFreeOr, IsKept, IsUnfinishedPage, ReadsOr, zeros-take, with_file-named}
+use Rattle.nb_restore.proofs.FrontLaws.{page_read}
 
 free_zeros : (n : ℕ) → IsFree (Some (replicate n 0))
 unfolding is_free_file
@@ -45,10 +18,7 @@ free_page page is =
 
 -- a file that begins with such a page
 pub free_front : (page : Page) (file : File) → IsUnfinishedPage page → BeginsWith (take 64 page) file → IsFree file
-free_front page None is begins = absurd (none begins.long)
-  where
-    none : 64 ≤ 0 → ⊥
-    none h = omega arith
+free_front page None is begins = absurd (let few : 64 ≤ 0 = begins.long in omega (arith, few))
 free_front page (Some bytes) is begins = sym (is_free_file-take bytes) ∙ ap (λ (x : List ℕ). is_free_file (Some x)) begins.is ∙ is_free_file-take page ∙ free_page page is
 
 -- page 0 is the first that is written
@@ -104,9 +74,9 @@ module _ (target : List ℕ) where
 
   -- as the file reads while it is made
   pub made_reads : {T E : Type 0} (tells : Bool) (result : Result T E) (old new : World) → IsTrue tells → Remakes tells result old new target (Some []) → ReadsOr old new target IsFree
-  made_reads tells (Ok value) old new told remakes = inr (subst IsFree (sym (named old.files new.files target (Some []) (remakes.files told))) free_empty)
+  made_reads tells (Ok value) old new told remakes = inr (subst IsFree (sym (with_file-named old.files new.files target (Some []) (remakes.files told))) free_empty)
   made_reads tells (Err e) old new told remakes =
-      ⊎_elim (λ same. inl (ap (λ (f : Files). f target) same)) (λ made. inr (subst IsFree (sym (named old.files new.files target (Some []) made)) free_empty)) (remakes.files told)
+      ⊎_elim (λ same. inl (ap (λ (f : Files). f target) same)) (λ made. inr (subst IsFree (sym (with_file-named old.files new.files target (Some []) made)) free_empty)) (remakes.files told)
 
   -- and while page 0 is written into it
   pub page_reads : {T E : Type 0} (tells : Bool) (result : Result T E) (mid new : World) (page : Page) → IsTrue tells → IsUnfinishedPage page → mid.files target ≡ Some [] → WritesPage tells result mid new target (0 * length page) page → IsFree (new.files target)

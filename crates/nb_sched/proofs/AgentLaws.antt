@@ -1,11 +1,9 @@
 -- Agents in a list, by their sessions.
 use Rattle.std.proofs.Common.{◌≡◌, ◌≢◌, ◌<◌, ◌≤◌, ◌+◌, ◌-◌, ◌*◌, ◌^◌, ℕ, zero, suc, List, [], ◌∷◌, length, take, drop, get_or, ◌⊎◌, inl, inr, Some, Result, Ok, Err, OnOk, slice_get, slice_set, refl, ap, sym, ◌∙◌, subst, arith}
-use Rattle.std.specs.List.{AllByRecursion, range_with_len}
+use Rattle.nb_sched.proofs.Common.{AllByRecursion, range_with_len, RunError, scene, Kind, agent_of, IsLower, Rests, IsReady, total}
 use Rattle.std.proofs.lemmas.Bool.{cases_lt}
 use Rattle.std.proofs.lemmas.List.Sums.{sum_by-set}
 use Rattle.std.proofs.lemmas.Option.{slice_get-get_or, slice_get_within, get_or_from_slice_get}
-use Rattle.nb_host.specs.declared.faults.RunError.{RunError}
-use Rattle.nb_sched.specs.Turns.{scene, Kind, agent_of, IsLower, Rests, IsReady, total}
 
 -- an agent has the session after its place
 pub agent_there : {A : Type 0} (agents : List A) (session : ℕ) (agent : A) → agent_of agents session ≡ Some agent → (0 < session) × (slice_get agents (session - 1) ≡ Some agent)

@@ -1,3 +1,4 @@
 pub mod AgentLaws
 pub mod TurnLaws
 pub mod WithinLaws
+mod Common

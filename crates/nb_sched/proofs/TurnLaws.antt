@@ -1,11 +1,8 @@
 -- Turns after turns, and what holds while they are taken.
 use Rattle.std.proofs.Common.{◌≡◌, ◌<◌, ◌≤◌, ◌+◌, ℕ, zero, suc, List, [], ◌∷◌, ◌++◌, ◌⊎◌, inl, inr, Some, Result, Ok, Err, IsErrAnd, refl, sym, subst, arith, append_assoc, length, take, drop, get_or, take-append-drop}
-use Rattle.std.specs.List.{AllByRecursion}
+use Rattle.nb_sched.proofs.Common.{AllByRecursion, RunError, rounds, all_sessions, Scene, Kind, agent_of, Rests, IsReady, Moves, TakesTurns, EndsWith, total}
 use Rattle.std.proofs.lemmas.List.{append-nil, take_more}
-use Rattle.nb_host.specs.declared.faults.RunError.{RunError}
-use Rattle.nb_model.specs.Run.{rounds, all_sessions}
 use Rattle.nb_model.proofs.TodoLaws.{rounds_more}
-use Rattle.nb_sched.specs.Turns.{Scene, Kind, agent_of, Rests, IsReady, Moves, TakesTurns, EndsWith, total}
 use Rattle.nb_sched.proofs.AgentLaws.{agent_of_set, all_behind, last_of, total_falls}
 
 module _ {A H C : Type 0} (of : Kind A H C) where

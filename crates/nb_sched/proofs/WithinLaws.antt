@@ -1,7 +1,6 @@
 -- What agents say one after another is within the order of their turns.
 use Rattle.std.proofs.Common.{◌≡◌, ℕ, List, [], ◌∷◌, ◌++◌, inl, inr, Result, Ok, Err, refl, sym, ap, ◌∙◌, subst}
-use Rattle.nb_host.specs.declared.faults.RunError.{RunError}
-use Rattle.nb_sched.specs.Turns.{Scene, Kind, Moves, TakesTurns, EndsWith}
+use Rattle.nb_sched.proofs.Common.{RunError, Scene, Kind, Moves, TakesTurns, EndsWith}
 use Rattle.nb_sched.specs.Within.{IsWithin}
 use Rattle.nb_sched.proofs.TurnLaws.{turns_hold}
 

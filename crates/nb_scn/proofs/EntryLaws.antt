@@ -1,14 +1,8 @@
 -- An SCN inventory page, read as its list of entries.
 use Rattle.std.proofs.Common.{◌≡◌, ◌≢◌, ℕ, ◌<◌, inl, inr, List, length, get_or, replicate, sym, ap, ◌∙◌, arith}
-use Rattle.std.proofs.Math.ListN.{set}
-use Rattle.std.proofs.lemmas.Bool.{cases_eq, cases_lt}
-use Rattle.std.proofs.lemmas.List.{length-set, get_or-set_other, length-replicate, get_or-replicate}
+use Rattle.nb_scn.proofs.Common.{set, cases_eq, cases_lt, length-set, get_or-set_other, length-replicate, get_or-replicate, AreApart, entries_in, entry_of, entries, entry_place}
 use Rattle.std.proofs.lemmas.Grind.{same_number_lists, get_or-set_at}
 use Rattle.std.proofs.lemmas.List.FromFn.{length-map-range_with_len, get_or-map-range_with_len}
-use Rattle.nb_fields.specs.Bytes.{AreApart}
-use Rattle.nb_fields.specs.Places.{entries_in}
-use Rattle.nb_fields.specs.Payloads.{entry_of}
-use Rattle.nb_scn.specs.Entries.{entries, entry_place}
 
 pub length-entries : (page : List ℕ) → length (entries page) ≡ entries_in (length page)
 unfolding entries

@@ -1,11 +1,7 @@
 -- A page filled from the front.
 use Rattle.std.proofs.Common.{◌≡◌, ℕ, zero, suc, ◌+◌, ◌≤◌, List, ◌++◌, length, take, replicate, sym, ap, ◌∙◌, arith, append_assoc, add-one, refl}
-use Rattle.std.proofs.lemmas.List.{append-nil}
-use Rattle.nb_fields.specs.Bytes.{bytes_of, with_part}
-use Rattle.nb_fields.specs.Payloads.{same_entries}
+use Rattle.nb_scn.proofs.Common.{append-nil, bytes_of, with_part, same_entries, length-with_part, take-with_part, entry_place}
 use Rattle.nb_fields.proofs.NumberLaws.{length-bytes_of}
-use Rattle.nb_fields.proofs.PartLaws.{length-with_part, take-with_part}
-use Rattle.nb_scn.specs.Entries.{entry_place}
 
 -- one entry more, after the others
 pub same_entries-more : (scn n : ℕ) → same_entries scn (suc n) ≡ same_entries scn n ++ bytes_of 4 scn

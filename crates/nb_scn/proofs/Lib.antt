@@ -1,3 +1,4 @@
 pub mod EntryLaws
 pub mod FillLaws
 pub mod PlaceLaws
+mod Common

@@ -1,9 +1,7 @@
 -- The test of a place finds the places of all SCN inventory pages.
-use Rattle.std.proofs.Common.{◌≡◌, ℕ, zero, suc, ◌*◌, ◌/◌, ◌%◌, ◌<◌, ◌≤◌, ◌==◌, ◌&&◌, ⊎_elim, sym, ap, ◌∙◌, arith, nat_lt}
-use Rattle.std.specs.Prelude.{IsTrue}
+use Rattle.std.proofs.Common.{◌≡◌, ℕ, zero, suc, ◌*◌, ◌/◌, ◌%◌, ◌<◌, ◌≤◌, ◌==◌, ◌&&◌, ⊎_elim, sym, ap, ◌∙◌, arith, nat_lt, IsTrue}
+use Rattle.nb_scn.proofs.Common.{eqb-true, eq-eqb, ltb-true, lt-ltb, or_cases, or_left, or_right, and_parts, and_from, entries_in, scn_place, is_scn_place}
 use Rattle.std.proofs.Math.Nat.{mul-mod_left, le-mul_of_pos_right}
-use Rattle.std.proofs.lemmas.Bool.{eqb-true, eq-eqb, ltb-true, lt-ltb, or_cases, or_left, or_right, and_parts, and_from}
-use Rattle.nb_fields.specs.Places.{entries_in, scn_place, is_scn_place}
 
 place_at : (size page k : ℕ) → 0 < page → k * entries_in size ≡ page → (j : ℕ) × (scn_place size j ≡ page)
 place_at size page zero some e = absurd (omega arith)

@@ -1,4 +1,4 @@
-ghost use Rattle.std.specs.Prelude.{◌≡◌, ℕ, ◌<◌, ◌≤◌, ◌++◌, length, take, max, replicate, slice_index, slice_set, IsTrue};
+ghost use Rattle.std.specs.Prelude.{◌≡◌, ◌<◌, ◌≤◌, ◌++◌, length, take, max, replicate, slice_index, slice_set, IsTrue};
 ghost use Rattle.nb_fields.specs.Bytes.{bytes_of, with_part};
 ghost use Rattle.nb_fields.specs.Payloads.{scn_payload};
 ghost use Rattle.nb_fields.specs.Places.{is_page_size, entries_in};

@@ -1,22 +1,8 @@
 -- A script that bytes spell asks only what the program can do, and names its database in the first statement alone.
-use Rattle.std.proofs.Common.{◌≡◌, ℕ, zero, suc, ◌+◌, ◌-◌, ◌<◌, ◌≤◌, Bool, true, false, not, List, [], ◌∷◌, ◌++◌, length, get_or, set, length-append, refl, ◌∙◌, subst, arith}
-use Rattle.std.specs.Prelude.{Option, Some, None, Result, Ok, Err, IsTrue, IfOk, if◌then◌else◌, replicate, codes, nat_lt}
-use Rattle.std.specs.List.{AllByRecursion}
+use Rattle.std.proofs.Common.{◌≡◌, ℕ, zero, suc, ◌+◌, ◌-◌, ◌<◌, ◌≤◌, Bool, true, false, not, List, [], ◌∷◌, ◌++◌, length, get_or, set, refl, ◌∙◌, subst, arith, Option, Some, None, Result, Ok, Err, IsTrue, IfOk, if◌then◌else◌, replicate, codes, nat_lt}
+use Rattle.nb_script.proofs.Common.{AllByRecursion, ltb-true, length-set, ScriptLong, Statement, CreateDb, OpenDb, BackupSince, Bytes, after, session_at, statement_at, session_line, command_at, first_at, database_at, Plan, Numbered, started, statements_of, with_statement, or_bad, with_lines, order_in, with_order, of_lines, script_of, IsAnswer, lines_of, left, Fits, FitsAsked, FitsFirst, FitsOrder, IsSession, opens, IsFirst, IsFurther, IsFurtherLine, IsAskable, IsSpelled, statement_count, order_at, length_push}
 use Rattle.nb_host.specs.declared.faults.Fault.{Fault}
-use Rattle.std.proofs.lemmas.Bool.{ltb-true}
-use Rattle.std.proofs.lemmas.List.{length-set}
 use Rattle.nb_host.specs.declared.refusals.Refusal.{Refusal}
-use Rattle.nb_host.specs.declared.refusals.Refusal.TheVariants.{ScriptLong}
-use Rattle.nb_model.specs.declared.statement.Statement.{Statement}
-use Rattle.nb_model.specs.declared.statement.Statement.TheVariants.{CreateDb, OpenDb, BackupSince}
-use Rattle.nb_script.specs.Words.{Bytes, after, session_at}
-use Rattle.nb_script.specs.Statements.{statement_at, session_line, command_at}
-use Rattle.nb_script.specs.FirstLine.{first_at, database_at}
-use Rattle.nb_script.specs.Scripts.{Plan, Numbered, started, statements_of, with_statement, or_bad, with_lines, order_in, with_order, of_lines, script_of, IsAnswer}
-use Rattle.nb_script.specs.Lines.{lines_of, left}
-use Rattle.nb_script.specs.Fits.{Fits, FitsAsked, FitsFirst, FitsOrder, IsSession}
-use Rattle.nb_script.specs.Asked.{opens, IsFirst, IsFurther, IsFurtherLine, IsAskable, IsSpelled, statement_count}
-use Rattle.nb_script.specs.Order.{order_at}
 use Rattle.nb_script.proofs.FitLaws.{If, nothing, just, tested, follows, any, within_fits, command_fits, database_fits, order_fits}
 
 -- a line of a session 1 to 16 whose statement has P
@@ -81,12 +67,9 @@ none_asked zero = tt
 none_asked (suc n) = (tt, none_asked n)
 
 -- one statement more is counted
-counted_push : (statements : List Statement) (s : Statement) → length (statements ++ s ∷ []) ≡ length statements + 1
-counted_push statements s = length-append statements (s ∷ [])
-
 counted_more : (lists : List (List Statement)) (i : ℕ) (s : Statement) → i < length lists → statement_count (set lists i (get_or lists i [] ++ s ∷ [])) ≡ statement_count lists + 1
 counted_more [] i s inside = absurd (omega arith)
-counted_more (l ∷ lists) zero s inside = omega (arith, counted_push l s)
+counted_more (l ∷ lists) zero s inside = omega (arith, length_push l s)
 counted_more (l ∷ lists) (suc i) s inside = omega (arith, counted_more lists i s (omega arith))
 
 -- the order of turns of the lines

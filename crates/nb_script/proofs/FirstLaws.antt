@@ -1,16 +1,6 @@
 -- The first line of a script is read as its first statement.
 use Rattle.std.proofs.Common.{◌≡◌, ℕ, ◌≤◌, ◌==◌, true, [], ◌++◌, length, Option, Some, None, if◌then◌else◌, codes, refl, ap, sym, ◌∙◌, inl, inr, append_assoc, arith}
-use Rattle.std.specs.Fmt.{decimal}
-use Rattle.std.proofs.lemmas.Bool.{cond-true, cond-false, ne_eqb, or_cases, eqb-true}
-use Rattle.std.proofs.lemmas.List.{append-nil}
-use Rattle.nb_host.specs.Files.{is_page_size}
-use Rattle.nb_model.specs.declared.statement.Statement.{Statement}
-use Rattle.nb_model.specs.declared.statement.Statement.TheVariants.{CreateDb, OpenDb}
-use Rattle.nb_script.specs.Words.{Bytes, ◌>>=◌, after, within, name_at, alone}
-use Rattle.nb_script.specs.Statements.{session_line}
-use Rattle.nb_script.specs.FirstLine.{cache_at, page_size_at, sizes_at, create_at, open_at, database_at, first_at}
-use Rattle.nb_script.specs.Spelling.{quoted, cache_text, sizes_text, command_text, line_text}
-use Rattle.nb_script.specs.Fits.{FitsFirst, IsBase}
+use Rattle.nb_script.proofs.Common.{decimal, cond-true, cond-false, ne_eqb, or_cases, eqb-true, append-nil, is_page_size, Statement, CreateDb, OpenDb, Bytes, ◌>>=◌, after, within, name_at, alone, session_line, cache_at, page_size_at, sizes_at, create_at, open_at, database_at, first_at, quoted, cache_text, sizes_text, command_text, line_text, FitsFirst, IsBase}
 use Rattle.nb_script.proofs.WordLaws.{within_again, name_again}
 use Rattle.nb_script.proofs.StatementLaws.{again_by, its_by, none_by}
 

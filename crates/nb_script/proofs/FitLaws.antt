@@ -1,19 +1,6 @@
 -- What is read of a line is what a line can spell.
-use Rattle.std.proofs.Common.{◌≡◌, ℕ, zero, suc, ◌+◌, ◌^◌, ◌<◌, ◌≤◌, ◌==◌, ◌&&◌, Bool, true, false, nat_lt, nat_le, List, [], ◌∷◌, length, take, drop, slice_index, refl, ◌∙◌, ap, subst, inl, inr, arith}
-use Rattle.std.specs.Prelude.{Option, Some, None, if◌then◌else◌, option_map, codes}
-use Rattle.std.specs.List.{AllByRecursion, list_all, prefix_len}
-use Rattle.std.specs.Str.Parse.{digits_value}
-use Rattle.std.proofs.lemmas.Bool.{cases_Bool, and_parts, cond-true, cond-false, ltb-true, leb-true, and_from}
-use Rattle.nb_host.specs.Files.{is_page_size}
-use Rattle.nb_model.specs.declared.statement.Statement.{Statement}
-use Rattle.nb_model.specs.declared.statement.Statement.TheVariants.{PageNew, Write, Read, Free, BeginBackup, EndBackup, CopyTo, CreateTable, DropTable, Insert, Update, Delete, Get, Scan, Forced, Access, Sync, Check, Reclaim, ShowHeader, ShowPages, ShowImage, ShowCache}
-use Rattle.nb_model.specs.TableNames.{is_table_name, is_table_byte}
-use Rattle.nb_script.specs.Words.{Bytes, ◌>>=◌, after, digit_count, is_plain, value_of, number_at, within, page_at, is_text_byte, closed, text_at, name_len, is_given, named, name_at, table_at, alone}
-use Rattle.nb_script.specs.Statements.{or_next, or_else, command_at, without_text, fixed, of_page, of_file, of_table, of_row, scan_at, backup_at, last_page, last_name, last_table, row_at, last_row, row_text, page_text}
-use Rattle.nb_model.specs.Seeds.{seeded, stepped, session_of}
-use Rattle.nb_script.specs.Order.{spaced_session, sessions_at, seed_at, order_at}
-use Rattle.nb_script.specs.FirstLine.{database_at, create_at, open_at, page_size_at, sizes_at, cache_at}
-use Rattle.nb_script.specs.Fits.{Fits, FitsFirst, FitsOrder, IsSession, IsText, IsFile, IsTable}
+use Rattle.std.proofs.Common.{◌≡◌, ℕ, zero, suc, ◌+◌, ◌^◌, ◌<◌, ◌≤◌, ◌==◌, ◌&&◌, Bool, true, false, nat_lt, nat_le, List, [], ◌∷◌, length, take, drop, slice_index, refl, ◌∙◌, ap, subst, inl, inr, arith, Option, Some, None, if◌then◌else◌, option_map, codes}
+use Rattle.nb_script.proofs.Common.{AllByRecursion, list_all, prefix_len, digits_value, cases_Bool, and_parts, cond-true, cond-false, ltb-true, leb-true, and_from, is_page_size, Statement, PageNew, Write, Read, Free, BeginBackup, EndBackup, CopyTo, CreateTable, DropTable, Insert, Update, Delete, Get, Scan, Forced, Access, Sync, Check, Reclaim, ShowHeader, ShowPages, ShowImage, ShowCache, is_table_name, is_table_byte, Bytes, ◌>>=◌, after, digit_count, is_plain, value_of, number_at, within, page_at, is_text_byte, closed, text_at, name_len, is_given, named, name_at, table_at, alone, or_next, or_else, command_at, without_text, fixed, of_page, of_file, of_table, of_row, scan_at, backup_at, last_page, last_name, last_table, row_at, last_row, row_text, page_text, seeded, stepped, session_of, spaced_session, sessions_at, seed_at, order_at, database_at, create_at, open_at, page_size_at, sizes_at, cache_at, Fits, FitsFirst, FitsOrder, IsSession, IsText, IsFile, IsTable}
 
 -- where something was read, it has P
 pub record If {A : Type 0} (P : A → Type 0) (o : Option A) : Type 0 where

@@ -11,3 +11,4 @@ pub mod FitLaws
 pub mod AskedLaws
 pub mod Unbroken
 pub mod RoundTrip
+mod Common

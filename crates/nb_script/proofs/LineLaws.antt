@@ -1,9 +1,6 @@
 -- The first line of some bytes, and the lines after it.
 use Rattle.std.proofs.Common.{◌≡◌, ℕ, suc, ◌+◌, ◌<◌, ◌==◌, not, true, false, List, [], ◌∷◌, length, take, drop, refl, ap, sym, ◌∙◌, inl, inr, arith}
-use Rattle.std.proofs.lemmas.Bool.{cases_Bool, cond-true, cond-false, not_from_true, not_from_false}
-use Rattle.std.proofs.lemmas.List.{drop-drop}
-use Rattle.nb_script.specs.Words.{Bytes}
-use Rattle.nb_script.specs.Lines.{lines_of, onto_first, first_len, numbered, is_skipped}
+use Rattle.nb_script.proofs.Common.{cases_Bool, cond-true, cond-false, not_from_true, not_from_false, drop-drop, Bytes, lines_of, onto_first, first_len, numbered, is_skipped}
 
 -- the lines of some bytes are what stands before a line feed, and the lines after it
 abbrev Splits : Bytes → Type 0

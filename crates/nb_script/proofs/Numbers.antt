@@ -1,10 +1,6 @@
 -- The number of some digits, one digit after the other.
 use Rattle.std.proofs.Common.{◌≡◌, ℕ, ◌+◌, ◌*◌, ◌-◌, ◌^◌, ◌<◌, ◌≤◌, true, nat_le, nat_lt, List, [], ◌∷◌, length, drop, get_or, Some, None, ap, ◌∙◌, arith}
-use Rattle.std.specs.Str.Parse.{digits_value, digits_value_after}
-use Rattle.std.specs.Char.{digit_value}
-use Rattle.std.proofs.lemmas.Bool.{and_parts, leb-true, le-ltb, lt-ltb, cond-false, cond-true}
-use Rattle.std.proofs.lemmas.List.{drop_more}
-use Rattle.nb_script.specs.Words.{is_digit, value_of}
+use Rattle.nb_script.proofs.Common.{digits_value, digits_value_after, digit_value, and_parts, leb-true, le-ltb, lt-ltb, cond-false, cond-true, drop_more, is_digit, value_of}
 
 -- what a digit is worth
 pub worth : (b : ℕ) → is_digit b ≡ true → (digit_value b ≡ b - 48) × (48 ≤ b) × (b < 58)

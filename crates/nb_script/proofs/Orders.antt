@@ -1,9 +1,6 @@
 -- Sessions that are read or made one after the other.
 use Rattle.std.proofs.Common.{◌≡◌, ℕ, suc, ◌+◌, ◌-◌, ◌<◌, ◌≤◌, ◌==◌, List, [], ◌∷◌, ◌++◌, length, Option, Some, None, option_map, refl, ap, sym, ◌∙◌, append_assoc, arith, true, false}
-use Rattle.std.proofs.lemmas.List.{append-nil}
-use Rattle.nb_script.specs.Words.{Bytes}
-use Rattle.nb_script.specs.Order.{sessions_at, spaced_session}
-use Rattle.nb_model.specs.Seeds.{seeded, stepped, session_of}
+use Rattle.nb_script.proofs.Common.{append-nil, Bytes, sessions_at, spaced_session, seeded, stepped, session_of}
 
 -- sessions before those that are still read
 abbrev pub behind : List ℕ → Option (List ℕ) → Option (List ℕ)

@@ -1,10 +1,6 @@
 -- Lines are written one after the other.
 use Rattle.std.proofs.Common.{◌≡◌, ℕ, ◌+◌, ◌<◌, ◌≤◌, List, [], ◌∷◌, ◌++◌, length, drop, get_or, refl, ap, sym, ◌∙◌, append_assoc}
-use Rattle.std.specs.Fmt.{decimal}
-use Rattle.std.proofs.lemmas.List.{append-nil, drop_more, drop_all}
-use Rattle.nb_model.specs.declared.statement.Statement.{Statement}
-use Rattle.nb_script.specs.Words.{Bytes}
-use Rattle.nb_script.specs.Spelling.{line_text, spaced_sessions, statements_text, sessions_text}
+use Rattle.nb_script.proofs.Common.{decimal, append-nil, drop_more, drop_all, Statement, Bytes, line_text, spaced_sessions, statements_text, sessions_text}
 
 -- an element is written
 pub next_written : {A : Type 0} (text : List A → Bytes) (out one : Bytes) (xs : List A) (i : ℕ) (d x : A) → i < length xs → get_or xs i d ≡ x

@@ -1,23 +1,8 @@
 -- The text of a script is read as that script.
-use Rattle.std.proofs.Common.{◌≡◌, ℕ, zero, suc, ◌+◌, ◌-◌, ◌<◌, ◌≤◌, ◌==◌, ◌&&◌, ◌||◌, not, Bool, true, false, nat_lt, nat_eq, List, [], ◌∷◌, ◌++◌, length, take, drop, get_or, set, refl, sym, ◌∙◌, ap, ap₂, subst, arith, append_assoc, length-append}
-use Rattle.std.specs.Prelude.{Option, Some, None, Ok, if◌then◌else◌, replicate, codes, option_map}
-use Rattle.std.specs.Fmt.{decimal}
-use Rattle.std.specs.List.{list_all, AllByRecursion}
+use Rattle.std.proofs.Common.{◌≡◌, ℕ, zero, suc, ◌+◌, ◌-◌, ◌<◌, ◌≤◌, ◌==◌, ◌&&◌, ◌||◌, not, Bool, true, false, nat_lt, nat_eq, List, [], ◌∷◌, ◌++◌, length, take, drop, get_or, set, refl, sym, ◌∙◌, ap, ap₂, subst, arith, append_assoc, length-append, Option, Some, None, Ok, if◌then◌else◌, replicate, codes, option_map}
+use Rattle.nb_script.proofs.Common.{decimal, list_all, AllByRecursion, and_parts, cond-true, cond-false, lt-ltb, ne_eqb, eq-eqb, append-nil, set_at, get_or_at, Statement, seeded, Bytes, ◌>>=◌, after, is_digit, digit_count, statement_at, first_at, spaced_session, sessions_at, seed_at, order_at, lines_of, onto_first, numbered, is_skipped, left, Plan, Numbered, with_statement, with_lines, order_in, script_of, line_text, spaced_sessions, schedule_text, statements_text, sessions_text, script_text, IsSession, FitsOrder, IsFirst, IsFurtherLine, IsSpelled, statement_count, not_true, decimal_nonempty}
 use Rattle.std.specs.Cmp.Lexicographic.{pointwise}
-use Rattle.std.proofs.lemmas.Bool.{and_parts, cond-true, cond-false, lt-ltb, ne_eqb, eq-eqb}
-use Rattle.std.proofs.lemmas.List.{append-nil, set_at, get_or_at}
-use Rattle.nb_model.specs.declared.statement.Statement.{Statement}
-use Rattle.nb_model.specs.Seeds.{seeded}
-use Rattle.nb_script.specs.Words.{Bytes, ◌>>=◌, after, is_digit, digit_count}
-use Rattle.nb_script.specs.Statements.{statement_at}
-use Rattle.nb_script.specs.FirstLine.{first_at}
-use Rattle.nb_script.specs.Order.{spaced_session, sessions_at, seed_at, order_at}
-use Rattle.nb_script.specs.Lines.{lines_of, onto_first, numbered, is_skipped, left}
-use Rattle.nb_script.specs.Scripts.{Plan, Numbered, with_statement, with_lines, order_in, script_of}
-use Rattle.nb_script.specs.Spelling.{line_text, spaced_sessions, schedule_text, statements_text, sessions_text, script_text}
-use Rattle.nb_script.specs.Fits.{IsSession, FitsOrder}
-use Rattle.nb_script.specs.Asked.{IsFirst, IsFurtherLine, IsSpelled, statement_count}
-use Rattle.nb_script.proofs.WordLaws.{digits_of, some_digit, within_again}
+use Rattle.nb_script.proofs.WordLaws.{digits_of, within_again}
 use Rattle.nb_script.proofs.StatementLaws.{statement_again}
 use Rattle.nb_script.proofs.FirstLaws.{first_again}
 use Rattle.nb_script.proofs.LineLaws.{kept}
@@ -31,11 +16,7 @@ unfolding lines_of
 line_first [] rest is = refl
 line_first (b ∷ line) rest is =
     let parts = and_parts (not (b == 10)) (list_all (λ x. not (x == 10)) line) is in
-    cond-false (b == 10) _ _ (not_feed (b == 10) parts.0) ∙ ap (onto_first b) (line_first line rest parts.1)
-  where
-    not_feed : (test : Bool) → not test ≡ true → test ≡ false
-    not_feed true h = cc
-    not_feed false h = refl
+    cond-false (b == 10) _ _ (not_true (b == 10) parts.0) ∙ ap (onto_first b) (line_first line rest parts.1)
 
 -- what begins with a digit is no comment, and gives no order of turns
 digit_kept : (digits rest : Bytes) → 0 < length digits → list_all is_digit digits ≡ true → is_skipped (digits ++ rest) ≡ false
@@ -71,11 +52,11 @@ digit_orders_none (d ∷ digits) rest some all =
 module _ (session : ℕ) (s : Statement) (small : session ≤ 16) where
   line_kept : is_skipped (line_text session s) ≡ false
   unfolding line_text
-  line_kept = digit_kept (decimal session) _ (some_digit session (omega arith)) (digits_of session (omega arith))
+  line_kept = digit_kept (decimal session) _ (decimal_nonempty session (omega arith)) (digits_of session (omega arith))
 
   line_orders_none : order_at (line_text session s) ≡ None
   unfolding line_text
-  line_orders_none = digit_orders_none (decimal session) _ (some_digit session (omega arith)) (digits_of session (omega arith))
+  line_orders_none = digit_orders_none (decimal session) _ (decimal_nonempty session (omega arith)) (digits_of session (omega arith))
 
 -- the line of a statement is read as it
 further_read : (session : ℕ) (s : Statement) → IsSession session → IsFurtherLine s → statement_at (line_text session s) ≡ Some (session, s)

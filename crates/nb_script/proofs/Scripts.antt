@@ -1,13 +1,6 @@
 -- Statements are added to a script line by line.
 use Rattle.std.proofs.Common.{◌≡◌, ℕ, ◌+◌, ◌≤◌, nat_lt, List, [], ◌∷◌, length, Some, None, Ok, Err, refl, ap, sym, ◌∙◌, if◌then◌else◌}
-use Rattle.nb_host.specs.declared.refusals.Refusal.TheVariants.{BadScript}
-use Rattle.nb_model.specs.declared.statement.Statement.{Statement}
-use Rattle.nb_script.specs.Words.{Bytes}
-use Rattle.std.proofs.lemmas.Bool.{cond-false, le-ltb}
-use Rattle.nb_script.specs.Lines.{left, lines_of}
-use Rattle.nb_script.specs.FirstLine.{first_at}
-use Rattle.nb_script.specs.Statements.{statement_at}
-use Rattle.nb_script.specs.Scripts.{or_bad, script_of, of_lines, with_order, order_in, started, Plan, Numbered, with_lines, with_statement}
+use Rattle.nb_script.proofs.Common.{BadScript, Statement, Bytes, cond-false, le-ltb, left, lines_of, first_at, statement_at, or_bad, script_of, of_lines, with_order, order_in, started, Plan, Numbered, with_lines, with_statement}
 
 -- no line is left
 pub no_more : (taken : ℕ) (plan : Plan) (lines : List Numbered) → lines ≡ [] → with_lines taken plan lines ≡ Ok plan

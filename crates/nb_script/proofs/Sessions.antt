@@ -1,7 +1,6 @@
 -- The lists of statements, one of each session.
 use Rattle.std.proofs.Common.{◌≡◌, ℕ, ◌<◌, List, [], ◌∷◌, ◌++◌, length, map, set, get_or, ap, sym, ◌∙◌}
-use Rattle.std.specs.Global.{Vec}
-use Rattle.std.proofs.lemmas.List.{map-set, get_or-map}
+use Rattle.nb_script.proofs.Common.{Vec, map-set, get_or-map}
 
 -- the list of one of them grows
 pub one_more : {A : Type 0} (vs : List (Vec A)) (i : ℕ) (old new : Vec A) (x : A) → i < length vs → new.items ≡ (get_or vs i old).items ++ x ∷ []

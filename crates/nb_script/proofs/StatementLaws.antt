@@ -1,13 +1,6 @@
 -- The line of a statement is read as that statement.
 use Rattle.std.proofs.Common.{◌≡◌, ℕ, ◌^◌, ◌<◌, ◌≤◌, ◌==◌, true, false, [], ◌++◌, length, Option, Some, None, if◌then◌else◌, codes, refl, ap, sym, ◌∙◌, append_assoc, arith}
-use Rattle.std.specs.Fmt.{decimal}
-use Rattle.std.proofs.lemmas.List.{append-nil}
-use Rattle.nb_model.specs.declared.statement.Statement.{Statement}
-use Rattle.nb_model.specs.declared.statement.Statement.TheVariants.{CreateDb, OpenDb, Write, Read, Free, Backup, BackupSince, CopyTo, CreateTable, DropTable, Insert, Update, Delete, Get, Scan, Forced, Access}
-use Rattle.nb_script.specs.Words.{Bytes, ◌>>=◌, after, number_at, page_at, text_at, table_at, alone, digit_count}
-use Rattle.nb_script.specs.Statements.{last_page, page_text, last_name, backup_at, last_table, row_at, last_row, row_text, fixed, of_page, of_file, of_table, scan_at, of_row, without_text, command_at, session_line, statement_at}
-use Rattle.nb_script.specs.Spelling.{quoted, row_text_of, command_text, line_text}
-use Rattle.nb_script.specs.Fits.{Fits, IsText, IsFile, IsTable}
+use Rattle.nb_script.proofs.Common.{decimal, append-nil, Statement, CreateDb, OpenDb, Write, Read, Free, Backup, BackupSince, CopyTo, CreateTable, DropTable, Insert, Update, Delete, Get, Scan, Forced, Access, Bytes, ◌>>=◌, after, number_at, page_at, text_at, table_at, alone, digit_count, last_page, page_text, last_name, backup_at, last_table, row_at, last_row, row_text, fixed, of_page, of_file, of_table, scan_at, of_row, without_text, command_at, session_line, statement_at, quoted, row_text_of, command_text, line_text, Fits, IsText, IsFile, IsTable}
 use Rattle.nb_script.proofs.WordLaws.{number_again, within_again, text_again, name_again, table_again}
 
 -- a page number, and what stands after it

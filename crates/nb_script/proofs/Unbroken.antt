@@ -1,17 +1,7 @@
 -- A line that is written has no line feed in it.
 use Rattle.std.proofs.Common.{◌≡◌, ℕ, ◌^◌, ◌<◌, ◌≤◌, ◌==◌, ◌&&◌, not, Bool, true, false, nat_lt, nat_le, List, [], ◌∷◌, ◌++◌, length, codes, refl, sym, ◌∙◌, ap, inl, inr, arith}
-use Rattle.std.specs.Fmt.{decimal}
-use Rattle.std.specs.List.{list_all, AllByRecursion}
-use Rattle.std.proofs.lemmas.Bool.{cases_Bool, and_parts, and_from, eqb-true, not_from_false}
+use Rattle.nb_script.proofs.Common.{decimal, list_all, AllByRecursion, cases_Bool, and_parts, and_from, eqb-true, not_from_false, is_name, is_name_byte, is_page_size, Statement, CreateDb, OpenDb, Write, Read, Free, Backup, BackupSince, CopyTo, CreateTable, DropTable, Insert, Update, Delete, Get, Scan, Forced, Access, is_table_byte, Bytes, is_digit, is_text_byte, is_given, quoted, cache_text, sizes_text, row_text_of, command_text, line_text, spaced_sessions, Fits, FitsFirst, IsText, IsTable, IsSession}
 use Rattle.std.proofs.lemmas.List.Folds.{list_all-append}
-use Rattle.nb_host.specs.Names.{is_name, is_name_byte}
-use Rattle.nb_host.specs.Files.{is_page_size}
-use Rattle.nb_model.specs.declared.statement.Statement.{Statement}
-use Rattle.nb_model.specs.declared.statement.Statement.TheVariants.{CreateDb, OpenDb, Write, Read, Free, Backup, BackupSince, CopyTo, CreateTable, DropTable, Insert, Update, Delete, Get, Scan, Forced, Access}
-use Rattle.nb_model.specs.TableNames.{is_table_byte}
-use Rattle.nb_script.specs.Words.{Bytes, is_digit, is_text_byte, is_given}
-use Rattle.nb_script.specs.Spelling.{quoted, cache_text, sizes_text, row_text_of, command_text, line_text, spaced_sessions}
-use Rattle.nb_script.specs.Fits.{Fits, FitsFirst, IsText, IsTable, IsSession}
 use Rattle.nb_script.proofs.WordLaws.{digits_of}
 use Rattle.nb_script.proofs.FirstLaws.{one_of}
 

@@ -1,17 +1,8 @@
 -- What was written of a word is read again.
 use Rattle.std.proofs.Common.{◌≡◌, ℕ, ◌+◌, ◌^◌, ◌<◌, ◌≤◌, ◌==◌, ◌&&◌, ◌||◌, not, Bool, true, [], ◌∷◌, ◌++◌, length, take, drop, slice_index, Option, Some, None, option_map, if◌then◌else◌, codes, refl, ap, ap₂, ◌∙◌, inl, inr, arith, nat_lt, nat_le, length-append}
-use Rattle.std.specs.List.{prefix_len, list_all}
-use Rattle.std.specs.Fmt.{decimal}
-use Rattle.std.specs.Char.{digit_value}
-use Rattle.std.specs.Str.Parse.{AllDigits}
-use Rattle.std.proofs.lemmas.Bool.{and_from, and_parts, or_left, or_right, le-leb, lt-ltb, cond-true, cases_lt, ne_eqb, eq-eqb, not_from_false}
-use Rattle.std.proofs.lemmas.List.{take_at, drop_at, get_or_at}
+use Rattle.nb_script.proofs.Common.{prefix_len, list_all, decimal, digit_value, AllDigits, and_from, and_parts, or_left, or_right, le-leb, lt-ltb, cond-true, cases_lt, ne_eqb, eq-eqb, not_from_false, take_at, drop_at, get_or_at, is_name, is_name_byte, is_table_name, is_table_byte, Bytes, ◌>>=◌, after, is_digit, digit_count, is_plain, value_of, number_at, within, is_text_byte, closed, text_at, is_given, name_len, named, name_at, table_at, quoted}
 use Rattle.std.proofs.lemmas.Fmt.{decimal_is_IsNumeral, decimal_digit, first_decimal}
 use Rattle.std.proofs.lemmas.Str.Parse.{digit_from_value}
-use Rattle.nb_host.specs.Names.{is_name, is_name_byte}
-use Rattle.nb_model.specs.TableNames.{is_table_name, is_table_byte}
-use Rattle.nb_script.specs.Words.{Bytes, ◌>>=◌, after, is_digit, digit_count, is_plain, value_of, number_at, within, is_text_byte, closed, text_at, is_given, name_len, named, name_at, table_at}
-use Rattle.nb_script.specs.Spelling.{quoted}
 use Rattle.nb_script.proofs.Numbers.{fitting}
 
 -- bytes that all pass a test, before bytes that begin with none
@@ -30,9 +21,6 @@ all_digits (d ∷ ds) h = and_from (is_digit d) (list_all is_digit ds) (digit_is
 
 pub digits_of : (n : ℕ) → n < 2 ^ 64 → list_all is_digit (decimal n) ≡ true
 digits_of n h = all_digits (decimal n) (decimal_is_IsNumeral n h).0.1
-
-pub some_digit : (n : ℕ) → n < 2 ^ 64 → 0 < length (decimal n)
-some_digit n h = (decimal_is_IsNumeral n h).0.0
 
 plain_decimal : (n : ℕ) → n < 2 ^ 64 → is_plain (decimal n) ≡ true
 plain_decimal n h =

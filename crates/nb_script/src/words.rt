@@ -1,6 +1,6 @@
 ghost use Rattle.std.specs.Prelude.{◌≡◌, ◌<◌, ◌≤◌, length, take, option_map, is_some, IfSome};
 ghost use Rattle.std.specs.List.{AllPass, prefix_len};
-ghost use Rattle.nb_model.specs.TableNames.{is_table_byte, is_table_name};
+ghost use Rattle.nb_model.specs.TableNames.{is_table_byte};
 ghost use Rattle.nb_script.specs.Words.{after, is_digit, digit_count, is_plain, value_of, number_at, within, is_text_byte, closed, text_at, name_len, is_given, named, name_at, table_at};
 
 use nb_host::Name;

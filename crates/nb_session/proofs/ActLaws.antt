@@ -1,46 +1,7 @@
 -- What the calls of the engine make of a turn.
-use Rattle.std.proofs.Common.{◌≡◌, ◌⊎◌, inl, inr, ℕ, List, [], ◌∷◌, ◌++◌, length, drop, replicate, refl, sym, ap, subst, ◌∙◌, arith}
-use Rattle.std.specs.Prelude.{Result, Ok, Err, IsErr, IsErrAnd, Option, Some, None, Contains, true, false}
-use Rattle.std.specs.List.{slice_index_or}
-use Rattle.std.proofs.lemmas.Bool.{true≢false}
-use Rattle.std.proofs.lemmas.List.{append-nil, append_cancel_left}
-use Rattle.nb_host.specs.World.{World}
-use Rattle.nb_host.specs.Moments.{IsTimely}
-use Rattle.nb_host.specs.declared.faults.Fault.{Fault}
-use Rattle.nb_host.specs.declared.faults.Fault.TheVariants.{Refused, Device, Memory}
-use Rattle.nb_page.specs.Quiet.{Quiet}
-use Rattle.nb_change.specs.Changes.{Changes, Reached}
-use Rattle.nb_change.specs.Gave.{GaveNothing}
-use Rattle.nb_change.proofs.ChangesLaws.{weakened}
-use Rattle.nb_model.specs.declared.reply.Reply.{Reply}
-use Rattle.nb_model.specs.declared.reply.Reply.TheVariants.{Done, CacheShown}
-use Rattle.nb_model.specs.declared.statement.Statement.{Statement}
-use Rattle.nb_model.specs.declared.statement.Statement.TheVariants.{BeginBackup, Sync, ShowCache}
-use Rattle.nb_model.specs.Gifts.{Foretells, WasGiven}
-use Rattle.nb_model.specs.Making.{MadeFile}
-use Rattle.nb_model.specs.Outcomes.{Turn, Begins, Seen, Given, Outcome, next_guid, next_hold, without_hold, says}
-use Rattle.nb_model.specs.Pages.{begin_turn, cache_turn}
-use Rattle.nb_model.specs.Run.{Now, Event, base_now, outcome, event_of, is_sync, files_made}
-use Rattle.nb_model.specs.Steps.{Step, steps_in, after_steps, made, settles}
-use Rattle.nb_model.specs.Strokes.{Stroke}
-use Rattle.nb_model.specs.Trail.{Trail, StandsIn, settled, after_stroke}
-use Rattle.nb_model.specs.Turns.{first_turn}
+use Rattle.std.proofs.Common.{◌≡◌, ◌⊎◌, inl, inr, ℕ, List, [], ◌∷◌, ◌++◌, length, drop, replicate, refl, sym, ap, subst, ◌∙◌, arith, Result, Ok, Err, IsErr, IsErrAnd, Option, Some, None, Contains, true, false}
+use Rattle.nb_session.proofs.Common.{slice_index_or, true≢false, append-nil, append_cancel_left, World, IsTimely, Fault, Refused, Device, Memory, Quiet, Changes, Reached, GaveNothing, weakened, Reply, Done, CacheShown, Statement, BeginBackup, Sync, ShowCache, Foretells, WasGiven, MadeFile, Turn, Begins, Seen, Given, Outcome, next_guid, next_hold, without_hold, says, begin_turn, cache_turn, Now, Event, base_now, outcome, event_of, is_sync, files_made, Step, steps_in, after_steps, made, settles, Stroke, Trail, StandsIn, settled, after_stroke, first_turn, IsOnce, left_by, pages_once, steps_plain, after_settling, OfFiles, Strikes, after_strokes, Held, IsOpen, but_pages, name_of, WhereEnded, Answers, Does, GaveAtMost, where_ended, none_yet, scn_is, SaysNone, DoesBegin, Says, Grows, shown_by, Touched, TurnLeft, AreKept, Acts, MayAct, IsReady, has_only_told, Replies, some_said, only_told, quiet_begun}
 use Rattle.nb_model.specs.Well.{is_on_pages}
-use Rattle.nb_model.proofs.TurnCases.{IsOnce, left_by, pages_once}
-use Rattle.nb_model.proofs.StepsLaws.{steps_plain, after_settling}
-use Rattle.nb_base.specs.Open.{OfFiles}
-use Rattle.nb_base.specs.Takes.{Strikes, after_strokes}
-use Rattle.nb_state.specs.Open.{Held, IsOpen, but_pages, name_of}
-use Rattle.nb_state.specs.Does.{WhereEnded, Answers, Does}
-use Rattle.nb_state.specs.Turns.{GaveAtMost}
-use Rattle.nb_state.proofs.MakesLaws.{where_ended, none_yet}
-use Rattle.nb_state.proofs.TurnLaws.{no_call}
-use Rattle.nb_engine.specs.Replies.{scn_is}
-use Rattle.nb_engine.specs.Turns.{SaysNone, DoesBegin}
-use Rattle.nb_session.specs.Acts.{Says, Grows, shown_by, Touched, TurnLeft, AreKept, Acts, MayAct}
-use Rattle.nb_session.specs.Ready.{IsReady}
-use Rattle.nb_state.specs.Does.{has_only_told}
-use Rattle.nb_session.specs.Replies.{Replies, some_said, only_told}
 use Rattle.nb_session.proofs.EventLaws.{strokes_are_steps, told_reply}
 use Rattle.nb_session.proofs.GiftLaws.{given_nothing, grows_none}
 use Rattle.nb_session.proofs.KeepLaws.{begin_gives, begin_refused, begin_running, begin_made}
@@ -299,7 +260,7 @@ module _ (w : World) (held : Held) (t : Trail) (now : Now) (session : ℕ) (stat
     grows = grows_none w w still;
     acts = λ told. record {
       says = ap (λ (x : Outcome). x.reply) shows ∙ ap (λ (n : ℕ). Some (CacheShown n (next_hold now.given))) (sym ready.cache) ∙ ap (λ (n : ℕ). Some (CacheShown held.cap n)) (first_number told) ∙ ap Some (sym answered);
-      left = strikes_left w w (name_of held) t _ (none_yet w w held t _ (no_call w timely) ready.opened);
+      left = strikes_left w w (name_of held) t _ (none_yet w w held t _ (quiet_begun w timely) ready.opened);
       opened = subst (IsOpen w held) (ap (after_strokes t) (sym (ap (λ (x : Outcome). x.strokes) shows)) ∙ trail_plain t (event_of session (Begins statement) (outcome session (Begins statement) now)) (ap (λ (x : Statement). is_sync (Begins x)) is)) ready.opened;
       running = ready.running ∙ sym (ap (λ (x : Outcome). x.running) shows);
       given = subst (λ (g : Given). WasGiven w w now.given g) (sym (ap (λ (x : Outcome). x.given) shows)) (record {

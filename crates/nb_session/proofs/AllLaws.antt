@@ -1,10 +1,6 @@
 -- What holds of each element of a list.
-use Rattle.std.proofs.Common.{ℕ, zero, suc, List, [], ◌∷◌, ◌++◌, get_or}
-use Rattle.std.specs.List.{AllByRecursion}
-
-pub all_append : {A : Type 0} (P : A → Type 0) (xs ys : List A) → AllByRecursion P xs → AllByRecursion P ys → AllByRecursion P (xs ++ ys)
-all_append P [] ys first second = second
-all_append P (x ∷ xs) ys first second = (first.0, all_append P xs ys first.1 second)
+use Rattle.std.proofs.Common.{ℕ, zero, suc, List, [], ◌∷◌, get_or}
+use Rattle.nb_session.proofs.Common.{AllByRecursion}
 
 -- of the element at a place, where it holds of what stands for none
 pub all_at : {A : Type 0} (P : A → Type 0) (xs : List A) (i : ℕ) (none : A) → P none → AllByRecursion P xs → P (get_or xs i none)

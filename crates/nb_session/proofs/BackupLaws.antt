@@ -1,71 +1,12 @@
 -- The turns of a backup.
-use Rattle.std.proofs.Common.{◌≡◌, ◌⊎◌, inl, inr, ⊎_elim, ℕ, zero, suc, ◌-◌, ◌<◌, List, [], ◌∷◌, ◌++◌, length, replicate, refl, sym, ap, subst, ◌∙◌, arith}
-use Rattle.std.specs.Prelude.{Bool, Result, Ok, Err, IsErr, IfErr, Some, None, true, false, Contains}
-use Rattle.std.specs.List.{slice_index_or}
-use Rattle.std.proofs.lemmas.List.{append-nil}
-use Rattle.nb_fields.specs.Free.{is_free_file}
-use Rattle.nb_fields.specs.States.{stalled_state}
-use Rattle.nb_host.specs.Files.{Files}
-use Rattle.nb_host.specs.Names.{is_delta}
-use Rattle.nb_host.specs.World.{World}
-use Rattle.nb_host.specs.Crash.{Leaves}
-use Rattle.nb_host.specs.declared.faults.Fault.{Fault}
-use Rattle.nb_host.specs.declared.faults.Fault.TheVariants.{Refused, Device, Memory}
-use Rattle.nb_host.specs.declared.faults.RunError.{RunError}
-use Rattle.nb_host.specs.declared.refusals.Refusal.{Refusal}
-use Rattle.nb_change.specs.Changes.{Changes, Remade}
-use Rattle.nb_change.proofs.ChangesLaws.{weakened}
-use Rattle.nb_change.proofs.ReachedLaws.{reached_first}
-use Rattle.nb_model.specs.declared.reply.Reply.{Reply}
-use Rattle.nb_model.specs.declared.reply.Reply.TheVariants.{Refused as RefusedBy, Level}
-use Rattle.nb_model.specs.declared.statement.Statement.{Statement}
-use Rattle.nb_model.specs.declared.statement.Statement.TheVariants.{Backup as BackupTo, BackupSince}
-use Rattle.nb_model.specs.Account.{Base}
-use Rattle.nb_model.specs.Backups.{Room, room_in, close_backup}
-use Rattle.nb_model.specs.Causes.{is_free_entry}
-use Rattle.nb_model.specs.Gifts.{Foretells, WasGiven}
-use Rattle.nb_model.specs.Forms.{HasItsEntry}
-use Rattle.nb_model.specs.Going.{IsAt, IsGoing, IsMaking}
-use Rattle.nb_model.specs.Image.{Image, image_scn}
-use Rattle.nb_model.specs.Levels.{file_of, count_in}
-use Rattle.nb_model.specs.Making.{MadeFile, kept_of, making}
-use Rattle.nb_model.specs.Owner.{delta_name}
-use Rattle.nb_model.specs.Outcomes.{Turn, Begins, Copies, ClosesBackup, Ends, Backing, Given, Seen, Outcome, DoesNothing, next_guid, next_time, without_guid, without_time, passes}
-use Rattle.nb_model.specs.Run.{Now, Event, base_now, outcome, is_sync, event_of}
-use Rattle.nb_model.specs.Strokes.{Stroke, base_after}
-use Rattle.nb_model.specs.Trail.{Trail, StandsIn, after_stroke}
-use Rattle.nb_model.specs.Turns.{first_turn, turn}
-use Rattle.nb_model.proofs.StandsLaws.{no_main}
-use Rattle.nb_model.proofs.TurnCases.{started}
-use Rattle.nb_base.specs.Open.{OfFiles}
-use Rattle.nb_base.specs.Takes.{after_strokes, IsNoRefusal}
-use Rattle.nb_state.specs.Open.{Held, IsOpen, name_of}
-use Rattle.nb_state.specs.Does.{Goes, WhereEnded}
-use Rattle.nb_state.specs.Turns.{GaveAtMost}
-use Rattle.nb_state.specs.declared.turns.Progress.{Progress}
-use Rattle.nb_state.specs.declared.turns.Progress.TheVariants.{More, Finished}
-use Rattle.nb_state.proofs.MakesLaws.{after_base, where_ended, gave_none}
-use Rattle.nb_copy.specs.FileCopying.{file_count, file_next, file_written, whole_file}
-use Rattle.nb_gather.specs.Making.{IsEmpty, IsUnfinishedOr}
-use Rattle.nb_copy.specs.Starting.{Backed, IsBackingUp, IsStarted, OfStart, StartLeft, StartMakes, StartsBackup, KnowsFree}
-use Rattle.nb_gather.proofs.BlankLaws.{blank_empty, blank_free}
+use Rattle.std.proofs.Common.{◌≡◌, ◌⊎◌, inl, inr, ⊎_elim, ℕ, zero, suc, ◌-◌, ◌<◌, List, [], ◌∷◌, ◌++◌, length, replicate, refl, sym, ap, subst, ◌∙◌, arith, Bool, Result, Ok, Err, IsErr, IfErr, Some, None, true, false, Contains}
+use Rattle.nb_session.proofs.Common.{slice_index_or, append-nil, is_free_file, stalled_state, Files, is_delta, World, Leaves, Fault, Refused, Device, Memory, RunError, Refusal, Changes, Remade, weakened, reached_first, Reply, Level, Statement, BackupSince, Base, Room, room_in, close_backup, is_free_entry, Foretells, WasGiven, HasItsEntry, IsAt, IsGoing, IsMaking, Image, image_scn, file_of, count_in, MadeFile, kept_of, making, delta_name, Turn, Begins, Copies, ClosesBackup, Ends, Backing, Given, Seen, Outcome, DoesNothing, next_guid, next_time, without_guid, without_time, Now, Event, base_now, outcome, is_sync, event_of, Stroke, base_after, Trail, StandsIn, after_stroke, first_turn, turn, no_main, started, OfFiles, after_strokes, IsNoRefusal, Held, IsOpen, name_of, Goes, WhereEnded, GaveAtMost, Progress, More, Finished, after_base, where_ended, gave_none, file_count, file_next, file_written, whole_file, IsEmpty, IsUnfinishedOr, Backed, IsBackingUp, IsStarted, OfStart, StartLeft, StartMakes, StartsBackup, KnowsFree, Left, Same, Other, Taken, Backup, End, Told, Says, Grows, shown_by, Touched, TurnLeft, Acts, MayAct, FitsAsked, IsBackup, file_asked, copy_first, copy_rest, left_refused, left_task, task_first, task_rest, IsReady, IsApart, TaskGoes, EndsEarly, begun_in, left_making, touching, IsBehind, Turns, has_only_told, only_told, one_held, blank_free, blank_empty, some_none}
+use Rattle.nb_model.specs.declared.reply.Reply.TheVariants.{Refused as RefusedBy}
+use Rattle.nb_model.specs.declared.statement.Statement.TheVariants.{Backup as BackupTo}
 use Rattle.nb_copy.specs.Closing.{OfBackup, GaveTimeAtMost, CloseLeft, CopiesOn, CloseDone, BackupTurn, BackupCounts}
-use Rattle.nb_session.specs.declared.task.Left.{Left}
-use Rattle.nb_session.specs.declared.task.Left.TheVariants.{Same, Other}
-use Rattle.nb_session.specs.declared.task.Taken.{Taken}
-use Rattle.nb_session.specs.declared.task.Task.TheVariants.{Backup, End}
-use Rattle.nb_session.specs.declared.told.Told.{Told}
-use Rattle.nb_session.specs.Acts.{Says, Grows, shown_by, Touched, TurnLeft, Acts, MayAct}
-use Rattle.nb_script.specs.Fits.{FitsAsked}
-use Rattle.nb_session.specs.Askers.{IsBackup, file_asked, copy_first, copy_rest, left_refused, left_task, task_first, task_rest}
-use Rattle.nb_session.specs.Ready.{IsReady, IsApart, TaskGoes}
-use Rattle.nb_session.specs.Says.{EndsEarly}
-use Rattle.nb_session.specs.Steps.{begun_in, left_making, touching, IsBehind, Turns}
 use Rattle.nb_session.proofs.ActLaws.{trail_plain, ended_map, kept_none, says_none, idle_unchanged, first_given, most_given, grows_at_most}
-use Rattle.nb_state.specs.Does.{has_only_told}
-use Rattle.nb_session.specs.Replies.{only_told}
 use Rattle.nb_session.proofs.EventLaws.{Marks, marks_made, unsaid}
-use Rattle.nb_session.proofs.CopyLaws.{apart_one, one_file, file_left, each_one, kept_one, made_by, no_stroke, stalled_now, finished_not, more_not}
+use Rattle.nb_session.proofs.CopyLaws.{apart_one, file_left, each_one, kept_one, made_by, no_stroke, stalled_now, finished_not, more_not, page_is}
 use Rattle.nb_session.proofs.GiftLaws.{given_nothing, grows_none}
 use Rattle.nb_session.proofs.MakesLaws.{none_runs}
 use Rattle.nb_session.proofs.NameLaws.{given_plain}
@@ -97,9 +38,6 @@ same_name : (m n : ℕ) (b c : Backing) → replicate m Copies ++ ClosesBackup b
 same_name m n b c same =
     ap (λ (fs : List MadeFile). (slice_index_or fs 0 ([], [])).0)
     (backups_make [] m b ∙ ap (making []) (sym (copy_turns m (ClosesBackup b)) ∙ same ∙ copy_turns n (ClosesBackup c)) ∙ sym (backups_make [] n c))
-
-some_none : (r : Refusal) → Some (RefusedBy r) ≡ None → ⊥
-some_none r e = cc
 
 -- A backup that begins: its name was free, its session runs, and a GUID is given.
 record HasBegun (s : Seen) (session : ℕ) (name : List ℕ) (o : Outcome) : Type 0 where
@@ -134,7 +72,7 @@ module _ (s : Seen) (session : ℕ) (x : Statement) (asks : IsBackup x) where
   start_made = asked_either (λ o. o.made ≡ None) s session x asks (λ r. refl) (λ ask from may. refl)
 
   has_begun : start.reply ≡ None → HasBegun s session (file_asked x) start
-  has_begun = asked_either (λ o. o.reply ≡ None → HasBegun s session (file_asked x) o) s session x asks (λ r is. absurd (some_none r is))
+  has_begun = asked_either (λ o. o.reply ≡ None → HasBegun s session (file_asked x) o) s session x asks (λ r is. absurd (some_none (RefusedBy r) is))
       (λ ask from may quiet. record { free = may.free; running = refl; given = refl; named = λ n b same. sym (same_name _ n _ b same) })
 
   -- the file that it makes, where nothing refuses it
@@ -142,7 +80,7 @@ module _ (s : Seen) (session : ℕ) (x : Statement) (asks : IsBackup x) where
   unfolding making
   start_file = asked_either
       (λ o. ((bytes : List ℕ) × ((making (base_after s.base o.strokes).frozen o.next ≡ (file_asked x, bytes) ∷ []) × (o.reply ≡ None))) ⊎ ((making (base_after s.base o.strokes).frozen o.next ≡ []) × (o.reply ≡ None → ⊥))) s session x asks
-      (λ r. inr (refl, some_none r))
+      (λ r. inr (refl, some_none (RefusedBy r)))
       (λ ask from may.
       let frozen : Image = (base_after s.base (started s session (file_asked x) ask).strokes).frozen in
       let room : Room = room_in s.base.image in
@@ -151,7 +89,7 @@ module _ (s : Seen) (session : ℕ) (x : Statement) (asks : IsBackup x) where
 
   has_not : (refusal : Refusal) → start.reply ≡ Some (RefusedBy refusal) → DoesNothing s start
   has_not refusal = asked_either (λ o. o.reply ≡ Some (RefusedBy refusal) → DoesNothing s o) s session x asks (λ r is. record { strokes = refl; next = refl; made = refl; running = refl; given = refl })
-      (λ ask from may quiet. absurd (some_none refusal (sym quiet)))
+      (λ ask from may quiet. absurd (some_none (RefusedBy refusal) (sym quiet)))
 
 pub no_delta : (held : Held) (name : List ℕ) → is_delta name ≡ false → name ≡ delta_name (name_of held) → ⊥
 no_delta held name plain same = no_main (name_of held) name plain (sym same)
@@ -211,7 +149,7 @@ module _ (old new : World) (a b : Held) (t : Trail) (now : Now) (session : ℕ) 
     where
       one : (fs : Files) (whole n bytes : List ℕ) → Remade old asked IsEmpty fs → Contains {X = MadeFile} ((asked, whole) ∷ []) (n, bytes) → Remade old n (IsUnfinishedOr bytes) fs
       one fs whole n bytes has there =
-          subst (λ (f : MadeFile). Remade old f.0 (IsUnfinishedOr f.1) fs) (one_file (asked, whole) (n, bytes) there)
+          subst (λ (f : MadeFile). Remade old f.0 (IsUnfinishedOr f.1) fs) (one_held (asked, whole) (n, bytes) there)
           (⊎_elim inl (λ empty. inr (inl (inl (ap is_free_file empty ∙ blank_free (Some []) blank_empty)))) has)
 
       by : (made : List MadeFile) → Files_are made → Changes old new (Touched db made) (TurnLeft old db t begins.strokes made)
@@ -291,10 +229,6 @@ module _ (old new : World) (a b : Held) (t : Trail) (now : Now) (session : ℕ) 
       record { next = append-nil this.next ∙ sym (ap (λ (o : Outcome). o.next) same) ∙ (has_not (seen_now now) session x asks refusal does.says).next; goes = tt }
 
 -- A further turn of a backup.
-page_is : (session : ℕ) (now : Now) → outcome session Copies now ≡ passes (seen_now now)
-unfolding outcome turn
-page_is session now = refl
-
 close_is : (session : ℕ) (b : Backing) (now : Now) → outcome session (ClosesBackup b) now ≡ close_backup (seen_now now) b
 unfolding outcome turn
 close_is session b now = refl

@@ -1,26 +1,7 @@
 -- What turns taken one by one leave of the files.
-use Rattle.std.proofs.Common.{◌≡◌, inl, inr, ℕ, List, [], ◌∷◌, sym, ap, subst, ◌∙◌}
-use Rattle.std.specs.Prelude.{Bool, false, Result, Ok, Err}
-use Rattle.nb_host.specs.World.{World}
-use Rattle.nb_host.specs.Crash.{LeavesAll}
-use Rattle.nb_host.specs.Moments.{IsTimely}
-use Rattle.nb_host.specs.declared.faults.RunError.{RunError}
-use Rattle.nb_change.proofs.MomentLaws.{weaker}
-use Rattle.nb_model.specs.Making.{MadeFile}
-use Rattle.nb_model.specs.Run.{Now, Played, one_turn, play}
-use Rattle.nb_model.specs.Steps.{steps_of, after_steps}
-use Rattle.nb_model.specs.Trail.{Trail}
-use Rattle.nb_base.specs.Open.{OfFiles}
-use Rattle.nb_state.specs.Open.{Held, name_of}
-use Rattle.nb_session.specs.declared.told.Told.{Told}
-use Rattle.nb_session.specs.Acts.{Touched}
+use Rattle.std.proofs.Common.{◌≡◌, inl, inr, ℕ, List, [], ◌∷◌, sym, ap, subst, ◌∙◌, Bool, false, Result, Ok, Err}
+use Rattle.nb_session.proofs.Common.{World, LeavesAll, IsTimely, RunError, weaker, MadeFile, Now, Played, one_turn, play, steps_of, after_steps, Trail, OfFiles, Held, name_of, Told, Touched, InTurn, EndsBy, LeavesOthers, touching_by, Plays, PlaysInTurn, told_events, told_turns}
 use Rattle.nb_session.specs.ByTurns.{ByTurns, OfLast, StillInLast, GoesByTurns}
-use Rattle.nb_session.specs.InTurn.{InTurn, EndsBy}
-use Rattle.nb_session.specs.Others.{LeavesOthers}
-use Rattle.nb_session.specs.Steps.{touching_by}
-use Rattle.nb_session.specs.Stops.{Plays}
-use Rattle.nb_session.specs.Todo.{PlaysInTurn}
-use Rattle.nb_session.specs.Told.{told_events, told_turns}
 use Rattle.nb_session.proofs.InTurnLaws.{play_idle}
 use Rattle.nb_session.proofs.OthersLaws.{leaves_among}
 use Rattle.nb_session.proofs.PlayLaws.{no_file}

@@ -1,62 +1,9 @@
 -- The turns of a copy of the frozen file.
-use Rattle.std.proofs.Common.{◌≡◌, inr, ℕ, zero, suc, ◌-◌, ◌≤◌, List, [], ◌∷◌, ◌++◌, length, replicate, refl, sym, ap, subst, ◌∙◌, arith, true≢false}
-use Rattle.std.specs.Prelude.{Bool, Result, Ok, Err, IsErr, IfOk, Option, Some, None, Contains, true, false}
-use Rattle.std.specs.List.{slice_index_or}
-use Rattle.std.proofs.lemmas.List.{append-nil}
-use Rattle.nb_fields.specs.States.{stalled_state}
-use Rattle.nb_host.specs.Files.{Files}
-use Rattle.nb_host.specs.Names.{is_delta}
-use Rattle.nb_host.specs.World.{World}
-use Rattle.nb_host.specs.Crash.{Leaves}
-use Rattle.nb_host.specs.declared.faults.Fault.{Fault}
-use Rattle.nb_host.specs.declared.faults.Fault.TheVariants.{Refused, Device}
-use Rattle.nb_host.specs.declared.faults.HostFault.{HostFault}
-use Rattle.nb_host.specs.declared.faults.RunError.{RunError}
-use Rattle.nb_host.specs.declared.refusals.Refusal.{Refusal}
-use Rattle.nb_change.specs.Changes.{Changes, Only, Remade}
-use Rattle.nb_change.specs.Gave.{GaveNothing}
-use Rattle.nb_change.proofs.ChangesLaws.{weakened}
-use Rattle.nb_change.proofs.ReachedLaws.{reached_first}
-use Rattle.nb_model.specs.declared.reply.Reply.{Reply}
-use Rattle.nb_model.specs.declared.reply.Reply.TheVariants.{Refused as RefusedBy, Pages}
-use Rattle.nb_model.specs.declared.statement.Statement.TheVariants.{CopyTo}
-use Rattle.nb_model.specs.Account.{Base}
-use Rattle.nb_model.specs.Backups.{copy_turn, close_copy}
-use Rattle.nb_model.specs.Causes.{is_free_entry}
-use Rattle.nb_model.specs.Going.{Runs, IsAt, IsGoing, IsMaking}
-use Rattle.nb_model.specs.Image.{Image, image_state}
-use Rattle.nb_model.specs.Levels.{joined}
-use Rattle.nb_model.specs.Making.{MadeFile, making}
-use Rattle.nb_model.specs.Outcomes.{Turn, Begins, Copies, ClosesCopy, Seen, Outcome, passes}
-use Rattle.nb_model.specs.Run.{Now, Event, base_now, outcome, event_of, files_made}
-use Rattle.nb_model.specs.Strokes.{Stroke, base_after}
-use Rattle.nb_model.specs.Steps.{steps_in, after_steps}
-use Rattle.nb_model.specs.Trail.{Trail, StandsIn, after_stroke}
-use Rattle.nb_model.specs.Turns.{first_turn, turn}
-use Rattle.nb_model.proofs.TurnCases.{copy_either}
-use Rattle.nb_base.specs.Open.{OfFiles}
-use Rattle.nb_base.specs.Takes.{after_strokes}
-use Rattle.nb_state.specs.Open.{Held, IsOpen, name_of}
-use Rattle.nb_state.specs.declared.turns.Progress.{Progress}
-use Rattle.nb_state.specs.declared.turns.Progress.TheVariants.{More, Finished}
-use Rattle.nb_state.proofs.MakesLaws.{where_ended, none_yet, gave_none, open_quiet, open_running}
-use Rattle.nb_gather.specs.Making.{IsKept, IsUnfinishedOr}
-use Rattle.nb_copy.specs.Copying.{Copying, IsCopying}
-use Rattle.nb_copy.specs.FileCopies.{CopiesFile, IsCopyingTo, StartsCopy, IsCopyStarted, KnowsUnused}
+use Rattle.std.proofs.Common.{◌≡◌, inr, ℕ, zero, suc, ◌-◌, ◌≤◌, List, [], ◌∷◌, ◌++◌, length, replicate, refl, sym, ap, subst, ◌∙◌, arith, true≢false, Bool, Result, Ok, Err, IsErr, IfOk, Option, Some, None, Contains, true, false}
+use Rattle.nb_session.proofs.Common.{slice_index_or, append-nil, stalled_state, Files, is_delta, World, Leaves, Fault, Refused, Device, HostFault, RunError, Refusal, Changes, Only, Remade, GaveNothing, weakened, reached_first, Reply, Pages, CopyTo, Base, copy_turn, close_copy, is_free_entry, Runs, IsAt, IsGoing, IsMaking, Image, image_state, joined, MadeFile, making, Turn, Begins, Copies, ClosesCopy, Seen, Outcome, passes, Now, Event, base_now, outcome, event_of, files_made, Stroke, base_after, steps_in, after_steps, Trail, StandsIn, after_stroke, first_turn, turn, copy_either, OfFiles, after_strokes, Held, IsOpen, name_of, Progress, More, Finished, where_ended, none_yet, gave_none, open_quiet, open_running, IsKept, IsUnfinishedOr, Copying, IsCopying, CopiesFile, IsCopyingTo, StartsCopy, IsCopyStarted, KnowsUnused, Left, Same, Copy, Told, Says, Touched, TurnLeft, AreKept, MayAct, copy_first, copy_rest, left_refused, left_task, task_first, task_rest, IsReady, IsApart, TaskGoes, SaysLine, touching, IsBehind, Turns, told_line, told_reply, has_only_told, only_told, one_held, none_some, some_none}
+use Rattle.nb_model.specs.declared.reply.Reply.TheVariants.{Refused as RefusedBy}
 use Rattle.nb_copy.specs.Turns.{CopyCounts}
 use Rattle.nb_copy.proofs.ClosingLaws.{stands}
-use Rattle.nb_session.specs.declared.task.Left.{Left}
-use Rattle.nb_session.specs.declared.task.Left.TheVariants.{Same}
-use Rattle.nb_session.specs.declared.task.Task.TheVariants.{Copy}
-use Rattle.nb_session.specs.declared.told.Told.{Told}
-use Rattle.nb_session.specs.Acts.{Says, Touched, TurnLeft, AreKept, MayAct}
-use Rattle.nb_session.specs.Askers.{copy_first, copy_rest, left_refused, left_task, task_first, task_rest}
-use Rattle.nb_session.specs.Ready.{IsReady, IsApart, TaskGoes}
-use Rattle.nb_session.specs.Says.{SaysLine}
-use Rattle.nb_session.specs.Steps.{touching, IsBehind, Turns}
-use Rattle.nb_session.specs.Told.{told_line, told_reply}
-use Rattle.nb_state.specs.Does.{has_only_told}
-use Rattle.nb_session.specs.Replies.{only_told}
 use Rattle.nb_session.proofs.ActLaws.{trail_plain, ended_map, strikes_left, kept_none, says_none}
 use Rattle.nb_session.proofs.EventLaws.{marks_made, unsaid, told_reply as told_is}
 use Rattle.nb_session.proofs.GiftLaws.{given_nothing, grows_none}
@@ -83,16 +30,11 @@ pub no_stroke : (b : Base) (ss : List Stroke) → ss ≡ [] → base_after b ss 
 unfolding base_after
 no_stroke b ss none = ap (base_after b) none
 
--- one file
-pub one_file : (f g : MadeFile) → Contains (f ∷ []) g → f ≡ g
-one_file f g (zero, low, is) = is
-one_file f g (suc i, low, is) = absurd (omega (arith, low))
-
 pub kept_one : (w : World) (name whole : List ℕ) → IsKept w name whole → AreKept w ((name, whole) ∷ [])
-kept_one w name whole kept n bytes there = subst (λ (f : MadeFile). IsKept w f.0 f.1) (one_file (name, whole) (n, bytes) there) kept
+kept_one w name whole kept n bytes there = subst (λ (f : MadeFile). IsKept w f.0 f.1) (one_held (name, whole) (n, bytes) there) kept
 
 pub apart_one : (held : Held) (name whole : List ℕ) → IsApart held name → (n bytes : List ℕ) → Contains {X = MadeFile} ((name, whole) ∷ []) (n, bytes) → IsApart held n
-apart_one held name whole apart n bytes there = subst (λ (f : MadeFile). IsApart held f.0) (one_file (name, whole) (n, bytes) there) apart
+apart_one held name whole apart n bytes there = subst (λ (f : MadeFile). IsApart held f.0) (one_held (name, whole) (n, bytes) there) apart
 
 pub made_by : (w : World) (e : Event) (file : MadeFile) → e.made ≡ Some file → AreKept w (file ∷ []) → AreKept w (files_made (e ∷ []))
 unfolding files_made
@@ -104,7 +46,7 @@ module _ (old new : World) (a : Held) (t : Trail) (opened : IsOpen old a t) (nam
   touches m same = inr (whole, (0, omega arith, ap (λ (n : List ℕ). (n, whole)) (sym same)))
 
   pub each_one : (files : Files) → Remade old name (IsUnfinishedOr whole) files → (n bytes : List ℕ) → Contains {X = MadeFile} ((name, whole) ∷ []) (n, bytes) → Remade old n (IsUnfinishedOr bytes) files
-  each_one files has n bytes there = subst (λ (f : MadeFile). Remade old f.0 (IsUnfinishedOr f.1) files) (one_file (name, whole) (n, bytes) there) has
+  each_one files has n bytes there = subst (λ (f : MadeFile). Remade old f.0 (IsUnfinishedOr f.1) files) (one_held (name, whole) (n, bytes) there) has
 
   pub file_left : (ss : List Stroke) → Changes old new (Only name) (Remade old name (IsUnfinishedOr whole)) → Changes old new (Touched (name_of a) ((name, whole) ∷ [])) (TurnLeft old (name_of a) t ss ((name, whole) ∷ []))
   file_left ss changes =
@@ -115,9 +57,6 @@ module _ (old new : World) (a : Held) (t : Trail) (opened : IsOpen old a t) (nam
       })
 
 -- The start of a copy, by its turn.
-some_none : (r : Refusal) → Some (RefusedBy r) ≡ None → ⊥
-some_none r e = cc
-
 module _ (s : Seen) (session : ℕ) (name : List ℕ) where
   begin_strokes : (copy_turn s session name).strokes ≡ []
   begin_strokes = copy_either (λ o. o.strokes ≡ []) s session name (λ r. refl) (λ may. refl)
@@ -129,13 +68,13 @@ module _ (s : Seen) (session : ℕ) (name : List ℕ) where
   begin_made = copy_either (λ o. o.made ≡ None) s session name (λ r. refl) (λ may. refl)
 
   begin_free : (copy_turn s session name).reply ≡ None → is_free_entry (s.entry name) ≡ true
-  begin_free = copy_either (λ o. o.reply ≡ None → is_free_entry (s.entry name) ≡ true) s session name (λ r is. absurd (some_none r is)) (λ may is. may.free)
+  begin_free = copy_either (λ o. o.reply ≡ None → is_free_entry (s.entry name) ≡ true) s session name (λ r is. absurd (some_none (RefusedBy r) is)) (λ may is. may.free)
 
   begin_runs : (copy_turn s session name).reply ≡ None → (copy_turn s session name).running ≡ Some session
-  begin_runs = copy_either (λ o. o.reply ≡ None → o.running ≡ Some session) s session name (λ r is. absurd (some_none r is)) (λ may is. refl)
+  begin_runs = copy_either (λ o. o.reply ≡ None → o.running ≡ Some session) s session name (λ r is. absurd (some_none (RefusedBy r) is)) (λ may is. refl)
 
   begin_none : (refusal : Refusal) → (copy_turn s session name).reply ≡ Some (RefusedBy refusal) → (copy_turn s session name).next ≡ []
-  begin_none refusal = copy_either (λ o. o.reply ≡ Some (RefusedBy refusal) → o.next ≡ []) s session name (λ r is. refl) (λ may is. absurd (some_none refusal (sym is)))
+  begin_none refusal = copy_either (λ o. o.reply ≡ Some (RefusedBy refusal) → o.next ≡ []) s session name (λ r is. refl) (λ may is. absurd (some_none (RefusedBy refusal) (sym is)))
 
 begin_is : (session : ℕ) (name : List ℕ) (now : Now) → copy_turn (seen_now now) session name ≡ outcome session (Begins (CopyTo name)) now
 unfolding first_turn
@@ -144,9 +83,6 @@ begin_is session name now = sym (outcome_is session (CopyTo name) now)
 -- where nobody runs the account knows of each name whether it is free
 pub knows_unused : {sound : Bool} (w : World) (held : Held) (t : Trail) (now : Now) (name : List ℕ) → IsReady w held t now → IsGoing sound now → is_delta name ≡ false → KnowsUnused w.files (seen_now now) name
 knows_unused w held t now name ready going plain nobody = ready.known name plain (none_runs now going (λ place number some runs. none_some runs.by (sym nobody ∙ runs.running)) name)
-  where
-    none_some : (by : ℕ) → None ≡ Some by → ⊥
-    none_some by e = cc
 
 module _ (old new : World) (a b : Held) (t : Trail) (now : Now) (session : ℕ) (name : List ℕ) (ready : IsReady old a t now) (named : name_of b ≡ name_of a) where
   abbrev begins : Outcome
@@ -204,7 +140,7 @@ module _ (old new : World) (a b : Held) (t : Trail) (now : Now) (session : ℕ) 
       record { next = append-nil this.next ∙ sym (ap (λ (o : Outcome). o.next) (begin_is session name now)) ∙ begin_none (seen_now now) session name refusal starts.says; goes = tt }
 
 -- A further turn of a copy.
-page_is : (session : ℕ) (now : Now) → outcome session Copies now ≡ passes (seen_now now)
+pub page_is : (session : ℕ) (now : Now) → outcome session Copies now ≡ passes (seen_now now)
 unfolding outcome turn
 page_is session now = refl
 

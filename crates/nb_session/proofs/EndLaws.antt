@@ -1,12 +1,7 @@
 -- The turns of a script come to an end.
 use Rattle.std.proofs.Common.{Bool, ◌≡◌, ℕ, zero, suc, ◌+◌, ◌≤◌, List, ◌++◌, map, length, sym, ap, subst, ◌∙◌, arith, append_assoc}
-use Rattle.std.proofs.lemmas.List.{length-map}
-use Rattle.nb_model.specs.Going.{IsGoing}
-use Rattle.nb_model.specs.Outcomes.{Begins}
-use Rattle.nb_model.specs.Run.{Now, play, rounds, all_sessions, begun, AreFinished}
+use Rattle.nb_session.proofs.Common.{length-map, IsGoing, Begins, Now, play, rounds, all_sessions, begun, AreFinished, IsAskable, Plan}
 use Rattle.nb_model.proofs.FinishLaws.{order_ends}
-use Rattle.nb_script.specs.Asked.{IsAskable}
-use Rattle.nb_script.specs.Scripts.{Plan}
 
 begun_length : (plan : Plan) → IsAskable plan → (now : Now) → now.todo ≡ begun plan.sessions → length now.todo ≤ 16
 begun_length plan askable now todo = omega (arith, ap length todo, length-map plan.sessions (map Begins), askable.sixteen)

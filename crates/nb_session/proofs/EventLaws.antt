@@ -1,51 +1,13 @@
 -- One turn and its line are one event.
-use Rattle.std.proofs.Common.{◌≡◌, ◌⊎◌, ℕ, zero, suc, ◌-◌, List, [], ◌∷◌, ◌++◌, length, take, Bool, false, refl, sym, ap, subst, ◌∙◌, arith}
-use Rattle.std.specs.Prelude.{true, Result, Ok, Err, IfOk, Option, Some, None, Contains, if◌then◌else◌}
-use Rattle.std.specs.List.{list_all, slice_index_or}
+use Rattle.std.proofs.Common.{◌≡◌, ◌⊎◌, ℕ, zero, suc, ◌-◌, List, [], ◌∷◌, ◌++◌, length, take, Bool, false, refl, sym, ap, subst, ◌∙◌, arith, true, Result, Ok, Err, IfOk, Option, Some, None, Contains, if◌then◌else◌}
+use Rattle.nb_session.proofs.Common.{list_all, slice_index_or, true≢false, append-nil, take_all, File, Files, with_file, World, Leaves, LeavesAll, IsStill, AtEachMoment, Fault, Refused, Device, Memory, RunError, left_with, weaker, left_before, untouched_joined, untouched_fewer, with_file-same, reached_by, Reply, Stroke, IsMaking, MadeFile, Turn, Outcome, Event, Now, Played, event_of, outcome, stands_then, take_turn, files_made, output, status_after, made, steps_in, steps_of, after_step, after_steps, acked_turns, Trail, StandsIn, after_stroke, output-quiet, output_no_event, steps_one, strokes_within, strokes_front, acked_steps_none, acked_steps_most, turns_before, after_strokes, IsKept, IsUnfinishedOr, Held, IsOpen, name_of, WhereEnded, still_open, Told, AreKept, Acts, IsReady, IsApart, has_only_told, HasEnded, only_told, FrontSaid, SaysLine, touching, StopLeft, PlayedOut, Plays, told_turns, told_line, told_status, take_self}
 use Rattle.std.proofs.Math.Bool.{and-true}
-use Rattle.std.proofs.lemmas.Bool.{true≢false}
-use Rattle.std.proofs.lemmas.List.{append-nil, take_all}
-use Rattle.nb_host.specs.Files.{File, Files, with_file}
-use Rattle.nb_host.specs.World.{World}
-use Rattle.nb_host.specs.Crash.{Leaves, LeavesAll}
-use Rattle.nb_host.specs.Calls.{IsStill}
-use Rattle.nb_host.specs.Moments.{AtEachMoment}
-use Rattle.nb_host.specs.declared.faults.Fault.{Fault}
-use Rattle.nb_host.specs.declared.faults.Fault.TheVariants.{Refused, Device, Memory}
-use Rattle.nb_host.specs.declared.faults.RunError.{RunError}
-use Rattle.nb_change.proofs.ChangesLaws.{left_with}
-use Rattle.nb_change.proofs.MomentLaws.{joined, weaker, left_before, untouched_joined, untouched_fewer}
-use Rattle.nb_change.proofs.NameLaws.{with_file-same}
-use Rattle.nb_change.proofs.ReachedLaws.{reached_by}
+use Rattle.nb_change.proofs.MomentLaws.{joined}
 use Rattle.nb_change.proofs.SettledLaws.{durable_is, durable_still}
-use Rattle.nb_model.specs.declared.reply.Reply.{Reply}
-use Rattle.nb_model.specs.Strokes.{Stroke}
-use Rattle.nb_model.specs.Going.{IsMaking}
-use Rattle.nb_model.specs.Making.{MadeFile}
-use Rattle.nb_model.specs.Outcomes.{Turn, Outcome}
-use Rattle.nb_model.specs.Run.{Event, Now, Played, event_of, outcome, stands_then, take_turn, replies_of, files_made}
-use Rattle.nb_model.specs.Output.{output, status_of, status_after}
-use Rattle.nb_model.specs.Steps.{made, steps_in, steps_of, after_step, after_steps, acked_turns}
-use Rattle.nb_model.specs.Trail.{Trail, StandsIn, after_stroke}
-use Rattle.nb_model.proofs.OutputLaws.{output-quiet, output_no_event, status_no_event}
-use Rattle.nb_model.proofs.StepsLaws.{steps_one, strokes_within, strokes_front, acked_steps_none, acked_steps_most, turns_before}
-use Rattle.nb_base.specs.Takes.{after_strokes}
-use Rattle.nb_gather.specs.Making.{IsKept, IsUnfinishedOr}
-use Rattle.nb_state.specs.Open.{Held, IsOpen, name_of}
-use Rattle.nb_state.specs.Does.{WhereEnded}
-use Rattle.nb_state.proofs.MakesLaws.{still_open}
-use Rattle.nb_session.specs.declared.told.Told.{Told}
-use Rattle.nb_session.specs.Acts.{AreKept, Acts}
-use Rattle.nb_session.specs.Ready.{IsReady, IsApart}
-use Rattle.nb_state.specs.Does.{has_only_told}
-use Rattle.nb_session.specs.Replies.{HasEnded, only_told}
-use Rattle.nb_session.specs.Says.{FrontSaid, SaysLine}
-use Rattle.nb_session.specs.Steps.{touching}
-use Rattle.nb_session.specs.Stops.{StopLeft, PlayedOut, Plays}
-use Rattle.nb_session.specs.Told.{told_reply as told_as, told_turns, told_line, told_status}
+use Rattle.nb_session.specs.Told.{told_reply as told_as}
 use Rattle.nb_session.proofs.GiftLaws.{given_nothing, given_joined}
 use Rattle.nb_session.proofs.ReadyLaws.{apart_files, ready_then}
-use Rattle.nb_session.proofs.ToldLaws.{told_one, told_none, told_status_is, told_only, output_told, status_told}
+use Rattle.nb_session.proofs.ToldLaws.{told_one, told_none, told_status_is, told_only, output_told, status_told, status_unsaid}
 
 -- what holds where a call ended with a value or a refusal
 pub ended : {T P : Type 0} (answer : Result T Fault) → HasEnded answer → WhereEnded answer P → P
@@ -59,16 +21,6 @@ pub strokes_are_steps : (t : Trail) (ss : List Stroke) → after_strokes t ss �
 unfolding after_steps after_step made
 strokes_are_steps t [] = refl
 strokes_are_steps t (s ∷ ss) = strokes_are_steps (after_stroke s t) ss
-
-take_self : (n : ℕ) (l : List ℕ) → take n l ≡ take (length (take n l)) l
-take_self zero l = refl
-take_self (suc n) [] = refl
-take_self (suc n) (x ∷ l) = ap (λ (k : List ℕ). x ∷ k) (take_self n l)
-
--- an event without a reply
-status_quiet : (e : Event) → e.reply ≡ None → status_of (replies_of (e ∷ [])) ≡ 0
-unfolding replies_of
-status_quiet e none = ap (λ (r : Option Reply). status_of (elim r as (λ z. List (ℕ × Reply)) [ Some reply ↦ (e.session, reply) ∷ [] | None ↦ [] ])) none ∙ status_no_event
 
 -- an event that says nothing doesn't only tell something
 pub unsaid : (e : Event) → e.reply ≡ None → only_told e ≡ true → ⊥
@@ -91,7 +43,7 @@ pub one_told : (e : Event) → list_all only_told (e ∷ []) ≡ true → only_t
 one_told e all = sym (and-true (only_told e)) ∙ all
 
 -- no event made a file
-made_none : (file : MadeFile) → Contains (files_made []) file → ⊥
+pub made_none : (file : MadeFile) → Contains (files_made []) file → ⊥
 unfolding files_made
 made_none file there = omega (arith, there.1)
 
@@ -209,7 +161,7 @@ module _ (old mid new : World) (e0 e1 : Held) (t : Trail) (now : Now) (session :
       told_quiet quiet = plays_with (Ok false) mid during still_here (record {
         ready = ready_at mid still_here;
         said = acts.left.said ∙ sym (append-nil old.said) ∙ ap (λ (l : List ℕ). old.said ++ l) (sym (output-quiet event [] quiet ∙ output_no_event));
-        status = status_quiet event quiet;
+        status = status_unsaid event quiet;
         given = given_joined old mid mid now.given here.given one.1.given (ended result has acts.given) (given_nothing mid mid here.given one.1.given (record { guids = refl; times = refl }) given_then);
         kept = kept_mid;
         unchanged = λ settled all. absurd (unsaid event quiet (one_told event all));

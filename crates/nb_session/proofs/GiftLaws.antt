@@ -1,13 +1,7 @@
 -- What the outside gave in runs of calls, one after another.
 use Rattle.std.proofs.Common.{◌≡◌, ℕ, List, [], ◌++◌, length, sym, ap, subst, ◌∙◌, append_assoc}
-use Rattle.std.proofs.lemmas.List.{append-nil, append_cancel_left}
-use Rattle.nb_host.specs.World.{World}
-use Rattle.nb_change.specs.Gave.{GaveNothing}
+use Rattle.nb_session.proofs.Common.{append-nil, append_cancel_left, World, GaveNothing, Foretells, WasGiven, Given, Grows, all_append}
 use Rattle.nb_change.proofs.GaveLaws.{gave_none, gave_joined}
-use Rattle.nb_model.specs.Gifts.{Foretells, WasGiven}
-use Rattle.nb_model.specs.Outcomes.{Given}
-use Rattle.nb_session.specs.Acts.{Grows}
-use Rattle.nb_session.proofs.AllLaws.{all_append}
 
 -- what was given in both parts is what was given in the whole
 whole_is : {A : Type 0} (old mid new xs first second : List A) → new ≡ old ++ xs → mid ≡ old ++ first → new ≡ mid ++ second → xs ≡ first ++ second

@@ -1,34 +1,10 @@
 -- A statement that is under way goes on while other sessions take turns.
-use Rattle.std.proofs.Common.{◌≡◌, ◌≢◌, inl, inr, ℕ, ◌-◌, List, [], ◌++◌, map, sym, ap, subst, ◌∙◌, arith}
-use Rattle.std.specs.Prelude.{Bool, Ok, Option, Some, None}
-use Rattle.nb_host.specs.World.{World}
-use Rattle.nb_host.specs.Crash.{Untouched}
-use Rattle.nb_change.specs.Changes.{Names, Other}
-use Rattle.nb_model.specs.Going.{Runs, IsMaking}
-use Rattle.nb_model.specs.Image.{Image}
-use Rattle.nb_model.specs.Making.{MadeFile}
-use Rattle.nb_model.specs.Outcomes.{Begins, ClosesBackup, ClosesCopy}
-use Rattle.nb_model.specs.Run.{Now, base_now, one_turn}
-use Rattle.nb_model.specs.Trail.{Trail}
-use Rattle.nb_model.proofs.GoingLaws.{IsUndisturbed, others_stay}
-use Rattle.nb_model.proofs.StandsLaws.{no_main}
+use Rattle.std.proofs.Common.{◌≡◌, ◌≢◌, inl, inr, ℕ, ◌-◌, List, [], ◌++◌, map, sym, ap, subst, ◌∙◌, arith, Bool, Ok, Option, Some, None}
+use Rattle.nb_session.proofs.Common.{World, Untouched, Names, Runs, IsMaking, Image, MadeFile, Begins, ClosesBackup, ClosesCopy, Now, base_now, one_turn, Trail, IsUndisturbed, others_stay, no_main, Copying, IsBegun, IsCopying, IsCopyingTo, file_name, file_count, file_next, IsFileCopying, Backed, IsBackingUp, Held, name_of, Task, Backup, Copy, End, Merge, Told, Touched, Asker, task_first, task_rest, task_todo, HasTodo, IsReady, IsApart, TaskGoes, touching_by, Plays, told_turns}
+use Rattle.nb_change.specs.Changes.{Other}
 use Rattle.nb_copy.specs.declared.file_copy.FileCopy.{FileCopy}
 use Rattle.nb_copy.specs.declared.file_copy.FileCopy.TheVariants.{Pages, Level}
-use Rattle.nb_copy.specs.Copying.{Copying, IsBegun, IsCopying}
-use Rattle.nb_copy.specs.FileCopies.{IsCopyingTo}
-use Rattle.nb_copy.specs.FileCopying.{file_name, file_count, file_next, IsFileCopying}
 use Rattle.nb_copy.specs.LevelCopying.{LevelCopying, IsLevelCopying}
-use Rattle.nb_copy.specs.Starting.{Backed, IsBackingUp}
-use Rattle.nb_state.specs.Open.{Held, name_of}
-use Rattle.nb_session.specs.declared.task.Task.{Task}
-use Rattle.nb_session.specs.declared.task.Task.TheVariants.{Backup, Copy, End, Merge}
-use Rattle.nb_session.specs.declared.told.Told.{Told}
-use Rattle.nb_session.specs.Acts.{Touched}
-use Rattle.nb_session.specs.Askers.{Asker, task_first, task_rest, task_todo, HasTodo}
-use Rattle.nb_session.specs.Ready.{IsReady, IsApart, TaskGoes}
-use Rattle.nb_session.specs.Steps.{touching_by}
-use Rattle.nb_session.specs.Stops.{Plays}
-use Rattle.nb_session.specs.Told.{told_turns}
 use Rattle.nb_session.proofs.TouchingLaws.{none_touching}
 use Rattle.nb_session.proofs.UnderWayLaws.{IsCopyTurn, first_copies, copy_runs}
 

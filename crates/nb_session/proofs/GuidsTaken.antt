@@ -1,30 +1,11 @@
 -- Which GUIDs turns take of those that may be given: one for each backup that they begin, in order.
-use Rattle.std.proofs.Common.{◌≡◌, ◌≢◌, ◌⊎◌, inl, inr, ℕ, ◌-◌, List, [], ◌∷◌, ◌++◌, drop, replicate, Bool, true, false, refl, sym, ap, subst, ◌∙◌, append_assoc}
-use Rattle.std.specs.Prelude.{◌==◌, Some}
-use Rattle.std.specs.List.{AllByRecursion, slice_index_or}
-use Rattle.std.proofs.lemmas.List.{append-nil, append_cancel_right}
-use Rattle.nb_fields.specs.States.{stalled_state}
-use Rattle.nb_host.specs.World.{World}
-use Rattle.nb_host.specs.declared.refusals.Refusal.{Refusal}
-use Rattle.nb_model.specs.declared.reply.Reply.{Reply}
-use Rattle.nb_model.specs.declared.statement.Statement.{Statement}
-use Rattle.nb_model.specs.Account.{Ask}
-use Rattle.nb_model.specs.Backups.{room_in, close_backup, close_copy}
-use Rattle.nb_model.specs.Gifts.{WasGiven}
-use Rattle.nb_model.specs.Going.{IsMaking, IsNamed}
-use Rattle.nb_model.specs.Image.{image_state}
+use Rattle.std.proofs.Common.{◌≡◌, ◌≢◌, ◌⊎◌, inl, inr, ℕ, ◌-◌, List, [], ◌∷◌, ◌++◌, drop, replicate, Bool, true, false, refl, sym, ap, subst, ◌∙◌, append_assoc, ◌==◌, Some}
+use Rattle.nb_session.proofs.Common.{AllByRecursion, slice_index_or, append-nil, append_cancel_right, stalled_state, World, Refusal, Reply, Statement, Ask, room_in, close_backup, close_copy, WasGiven, IsMaking, IsNamed, image_state, Turn, Begins, Copies, ClosesBackup, ClosesCopy, Ends, Merges, Finishes, Outcome, Seen, Given, next_guid, ends_by, end_strokes, Now, Played, outcome, one_turn, play, stands_then, strokes_of, Stroke, page, begin, first_turn, turn, making_turn, one_cases, strokes_of-append, MayStart, refused, started, statement_cases, begin_either, end_either, backup_either, since_either, copy_either, pages_once, left_guids}
 use Rattle.nb_model.specs.NewGuids.{guids_in}
-use Rattle.nb_model.specs.Outcomes.{Turn, Begins, Copies, ClosesBackup, ClosesCopy, Ends, Merges, Finishes, Outcome, Seen, Given, next_guid}
-use Rattle.nb_model.specs.Pages.{ends_by, end_strokes}
-use Rattle.nb_model.specs.Run.{Now, Played, outcome, one_turn, play, stands_then, strokes_of}
-use Rattle.nb_model.specs.Strokes.{Stroke, page, begin, ends}
-use Rattle.nb_model.specs.Turns.{first_turn, turn}
-use Rattle.nb_model.proofs.GoingLaws.{making_turn, one_cases}
+use Rattle.nb_model.specs.Strokes.{ends}
 use Rattle.nb_model.proofs.GuidLaws.{guids_append}
 use Rattle.nb_model.proofs.PagesOnly.{ArePages, WritesPages, drafts_write_pages, pages_only, close_pages}
 use Rattle.nb_model.proofs.RoomThere.{room_keeps}
-use Rattle.nb_model.proofs.RunLaws.{strokes_of-append}
-use Rattle.nb_model.proofs.TurnCases.{MayStart, refused, started, statement_cases, begin_either, end_either, backup_either, since_either, copy_either, pages_once, left_guids}
 use Rattle.nb_session.proofs.TurnLaws.{seen_now}
 
 -- page writes begin no backup

@@ -1,22 +1,6 @@
 -- What is shown of the header of an open database.
-use Rattle.std.proofs.Common.{◌≡◌, ℕ, List, length, refl, sym, ap, ◌∙◌}
-use Rattle.std.specs.Prelude.{Bool, Ok, Some, true, false, ◌==◌}
-use Rattle.nb_fields.specs.States.{normal_state}
-use Rattle.nb_host.specs.World.{World}
-use Rattle.nb_model.specs.declared.reply.Reply.{Reply}
-use Rattle.nb_model.specs.declared.reply.Reply.TheVariants.{HeaderShown}
-use Rattle.nb_model.specs.Account.{Base}
-use Rattle.nb_model.specs.Image.{image_size, image_state, image_scn, image_guid, is_forced, is_read_only}
-use Rattle.nb_model.specs.Lines.{flag}
-use Rattle.nb_model.specs.Outcomes.{Seen}
-use Rattle.nb_model.specs.Pages.{delta_count, header_turn}
-use Rattle.nb_model.specs.Trail.{Trail}
-use Rattle.nb_page.specs.Quiet.{Quiet}
-use Rattle.nb_base.specs.Open.{Agrees}
-use Rattle.nb_state.specs.Open.{Held, AgreesWith, IsOpen}
-use Rattle.nb_state.specs.Does.{Does}
-use Rattle.nb_state.proofs.MakesLaws.{makes_none}
-use Rattle.nb_session.specs.Replies.{header_of}
+use Rattle.std.proofs.Common.{◌≡◌, ℕ, List, length, refl, sym, ap, ◌∙◌, Bool, Ok, Some, true, false, ◌==◌}
+use Rattle.nb_session.proofs.Common.{normal_state, World, Reply, HeaderShown, Base, image_size, image_state, image_scn, image_guid, is_forced, is_read_only, flag, Seen, delta_count, header_turn, Trail, Quiet, Agrees, Held, AgreesWith, IsOpen, Does, makes_none, header_of}
 
 pub header_does : (w : World) (held : Held) (t : Trail) (s : Seen) (reply : Reply) → t.base ≡ s.base → Quiet w w → IsOpen w held t → reply ≡ header_of t.base → Does (λ r. r) (Ok reply) w w held held t (header_turn s)
 unfolding header_turn

@@ -1,15 +1,6 @@
 -- Turns after turns, one by one.
 use Rattle.std.proofs.Common.{◌≡◌, inl, inr, ℕ, List, [], ◌∷◌, ◌++◌, refl, ap, subst, ◌∙◌}
-use Rattle.nb_host.specs.World.{World}
-use Rattle.nb_model.specs.Run.{Now, Played, one_turn, play}
-use Rattle.nb_model.specs.Steps.{steps_of, after_steps}
-use Rattle.nb_model.specs.Trail.{Trail}
-use Rattle.nb_model.proofs.StepsLaws.{steps_append, after_steps_append}
-use Rattle.nb_model.proofs.TodoLaws.{one_turn_idle}
-use Rattle.nb_state.specs.Open.{Held}
-use Rattle.nb_session.specs.declared.told.Told.{Told}
-use Rattle.nb_session.specs.InTurn.{HasNone, TakesOne, InTurn}
-use Rattle.nb_session.specs.Told.{told_turns}
+use Rattle.nb_session.proofs.Common.{World, Now, Played, one_turn, play, steps_of, after_steps, Trail, steps_append, after_steps_append, one_turn_idle, Held, Told, HasNone, TakesOne, InTurn, told_turns}
 use Rattle.nb_session.proofs.PlayLaws.{after_none, trail_after}
 use Rattle.nb_session.proofs.ToldLaws.{told_steps}
 

@@ -1,15 +1,7 @@
 -- Statements that are done in one turn, and the begin of a backup among them.
-use Rattle.std.proofs.Common.{◌≡◌, ℕ, ◌+◌, refl, sym}
-use Rattle.std.specs.Prelude.{Some, None}
-use Rattle.nb_host.specs.declared.refusals.Refusal.{Refusal}
-use Rattle.nb_model.specs.declared.reply.Reply.TheVariants.{Refused, Scn}
-use Rattle.nb_model.specs.declared.statement.Statement.{Statement}
-use Rattle.nb_model.specs.Image.{image_scn}
-use Rattle.nb_model.specs.Outcomes.{Seen, without_guid}
-use Rattle.nb_model.specs.Pages.{begin_turn}
-use Rattle.nb_model.proofs.TodoLaws.{IsSingle, begin_single}
-use Rattle.nb_model.proofs.TurnCases.{statement_cases, pages_once, begin_either}
-use Rattle.nb_session.specs.Askers.{IsOneTurn}
+use Rattle.std.proofs.Common.{◌≡◌, ℕ, ◌+◌, refl, sym, Some, None}
+use Rattle.nb_session.proofs.Common.{Refusal, Scn, Statement, image_scn, Seen, without_guid, begin_turn, IsSingle, begin_single, statement_cases, pages_once, begin_either, IsOneTurn}
+use Rattle.nb_model.specs.declared.reply.Reply.TheVariants.{Refused}
 
 -- such a statement leaves nothing to do
 pub one_single : (statement : Statement) → IsOneTurn statement → IsSingle statement

@@ -31,3 +31,4 @@ pub mod OutLaws
 pub mod HeaderLaws
 pub mod ByTurnsLaws
 pub mod GuidsTaken
+mod Common

@@ -1,36 +1,21 @@
 -- Lists of files that are made.
-use Rattle.std.proofs.Common.{◌≡◌, ◌⊎◌, inl, inr, ℕ, zero, suc, ◌≤◌, List, [], ◌∷◌, ◌++◌, take, refl, sym, ap, subst, arith}
-use Rattle.std.specs.Prelude.{Contains}
-use Rattle.std.proofs.lemmas.List.Elements.{Contains-append_left, Contains-append_right, Contains-append_cases}
-use Rattle.nb_change.proofs.NameLaws.{decide}
-use Rattle.nb_model.specs.Making.{MadeFile, AreAmong, IsNoneOf, NamesOnce}
-use Rattle.nb_model.specs.Run.{Event, files_made}
-use Rattle.nb_model.proofs.MakingLaws.{made_append}
+use Rattle.std.proofs.Common.{◌⊎◌, inl, inr, ℕ, zero, suc, ◌≤◌, List, [], ◌∷◌, ◌++◌, take, refl, sym, ap, subst, arith, Contains}
+use Rattle.nb_session.proofs.Common.{Contains-append_left, Contains-append_right, Contains-append_cases, decide, MadeFile, AreAmong, IsNoneOf, NamesOnce, Event, files_made, made_append, one_held}
 
 -- none are among any
 pub none_among : (files : List MadeFile) → AreAmong [] files
 none_among files file there = absurd (omega (arith, there.1))
-
-pub among_left : (xs ys : List MadeFile) → AreAmong xs (xs ++ ys)
-among_left xs ys file there = Contains-append_left xs ys file there
-
-pub among_right : (xs ys : List MadeFile) → AreAmong ys (xs ++ ys)
-among_right xs ys file there = Contains-append_right xs ys file there
 
 -- two lists among a third
 pub both_among : (xs ys files : List MadeFile) → AreAmong xs files → AreAmong ys files → AreAmong (xs ++ ys) files
 both_among xs ys files first second file there = elim (Contains-append_cases xs ys file there) [ inl one ↦ first file one | inr two ↦ second file two ]
 
 pub among_more : (xs ys zs : List MadeFile) → AreAmong ys zs → AreAmong (xs ++ ys) (xs ++ zs)
-among_more xs ys zs among = both_among xs ys (xs ++ zs) (among_left xs zs) (λ file there. among_right xs zs file (among file there))
+among_more xs ys zs among = both_among xs ys (xs ++ zs) (Contains-append_left xs zs) (λ file there. Contains-append_right xs zs file (among file there))
 
 -- fewer files have names no more often
 pub once_fewer : (few many : List MadeFile) → AreAmong few many → NamesOnce many → NamesOnce few
 once_fewer few many among once name bytes others one other = once name bytes others (among (name, bytes) one) (among (name, others) other)
-
-alone : (f g : MadeFile) → Contains (f ∷ []) g → f ≡ g
-alone f g (zero, low, is) = is
-alone f g (suc i, low, is) = absurd (omega (arith, low))
 
 -- whether a name is that of one of them
 pub named_tells : (files : List MadeFile) (name : List ℕ) → ((bytes : List ℕ) × Contains files (name, bytes)) ⊎ IsNoneOf files name
@@ -40,7 +25,7 @@ named_tells (f ∷ files) name = elim (decide f.0 name) [
   | inr other ↦ elim (named_tells files name) [
     | inl some ↦ inl (some.0, Contains-append_right (f ∷ []) files (name, some.0) some.1)
     | inr none ↦ inr (λ bytes there. elim (Contains-append_cases (f ∷ []) files (name, bytes) there) [
-      | inl here ↦ other (ap (λ (file : MadeFile). file.0) (alone f (name, bytes) here))
+      | inl here ↦ other (ap (λ (file : MadeFile). file.0) (one_held f (name, bytes) here))
       | inr later ↦ none bytes later
     ])
   ]
@@ -48,10 +33,10 @@ named_tells (f ∷ files) name = elim (decide f.0 name) [
 
 -- what turns make, and those after them
 pub made_first : (es fs : List Event) → AreAmong (files_made es) (files_made (es ++ fs))
-made_first es fs = subst (AreAmong (files_made es)) (sym (made_append es fs)) (among_left (files_made es) (files_made fs))
+made_first es fs = subst (AreAmong (files_made es)) (sym (made_append es fs)) (Contains-append_left (files_made es) (files_made fs))
 
 pub made_second : (es fs : List Event) → AreAmong (files_made fs) (files_made (es ++ fs))
-made_second es fs = subst (AreAmong (files_made fs)) (sym (made_append es fs)) (among_right (files_made es) (files_made fs))
+made_second es fs = subst (AreAmong (files_made fs)) (sym (made_append es fs)) (Contains-append_right (files_made es) (files_made fs))
 
 pub made_both : (es fs : List Event) (files : List MadeFile) → AreAmong (files_made es) files → AreAmong (files_made fs) files → AreAmong (files_made (es ++ fs)) files
 made_both es fs files first second = subst (λ (all : List MadeFile). AreAmong all files) (sym (made_append es fs)) (both_among (files_made es) (files_made fs) files first second)
@@ -61,8 +46,8 @@ pub made_ahead : (es fs : List Event) (now then : List MadeFile) → AreAmong no
 made_ahead es fs now then goes =
     let all : List MadeFile = files_made (es ++ fs) ++ then in
     both_among (files_made es) now all
-    (λ file there. among_left (files_made (es ++ fs)) then file (made_first es fs file there))
-    (λ file there. both_among (files_made fs) then all (λ f one. among_left (files_made (es ++ fs)) then f (made_second es fs f one)) (among_right (files_made (es ++ fs)) then) file (goes file there))
+    (λ file there. Contains-append_left (files_made (es ++ fs)) then file (made_first es fs file there))
+    (λ file there. both_among (files_made fs) then all (λ f one. Contains-append_left (files_made (es ++ fs)) then f (made_second es fs f one)) (Contains-append_right (files_made (es ++ fs)) then) file (goes file there))
 
 -- more turns make no fewer files
 pub made_grow : (es : List Event) (m n : ℕ) → m ≤ n → AreAmong (files_made (take m es)) (files_made (take n es))

@@ -1,16 +1,6 @@
 -- Which turns make a file of which name.
-use Rattle.std.proofs.Common.{◌≡◌, ◌≢◌, inl, inr, ℕ, zero, suc, ◌-◌, ◌<◌, ◌≤◌, List, [], ◌∷◌, ◌++◌, length, get_or, set, refl, sym, ap, subst, arith, get_or-set_same}
-use Rattle.std.specs.Prelude.{Bool, Contains}
-use Rattle.std.specs.List.{AllByRecursion, slice_index_or}
-use Rattle.std.proofs.lemmas.List.Elements.{Contains-append_left, Contains-append_right, Contains-append_cases}
-use Rattle.nb_model.specs.Backups.{close_backup, close_copy}
-use Rattle.nb_model.specs.Going.{AreBeginnings, Runs, IsAt, waits, backs_up, copies, ends, merges, IsGoing}
-use Rattle.nb_model.specs.Image.{Image}
-use Rattle.nb_model.specs.Levels.{file_of, joined}
-use Rattle.nb_model.specs.Making.{MadeFile, kept_of, making, making_all, under_way, IsNoneOf}
-use Rattle.nb_model.specs.Outcomes.{Turn, Begins, Copies, ClosesBackup, ClosesCopy, Ends, Merges, Finishes, Outcome}
-use Rattle.nb_model.specs.Run.{Now, base_now, outcome, event_of, stands_then, files_made}
-use Rattle.nb_model.specs.Turns.{turn}
+use Rattle.std.proofs.Common.{◌≡◌, ◌≢◌, inl, inr, ℕ, zero, suc, ◌-◌, ◌<◌, ◌≤◌, List, [], ◌∷◌, ◌++◌, length, get_or, set, refl, sym, ap, subst, arith, get_or-set_same, Bool, Contains}
+use Rattle.nb_session.proofs.Common.{AllByRecursion, slice_index_or, Contains-append_left, Contains-append_right, Contains-append_cases, close_backup, close_copy, AreBeginnings, Runs, IsAt, waits, backs_up, copies, ends, merges, IsGoing, Image, file_of, joined, MadeFile, kept_of, making, making_all, under_way, IsNoneOf, Turn, Begins, Copies, ClosesBackup, ClosesCopy, Ends, Merges, Finishes, Outcome, Now, base_now, outcome, event_of, stands_then, files_made, turn, one_held, all_front}
 use Rattle.nb_session.proofs.AllLaws.{all_at}
 
 -- the turn makes no file of that name
@@ -30,16 +20,12 @@ MakeNo name ts = AllByRecursion (MakesNo name) ts
 first_is : (n name bytes : List ℕ) (files : List MadeFile) → n ≡ name → Contains ((n, bytes) ∷ files) (name, bytes)
 first_is n name bytes files same = (0, omega arith, ap (λ (m : List ℕ). (m, bytes)) same)
 
-alone : (f g : MadeFile) → Contains (f ∷ []) g → f ≡ g
-alone f g (zero, low, is) = is
-alone f g (suc i, low, is) = absurd (omega (arith, low))
-
 one_more : (n name bytes : List ℕ) (files : List MadeFile) → IsNoneOf ((n, bytes) ∷ files) name → (n ≢ name) × IsNoneOf files name
 one_more n name bytes files none = (λ same. none bytes (first_is n name bytes files same), λ others there. none others (Contains-append_right ((n, bytes) ∷ []) files (name, others) there))
 
 one_less : (n name bytes : List ℕ) (files : List MadeFile) → n ≢ name → IsNoneOf files name → IsNoneOf ((n, bytes) ∷ files) name
 one_less n name bytes files other none others there = elim (Contains-append_cases ((n, bytes) ∷ []) files (name, others) there) [
-  | inl here ↦ other (ap (λ (f : MadeFile). f.0) (alone (n, bytes) (name, others) here))
+  | inl here ↦ other (ap (λ (f : MadeFile). f.0) (one_held (n, bytes) (name, others) here))
   | inr later ↦ none others later
 ]
 
@@ -83,10 +69,6 @@ make_none_all frozen (ts ∷ todo) name all = λ bytes there. elim (Contains-app
 ]
 
 -- the parts of what holds of a whole list
-all_front : {A : Type 0} (P : A → Type 0) (xs ys : List A) → AllByRecursion P (xs ++ ys) → AllByRecursion P xs
-all_front P [] ys all = tt
-all_front P (x ∷ xs) ys all = (all.0, all_front P xs ys all.1)
-
 all_back : {A : Type 0} (P : A → Type 0) (xs ys : List A) → AllByRecursion P (xs ++ ys) → AllByRecursion P ys
 all_back P [] ys all = all
 all_back P (x ∷ xs) ys all = all_back P xs ys all.1

@@ -1,56 +1,18 @@
 -- The turns of the end of a backup.
-use Rattle.std.proofs.Common.{◌≡◌, inl, inr, ℕ, zero, suc, ◌+◌, ◌-◌, ◌<◌, List, [], ◌∷◌, ◌++◌, length, replicate, refl, sym, ap, subst, ◌∙◌, arith, true≢false}
-use Rattle.std.specs.Prelude.{Result, Ok, Err, IsErr, Option, Some, None, Bool, true, false, not, ◌==◌}
-use Rattle.std.specs.List.{slice_index_or}
-use Rattle.std.proofs.lemmas.Bool.Decides.{eqb_tells}
-use Rattle.std.proofs.lemmas.List.{append-nil}
-use Rattle.nb_fields.specs.States.{normal_state, stalled_state}
-use Rattle.nb_host.specs.World.{World}
-use Rattle.nb_host.specs.declared.faults.Fault.{Fault}
-use Rattle.nb_host.specs.declared.faults.Fault.TheVariants.{Refused, Device, Memory}
-use Rattle.nb_host.specs.declared.faults.HostFault.{HostFault}
-use Rattle.nb_host.specs.declared.faults.RunError.{RunError}
-use Rattle.nb_host.specs.declared.refusals.Refusal.{Refusal}
+use Rattle.std.proofs.Common.{◌≡◌, inl, inr, ℕ, zero, suc, ◌+◌, ◌-◌, ◌<◌, List, [], ◌∷◌, ◌++◌, length, replicate, refl, sym, ap, subst, ◌∙◌, arith, true≢false, Result, Ok, Err, IsErr, Option, Some, None, Bool, true, false, not, ◌==◌}
+use Rattle.nb_session.proofs.Common.{slice_index_or, eqb_tells, append-nil, normal_state, stalled_state, World, Fault, Refused, Device, Memory, HostFault, RunError, Refusal, Reply, Scn, EndBackup, Base, Cause, first_cause, when, runs_other, IsAt, IsGoing, IsMaking, Image, image_state, Turn, Begins, Ends, Finishes, Seen, Outcome, unless, passes, end_turn, ends_by, end_scn, end_strokes, Now, base_now, outcome, event_of, Stroke, finish, on_base, base_after, Trail, first_turn, turn, end_either, Strikes, after_strokes, IsNoRefusal, Held, IsOpen, name_of, WhereEnded, GoesOn, Progress, More, Finished, after_base, where_ended, DoesEnd, Says, Acts, MayAct, IsMerging, left_refused, merge_first, merge_rest, task_todo, Left, Taken, Task, Merge, Told, IsReady, EndsEarly, IsBehind, Turns, only_told, some_none}
 use Rattle.nb_host.specs.declared.refusals.Refusal.TheVariants.{WrongState, BackupRunning}
-use Rattle.nb_model.specs.declared.reply.Reply.{Reply}
-use Rattle.nb_model.specs.declared.reply.Reply.TheVariants.{Refused as RefusedBy, Scn}
-use Rattle.nb_model.specs.declared.statement.Statement.TheVariants.{EndBackup}
-use Rattle.nb_model.specs.Account.{Base}
-use Rattle.nb_model.specs.Causes.{Cause, first_cause, when, runs_other}
-use Rattle.nb_model.specs.Going.{IsAt, IsGoing, IsMaking}
-use Rattle.nb_model.specs.Image.{Image, image_state}
-use Rattle.nb_model.specs.Outcomes.{Turn, Begins, Ends, Merges as MergesOne, Finishes, Seen, Outcome, unless, passes}
-use Rattle.nb_model.specs.Pages.{end_turn, ends_by, end_scn, end_strokes}
-use Rattle.nb_model.specs.Run.{Now, base_now, outcome, event_of}
-use Rattle.nb_model.specs.Strokes.{Stroke, ends, finish, on_base, base_after}
-use Rattle.nb_model.specs.Trail.{Trail}
-use Rattle.nb_model.specs.Turns.{first_turn, turn}
-use Rattle.nb_model.proofs.TurnCases.{end_either}
-use Rattle.nb_base.specs.Takes.{Strikes, after_strokes, IsNoRefusal}
-use Rattle.nb_state.specs.Open.{Held, IsOpen, name_of}
-use Rattle.nb_state.specs.Does.{WhereEnded}
-use Rattle.nb_state.specs.Turns.{Merges, GoesOn}
-use Rattle.nb_state.specs.declared.turns.Progress.{Progress}
-use Rattle.nb_state.specs.declared.turns.Progress.TheVariants.{More, Finished}
-use Rattle.nb_state.proofs.MakesLaws.{after_base, where_ended}
-use Rattle.nb_engine.specs.Turns.{DoesEnd}
-use Rattle.nb_session.specs.Acts.{Says, Acts, MayAct}
-use Rattle.nb_session.specs.Askers.{IsMerging, left_refused, merge_first, merge_rest, task_todo}
-use Rattle.nb_session.specs.declared.task.Left.{Left}
-use Rattle.nb_session.specs.declared.task.Taken.{Taken}
-use Rattle.nb_session.specs.declared.task.Task.{Task}
-use Rattle.nb_session.specs.declared.task.Task.TheVariants.{Merge}
-use Rattle.nb_session.specs.declared.told.Told.{Told}
-use Rattle.nb_session.specs.Ready.{IsReady}
-use Rattle.nb_session.specs.Says.{EndsEarly}
-use Rattle.nb_session.specs.Steps.{IsBehind, Turns}
-use Rattle.nb_session.specs.Replies.{only_told}
+use Rattle.nb_model.specs.declared.reply.Reply.TheVariants.{Refused as RefusedBy}
+use Rattle.nb_model.specs.Outcomes.{Merges as MergesOne}
+use Rattle.nb_model.specs.Strokes.{ends}
+use Rattle.nb_state.specs.Turns.{Merges}
 use Rattle.nb_session.proofs.ActLaws.{trail_plain, ended_map, strikes_left, kept_none, says_none, idle_unchanged}
 use Rattle.nb_session.proofs.EventLaws.{marks_none, unsaid}
 use Rattle.nb_session.proofs.GiftLaws.{given_nothing, grows_none}
 use Rattle.nb_session.proofs.TouchingLaws.{ends_touch}
 use Rattle.nb_session.proofs.TurnLaws.{seen_now, outcome_is, turns_lost}
 use Rattle.nb_session.proofs.WayLaws.{merge_turns, ending_at}
+use Rattle.nb_model.proofs.WholeLaws.{two_none}
 
 -- The parts of a turn that ends the stalled state.
 module _ (s : Seen) (session : ℕ) (reply : Reply) where
@@ -93,16 +55,13 @@ end_is : (session : ℕ) (now : Now) → end_turn (seen_now now) session ≡ out
 unfolding first_turn
 end_is session now = sym (outcome_is session EndBackup now)
 
-some_none : (r : Refusal) → Some (RefusedBy r) ≡ None → ⊥
-some_none r e = cc
-
 -- where it says nothing yet
 end_goes : (s : Seen) (session : ℕ) → (end_turn s session).reply ≡ None → end_turn s session ≡ ending s session
-end_goes s session = end_either (λ o. o.reply ≡ None → o ≡ ending s session) s session (λ r is. absurd (some_none r is)) (λ may is. refl)
+end_goes s session = end_either (λ o. o.reply ≡ None → o ≡ ending s session) s session (λ r is. absurd (some_none (RefusedBy r) is)) (λ may is. refl)
 
 -- where it is refused nothing is left to do
 end_none : (s : Seen) (session : ℕ) (refusal : Refusal) → (end_turn s session).reply ≡ Some (RefusedBy refusal) → (end_turn s session).next ≡ []
-end_none s session refusal = end_either (λ o. o.reply ≡ Some (RefusedBy refusal) → o.next ≡ []) s session (λ r is. refl) (λ may is. absurd (some_none refusal (sym is ∙ ends_reply s session (Scn (end_scn s.base.image)))))
+end_none s session refusal = end_either (λ o. o.reply ≡ Some (RefusedBy refusal) → o.next ≡ []) s session (λ r is. refl) (λ may is. absurd (some_none (RefusedBy refusal) (sym is ∙ ends_reply s session (Scn (end_scn s.base.image)))))
 
 -- either way nothing is given, and no file is made
 end_given : (s : Seen) (session : ℕ) → (end_turn s session).given ≡ s.given
@@ -110,11 +69,6 @@ end_given s session = end_either (λ o. o.given ≡ s.given) s session (λ r. re
 
 end_made : (s : Seen) (session : ℕ) → (end_turn s session).made ≡ None
 end_made s session = end_either (λ o. o.made ≡ None) s session (λ r. refl) (λ may. ends_made s session (Scn (end_scn s.base.image)))
-
--- In the stalled state the session that runs isn't refused.
-cause_none : (first second : Cause) → first ≡ None → second ≡ None → first_cause (first ∷ second ∷ []) ≡ None
-unfolding first_cause
-cause_none first second one two = rw (one, two, first_cause) refl
 
 own_runs : (session : ℕ) → runs_other (Some session) session ≡ None
 own_runs session = elim (eqb_tells session session) [
@@ -124,7 +78,7 @@ own_runs session = elim (eqb_tells session session) [
 
 none_against : (s : Seen) (session : ℕ) → image_state s.base.image ≡ stalled_state → s.running ≡ Some session → end_causes s session ≡ None
 none_against s session stalled runs =
-    cause_none _ _ (ap (λ (n : ℕ). when (n == 0) (WrongState 0)) stalled) (ap (λ (r : Option ℕ). runs_other r session) runs ∙ own_runs session)
+    two_none _ _ (ap (λ (n : ℕ). when (n == 0) (WrongState 0)) stalled) (ap (λ (r : Option ℕ). runs_other r session) runs ∙ own_runs session)
 
 unopposed : (s : Seen) (session : ℕ) → (unless s None (ending s session)).reply ≡ None
 unfolding unless
@@ -265,7 +219,7 @@ ends_lost how task old mid new a b t now session reply more ready makes here run
     quiet = ends_quiet old a t now session ready makes.going reply more here runs
 
     sure : (f : Fault) → DoesEnd (Err f) old mid a b t (end_scn t.base.image) (end_turn (seen_now now) session) → IsNoRefusal f
-    sure (Refused refusal) does = some_none refusal (sym does.says ∙ quiet)
+    sure (Refused refusal) does = some_none (RefusedBy refusal) (sym does.says ∙ quiet)
     sure Device does = tt
     sure Memory does = tt
 

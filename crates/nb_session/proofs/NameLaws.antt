@@ -1,30 +1,8 @@
 -- The files that turns make have the names that their statements give.
-use Rattle.std.proofs.Common.{◌≡◌, inl, inr, ℕ, zero, suc, ◌+◌, ◌-◌, List, [], ◌∷◌, ◌++◌, map, length, replicate, get_or, refl, sym, ap, subst, ◌∙◌, arith}
-use Rattle.std.specs.Prelude.{Bool, Contains, true, false, not}
-use Rattle.std.specs.List.{AllByRecursion, slice_index_or}
-use Rattle.std.proofs.lemmas.Bool.{and_parts}
-use Rattle.std.proofs.lemmas.Bool.Decides.{eqb_tells}
-use Rattle.std.proofs.lemmas.List.Elements.{Contains-append_cases}
-use Rattle.std.proofs.Math.ListN.{get_or-map}
-use Rattle.nb_host.specs.Names.{is_delta}
-use Rattle.nb_model.specs.declared.reply.Reply.{Reply}
-use Rattle.nb_model.specs.declared.statement.Statement.{Statement}
-use Rattle.nb_model.specs.declared.statement.Statement.TheVariants.{Backup, BackupSince, CopyTo}
-use Rattle.nb_model.specs.Backups.{room_in, close_backup, close_copy}
-use Rattle.nb_model.specs.Image.{Image}
-use Rattle.nb_model.specs.Making.{MadeFile, making}
-use Rattle.nb_model.specs.Outcomes.{Turn, Begins, Copies, ClosesBackup, ClosesCopy, Ends, Merges, Finishes, Seen, Outcome}
-use Rattle.nb_model.specs.Pages.{ends_by}
-use Rattle.nb_model.specs.Run.{Now, base_now, outcome, stands_then, one_turn, play, files_made, begun}
-use Rattle.nb_model.specs.Turns.{first_turn, turn}
-use Rattle.nb_model.proofs.GoingLaws.{one_cases, own_todo, other_todo}
-use Rattle.nb_model.proofs.MakingLaws.{event_makes, made_append, turn_makes}
-use Rattle.nb_model.proofs.TurnCases.{statement_cases, begin_either, end_either, backup_either, since_either, copy_either, pages_once}
-use Rattle.nb_script.specs.Asked.{IsFurther, IsAskable}
-use Rattle.nb_script.specs.Fits.{FitsAsked, IsFile}
-use Rattle.nb_script.specs.Scripts.{Plan}
+use Rattle.std.proofs.Common.{◌≡◌, inl, inr, ℕ, zero, suc, ◌+◌, ◌-◌, List, [], ◌∷◌, ◌++◌, map, length, replicate, get_or, refl, sym, ap, subst, ◌∙◌, arith, Contains, false, not}
+use Rattle.nb_session.proofs.Common.{AllByRecursion, slice_index_or, and_parts, eqb_tells, Contains-append_cases, get_or-map, is_delta, Reply, Statement, BackupSince, CopyTo, room_in, close_backup, close_copy, Image, MadeFile, making, Turn, Begins, Copies, ClosesBackup, ClosesCopy, Ends, Merges, Finishes, Seen, Outcome, ends_by, Now, base_now, outcome, stands_then, one_turn, play, files_made, begun, first_turn, turn, one_cases, own_todo, other_todo, event_makes, made_append, turn_makes, statement_cases, begin_either, end_either, backup_either, since_either, copy_either, pages_once, IsFurther, IsAskable, FitsAsked, IsFile, Plan, all_append, not_true}
+use Rattle.nb_model.specs.declared.statement.Statement.TheVariants.{Backup}
 use Rattle.nb_session.specs.MadeNames.{AnyAsks, AnySessionAsks, Asks, ScriptMakes}
-use Rattle.nb_session.proofs.AllLaws.{all_append}
 
 -- P holds of the name of the file that a turn makes, or leaves to be made
 abbrev pub HasName : (List ℕ → Type 0) → Turn → Type 0
@@ -125,11 +103,7 @@ module _ (P : List ℕ → Type 0) where
 
 -- a name that a user may give is that of no difference file
 pub given_plain : (name : List ℕ) → IsFile name → is_delta name ≡ false
-given_plain name is = by (is_delta name) (and_parts _ (not (is_delta name)) is).1
-  where
-    by : (delta : Bool) → not delta ≡ true → delta ≡ false
-    by false h = refl
-    by true h = sym h
+given_plain name is = not_true (is_delta name) (and_parts _ (not (is_delta name)) is).1
 
 -- what a script's statements name its turns do, before the first of them
 module _ (P : List ℕ → Type 0) where

@@ -1,22 +1,7 @@
 -- What stands after one number more of an order, and what is made then.
-use Rattle.std.proofs.Common.{◌≡◌, ◌≢◌, ℕ, ◌-◌, List, [], ◌∷◌, ◌++◌, length, drop, get_or, refl, sym, ap, subst, ◌∙◌, get_or-set_other, length-set}
-use Rattle.std.specs.Prelude.{Bool, Contains}
-use Rattle.std.specs.List.{slice_index_or}
-use Rattle.std.proofs.lemmas.Bool.{true≢false}
-use Rattle.std.proofs.lemmas.List.{append-nil}
-use Rattle.nb_model.specs.declared.statement.Statement.TheVariants.{ShowCache}
-use Rattle.nb_model.specs.Going.{IsAt, waits, backs_up, copies, ends, merges, IsMaking}
-use Rattle.nb_model.specs.Making.{MadeFile, making_by, under_way, AreAmong, IsNoneOf, NamesOnce}
-use Rattle.nb_model.specs.Outcomes.{Turn, Begins, Given}
-use Rattle.nb_model.specs.Run.{Event, Now, Played, outcome, stands_then, take_turn, one_turn, play, files_made, AreFinished}
-use Rattle.nb_model.proofs.GoingLaws.{making_play}
-use Rattle.nb_model.proofs.MakingLaws.{finished_none, free_turn, under_among, under_play, made_among, played_used, names_once}
-use Rattle.nb_model.proofs.RunLaws.{play-append}
-use Rattle.nb_model.proofs.TurnCases.{turn_holds}
-use Rattle.nb_state.specs.Open.{Held}
-use Rattle.nb_session.specs.Acts.{AreSixteen, shown_by}
-use Rattle.nb_session.specs.Steps.{begun_first, shown_first, touching_by}
-use Rattle.nb_session.proofs.MadeLaws.{none_among, among_left, among_right, both_among, once_fewer, made_second, made_ahead, made_both}
+use Rattle.std.proofs.Common.{◌≡◌, ◌≢◌, ℕ, ◌-◌, List, [], ◌∷◌, ◌++◌, length, drop, get_or, refl, sym, ap, subst, ◌∙◌, get_or-set_other, length-set, Bool, Contains}
+use Rattle.nb_session.proofs.Common.{slice_index_or, true≢false, append-nil, ShowCache, IsAt, waits, backs_up, copies, ends, merges, IsMaking, MadeFile, making_by, under_way, AreAmong, IsNoneOf, NamesOnce, Turn, Begins, Given, Event, Now, Played, outcome, stands_then, take_turn, one_turn, play, files_made, AreFinished, making_play, finished_none, free_turn, under_among, under_play, made_among, played_used, names_once, play-append, turn_holds, Held, AreSixteen, shown_by, begun_first, shown_first, touching_by, Contains-append_left, Contains-append_right}
+use Rattle.nb_session.proofs.MadeLaws.{none_among, both_among, once_fewer, made_second, made_ahead, made_both}
 use Rattle.nb_session.proofs.PlayLaws.{behind}
 use Rattle.nb_session.proofs.TouchingLaws.{touching_among}
 use Rattle.nb_session.proofs.TurnLaws.{seen_now}
@@ -101,7 +86,7 @@ module _ (now : Now) (making : IsMaking now) (front : List ℕ) (session : ℕ) 
         both_among made (touching_by session so_far.1) all
         (λ file there. made_ahead so_far.0 next.0 (under_way so_far.1) (under_way next.1) (under_among session so_far.1 far_making.named far_making.going) file (among file there))
         (λ file there.
-        both_among (files_made next.0) (under_way next.1) all (λ f one. among_left (files_made (so_far.0 ++ next.0)) (under_way next.1) f (made_second so_far.0 next.0 f one)) (among_right (files_made (so_far.0 ++ next.0)) (under_way next.1)) file
+        both_among (files_made next.0) (under_way next.1) all (λ f one. Contains-append_left (files_made (so_far.0 ++ next.0)) (under_way next.1) f (made_second so_far.0 next.0 f one)) (Contains-append_right (files_made (so_far.0 ++ next.0)) (under_way next.1)) file
         (touching_among session so_far.1 far_making file there))
 
     pub next_once : NamesOnce (made ++ touching_by session so_far.1)
@@ -109,10 +94,10 @@ module _ (now : Now) (making : IsMaking now) (front : List ℕ) (session : ℕ) 
         (subst (λ (p : Played). NamesOnce (files_made p.0 ++ under_way p.1)) (play_more front session now) (names_once (front ++ session ∷ []) now making))
 
     pub next_has : AreAmong (files_made so_far.0) made → AreAmong (files_made (so_far.0 ++ next.0)) (made ++ touching_by session so_far.1)
-    next_has has = made_both so_far.0 next.0 (made ++ touching_by session so_far.1) (λ file there. among_left made (touching_by session so_far.1) file (has file there))
+    next_has has = made_both so_far.0 next.0 (made ++ touching_by session so_far.1) (λ file there. Contains-append_left made (touching_by session so_far.1) file (has file there))
         (λ file there.
-        among_right made (touching_by session so_far.1) file
-        (among_right (begun_first session (slice_index_or so_far.1.todo (session - 1) []) so_far.1) (making_by session so_far.1) file (made_among session so_far.1 far_making.going file there)))
+        Contains-append_right made (touching_by session so_far.1) file
+        (Contains-append_right (begun_first session (slice_index_or so_far.1.todo (session - 1) []) so_far.1) (making_by session so_far.1) file (made_among session so_far.1 far_making.going file there)))
 
 -- What is under way after a front of an order was made after all of it, or is under way still.
 pub play_ahead : (front rest : List ℕ) (now : Now) → IsMaking now

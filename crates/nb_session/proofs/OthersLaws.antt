@@ -1,17 +1,7 @@
 -- How calls go on that leave other files alone, and what was said meanwhile.
-use Rattle.std.proofs.Common.{◌≡◌, ℕ, List, [], ◌++◌, sym, ap, ◌∙◌, append_assoc}
-use Rattle.std.specs.Prelude.{Result}
-use Rattle.std.proofs.lemmas.List.{append-nil}
-use Rattle.nb_host.specs.Files.{Files}
-use Rattle.nb_host.specs.World.{World}
-use Rattle.nb_host.specs.Crash.{LeavesAll}
-use Rattle.nb_host.specs.Moments.{IsTimely, AtEachMoment}
-use Rattle.nb_change.specs.Changes.{Names, Changes}
-use Rattle.nb_change.proofs.ChangesLaws.{rested}
-use Rattle.nb_change.proofs.MomentLaws.{joined, weaker, left_before, untouched_joined, untouched_fewer}
-use Rattle.nb_page.specs.Quiet.{Quiet}
-use Rattle.nb_session.specs.Others.{IsAdded, OthersLeft, LeavesOthers}
-use Rattle.nb_session.specs.Says.{SaysLine}
+use Rattle.std.proofs.Common.{◌≡◌, ℕ, List, [], ◌++◌, sym, ap, ◌∙◌, append_assoc, Result}
+use Rattle.nb_session.proofs.Common.{append-nil, Files, World, LeavesAll, IsTimely, AtEachMoment, Names, Changes, rested, weaker, left_before, untouched_joined, untouched_fewer, Quiet, IsAdded, OthersLeft, LeavesOthers, SaysLine}
+use Rattle.nb_change.proofs.MomentLaws.{joined}
 
 -- nothing more was said
 added_none : (old : World) (said : List ℕ) → said ≡ old.said → IsAdded old said

@@ -1,39 +1,10 @@
 -- What waits is written out after the turns.
-use Rattle.std.proofs.Common.{◌≡◌, inl, inr, ℕ, List, [], ◌∷◌, ◌++◌, Bool, true, false, refl, sym, ap, subst, ◌∙◌, arith}
-use Rattle.std.proofs.lemmas.Bool.{true≢false}
-use Rattle.std.specs.Prelude.{Contains, Result, Ok, Err, IsErr, IsErrAnd, ◌||◌}
-use Rattle.std.proofs.lemmas.List.{append-nil}
-use Rattle.nb_change.proofs.NameLaws.{decide}
-use Rattle.nb_host.specs.Names.{is_delta}
-use Rattle.nb_host.specs.World.{World}
-use Rattle.nb_host.specs.declared.faults.HostFault.{HostFault}
-use Rattle.nb_host.specs.declared.faults.RunError.{RunError}
-use Rattle.nb_change.specs.Gave.{GaveNothing}
-use Rattle.nb_change.proofs.MomentLaws.{weaker, untouched_fewer}
+use Rattle.std.proofs.Common.{◌≡◌, inl, inr, ℕ, List, [], ◌∷◌, ◌++◌, Bool, true, false, refl, sym, ap, subst, ◌∙◌, arith, Contains, Result, Ok, Err, IsErr, IsErrAnd}
+use Rattle.nb_session.proofs.Common.{true≢false, append-nil, decide, is_delta, World, HostFault, RunError, GaveNothing, weaker, untouched_fewer, is_free_name, IsMaking, MadeFile, AreAmong, IsNoneOf, NamesOnce, Now, Played, play, rounds, files_made, delta_name, acked_turns, steps_of, after_steps, Trail, StandsIn, made_once, output_no_event, status_no_event, delta_named, delta_same, after_no_step, acked_steps_none, Strikes, Takes, Held, IsOpen, but_pages, name_of, Told, IsReady, Plays, EndsBy, RunsInTurn, PlaysInTurn, told_turns, not_free, or_false}
 use Rattle.nb_change.proofs.ResultLaws.{passed_on}
-use Rattle.nb_page.specs.Free.{is_free_name}
-use Rattle.nb_model.specs.Going.{IsMaking}
-use Rattle.nb_model.specs.Making.{MadeFile, AreAmong, IsNoneOf, NamesOnce}
-use Rattle.nb_model.specs.Run.{Now, Played, play, rounds, files_made}
-use Rattle.nb_model.specs.Owner.{delta_name}
-use Rattle.nb_model.specs.Steps.{acked_turns, steps_of, after_steps}
-use Rattle.nb_model.specs.Trail.{Trail, StandsIn}
-use Rattle.nb_model.proofs.MakingLaws.{made_once}
-use Rattle.nb_model.proofs.OutputLaws.{output_no_event, status_no_event}
-use Rattle.nb_model.proofs.StandsLaws.{delta_named, delta_same}
-use Rattle.nb_model.proofs.StepsLaws.{after_no_step, acked_steps_none}
-use Rattle.nb_base.specs.Takes.{Strikes, Takes}
-use Rattle.nb_state.specs.Open.{Held, IsOpen, but_pages, name_of}
-use Rattle.nb_session.specs.declared.told.Told.{Told}
-use Rattle.nb_session.specs.Ready.{IsReady}
-use Rattle.nb_session.specs.Stops.{Plays}
-use Rattle.nb_session.specs.InTurn.{EndsBy, RunsInTurn}
-use Rattle.nb_session.specs.Todo.{PlaysInTurn}
-use Rattle.nb_session.specs.Told.{told_turns}
 use Rattle.nb_session.proofs.GiftLaws.{given_nothing}
 use Rattle.nb_session.proofs.PlayLaws.{Leads, behind, trail_after, after_none, no_file, no_made, plays_by, plays_then, plays_failed}
 use Rattle.nb_session.proofs.ToldLaws.{told_among}
-use Rattle.nb_copy.proofs.InUseLaws.{not_free}
 use Rattle.nb_session.proofs.ReadyLaws.{free_same, beside_other}
 
 -- Pages go out of a database that was ready: no turn is taken.
@@ -93,10 +64,6 @@ module _ (old new : World) (before after : Held) (t : Trail) (now : Now) (ready 
 
   pub out_failed : (e : RunError) → Plays (Err e) old new before after t now ([], now) []
   out_failed e = plays_by (Err e) old new before after t now ([], now) [] out_leads named tt
-
-or_false : (a : Bool) → (a || false) ≡ a
-or_false true = refl
-or_false false = refl
 
 -- after turns
 module _ (old mid new : World) (e0 e1 e2 : Held) (t : Trail) (now : Now) (p : Played) (made : List MadeFile) (once : NamesOnce made) (has : AreAmong (files_made p.0) made) (a : Bool) (first : Plays (Ok a) old mid e0 e1 t now p made) where

@@ -1,37 +1,10 @@
 -- Turns after turns.
-use Rattle.std.proofs.Common.{◌≡◌, inl, inr, ℕ, zero, suc, List, [], ◌∷◌, ◌++◌, take, Bool, false, refl, sym, ap, subst, ◌∙◌, arith, append_assoc, max}
-use Rattle.std.specs.Prelude.{Contains, Result, Ok, Err, IfOk, true, ◌&&◌, ◌||◌, if◌then◌else◌}
-use Rattle.std.specs.List.{list_all}
-use Rattle.std.proofs.lemmas.Bool.{true≢false}
-use Rattle.std.proofs.lemmas.List.{append-nil}
+use Rattle.std.proofs.Common.{◌≡◌, inl, inr, ℕ, zero, suc, List, [], ◌∷◌, ◌++◌, take, Bool, false, refl, sym, ap, subst, ◌∙◌, arith, append_assoc, max, Contains, Result, Ok, Err, IfOk, true, ◌||◌, if◌then◌else◌}
+use Rattle.nb_session.proofs.Common.{list_all, true≢false, append-nil, Contains-append_cases, File, World, Leaves, Untouched, IsTimely, AtEachMoment, RunError, weaker, untouched_joined, untouched_fewer, untouched_begun, MadeFile, AreAmong, IsNoneOf, NamesOnce, Event, Now, Played, replies_of, files_made, output, status_of, Step, settles, made, steps_in, steps_of, after_step, after_steps, acked_turns, Stroke, Trail, StandsIn, made_append, output_append, status_events, output_no_event, status_no_event, steps_none, steps_append, after_steps_append, after_no_step, acked_steps_none, status_or, IsKept, Held, name_of, Touched, AreKept, IsReady, has_only_told, only_told, StopLeft, PlayedOut, Plays, both_true, Contains-append_left, Contains-append_right}
 use Rattle.std.proofs.lemmas.List.Folds.{list_all-append}
-use Rattle.std.proofs.lemmas.List.Elements.{Contains-append_cases}
-use Rattle.nb_host.specs.Files.{File}
-use Rattle.nb_host.specs.World.{World}
-use Rattle.nb_host.specs.Crash.{Leaves, Untouched}
-use Rattle.nb_host.specs.Moments.{IsTimely, AtEachMoment}
-use Rattle.nb_host.specs.declared.faults.RunError.{RunError}
 use Rattle.nb_change.specs.Changes.{Other}
-use Rattle.nb_change.proofs.MomentLaws.{started, joined, weaker, untouched_joined, untouched_fewer, untouched_begun}
-use Rattle.nb_model.specs.Making.{MadeFile, AreAmong, IsNoneOf, NamesOnce}
-use Rattle.nb_model.specs.Run.{Event, Now, Played, replies_of, files_made}
-use Rattle.nb_model.specs.Output.{output, status_of}
-use Rattle.nb_model.specs.Steps.{Step, settles, made, steps_in, steps_of, after_step, after_steps, acked_turns}
-use Rattle.nb_model.specs.Strokes.{Stroke}
-use Rattle.nb_model.specs.Trail.{Trail, StandsIn}
-use Rattle.nb_model.proofs.MakingLaws.{made_append}
-use Rattle.nb_model.proofs.OutputLaws.{output_append, status_events, output_no_event, status_no_event}
-use Rattle.nb_model.proofs.StepsLaws.{steps_none, steps_append, after_steps_append, after_no_step, acked_steps_none}
-use Rattle.nb_model.proofs.StatusLaws.{status_or}
-use Rattle.nb_gather.specs.Making.{IsKept}
-use Rattle.nb_state.specs.Open.{Held, name_of}
-use Rattle.nb_session.specs.Acts.{Touched, AreKept}
-use Rattle.nb_session.specs.Ready.{IsReady}
-use Rattle.nb_state.specs.Does.{has_only_told}
-use Rattle.nb_session.specs.Replies.{only_told}
-use Rattle.nb_session.specs.Stops.{StopLeft, PlayedOut, Plays}
+use Rattle.nb_change.proofs.MomentLaws.{started, joined}
 use Rattle.nb_session.proofs.GiftLaws.{given_nothing, given_joined}
-use Rattle.nb_session.proofs.MadeLaws.{among_left, among_right}
 use Rattle.nb_session.proofs.StopLaws.{AreApart, FileLeft, Stays, others_fewer, left_more, stop_wider, stop_more, stop_then}
 
 -- one list of turns after another
@@ -82,12 +55,12 @@ module _ (old mid new : World) (name : List ℕ) (t : Trail) (es fs : List Event
       → Leads old mid name t es made → Leads mid new name (after_steps t (steps_of es)) fs more → Leads old new name t (es ++ fs) all
   leads_then said stays first second =
       let apart : AreApart name all = all_apart first.apart second.apart in
-      let front : Leads old mid name t es all = leads_wider old mid name t es made all (among_left made more) once apart first in
-      let rest : Leads mid new name (after_steps t (steps_of es)) fs all = leads_wider mid new name (after_steps t (steps_of es)) fs more all (among_right made more) once apart second in
+      let front : Leads old mid name t es all = leads_wider old mid name t es made all (Contains-append_left made more) once apart first in
+      let rest : Leads mid new name (after_steps t (steps_of es)) fs all = leads_wider mid new name (after_steps t (steps_of es)) fs more all (Contains-append_right made more) once apart second in
       record {
         stops = joined old mid new _ _ _ front.stops second.stops
             (λ files s left. stop_more old name t es fs all files s left)
-            (λ files s left. stop_then old mid name t es fs more all (among_right made more) once apart files s said front.others front.left stays left);
+            (λ files s left. stop_then old mid name t es fs more all (Contains-append_right made more) once apart files s said front.others front.left stays left);
         left = λ n bytes file there leaves. elim (rest.left n bytes file there leaves) [ inl before ↦ front.left n bytes file there before | inr is ↦ inr is ];
         apart = apart;
         others = untouched_joined old mid new _ front.others rest.others;
@@ -105,10 +78,6 @@ module _ (result : Result Bool RunError) (old new : World) (before after : Held)
   -- the files that they make are among these
   pub plays_wider : (few many : List MadeFile) → AreAmong few many → NamesOnce many → AreApart (name_of before) many → Plays result old new before after t now p few → Plays result old new before after t now p many
   plays_wider few many among once apart plays = plays_by many (leads_wider old new (name_of before) t p.0 few many among once apart (leads_of few plays)) plays.name plays.done
-
-pub both_true : (a b : Bool) → (a && b) ≡ true → (a ≡ true) × (b ≡ true)
-both_true true b all = (refl, all)
-both_true false b all = absurd (true≢false (sym all))
 
 -- After turns that only told something a settled point is one still.
 no_stroke_told : (e : Event) → only_told e ≡ true → e.strokes ≡ []

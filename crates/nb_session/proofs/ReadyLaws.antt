@@ -1,39 +1,9 @@
 -- After a turn the database is ready for the next one.
-use Rattle.std.proofs.Common.{◌≡◌, ◌≢◌, ◌⊎◌, inl, inr, ℕ, zero, suc, ◌-◌, List, [], ◌∷◌, ◌++◌, length, Bool, true, false, arith, refl, sym, ap, subst, ◌∙◌}
-use Rattle.std.specs.Prelude.{Contains, Option, Some, None, is_some, not, nat_le, ◌&&◌}
-use Rattle.std.proofs.lemmas.Bool.{true≢false}
-use Rattle.std.proofs.lemmas.List.Elements.{Contains-append_cases}
-use Rattle.std.specs.List.{slice_index_or}
-use Rattle.nb_fields.specs.Free.{is_free_file}
-use Rattle.nb_host.specs.Files.{File, Files}
-use Rattle.nb_host.specs.Names.{is_delta}
-use Rattle.nb_host.specs.World.{World}
-use Rattle.nb_page.specs.Free.{is_free_name, has_delta}
+use Rattle.std.proofs.Common.{◌≡◌, ◌≢◌, ◌⊎◌, inl, inr, ℕ, zero, suc, ◌-◌, List, [], ◌∷◌, ◌++◌, length, Bool, true, false, arith, refl, sym, ap, subst, ◌∙◌, Contains, Option, Some, None, is_some, not, nat_le, ◌&&◌}
+use Rattle.nb_session.proofs.Common.{true≢false, Contains-append_cases, slice_index_or, is_free_file, File, Files, is_delta, World, is_free_name, has_delta, decide, Base, Plain, IsBase, is_free_entry, IsMaking, MadeFile, IsNoneOf, making, under_way, Turn, Outcome, delta_name, Now, Event, Played, base_now, with_made, account_after, outcome, event_of, stands_then, take_turn, one_turn, files_made, steps_in, after_steps, base_in, base_after, Trail, made_used, strokes_one, entry_same, base_in_base, delta_named, delta_same, entry_other, steps_one, steps_seen, OfFiles, Held, IsOpen, name_of, not_free, Touched, AreKept, IsReady, IsApart, begun_in, touching}
 use Rattle.nb_page.proofs.FreeLaws.{is_free_name-false}
 use Rattle.nb_change.specs.Changes.{Other}
-use Rattle.nb_change.proofs.NameLaws.{decide}
-use Rattle.nb_model.specs.Account.{Base, Plain, IsBase}
-use Rattle.nb_model.specs.Causes.{is_free_entry}
-use Rattle.nb_model.specs.Going.{IsMaking}
-use Rattle.nb_model.specs.Making.{MadeFile, IsNoneOf, making, under_way}
-use Rattle.nb_model.specs.Outcomes.{Turn, Outcome}
-use Rattle.nb_model.specs.Owner.{delta_name}
-use Rattle.nb_model.specs.Run.{Now, Event, Played, base_now, with_made, account_after, outcome, event_of, stands_then, take_turn, one_turn, files_made}
-use Rattle.nb_model.specs.Steps.{steps_in, after_steps}
-use Rattle.nb_model.specs.Strokes.{base_in, base_after}
-use Rattle.nb_model.specs.Trail.{Trail}
-use Rattle.nb_model.proofs.MakingLaws.{made_used}
 use Rattle.nb_model.proofs.OpenedLaws.{HasMain, has_main}
-use Rattle.nb_model.proofs.OutputLaws.{strokes_one}
-use Rattle.nb_model.proofs.RunLaws.{entry_same, base_in_base}
-use Rattle.nb_model.proofs.StandsLaws.{delta_named, delta_same, entry_other}
-use Rattle.nb_model.proofs.StepsLaws.{steps_one, steps_seen}
-use Rattle.nb_base.specs.Open.{OfFiles}
-use Rattle.nb_state.specs.Open.{Held, IsOpen, name_of}
-use Rattle.nb_copy.proofs.InUseLaws.{not_free}
-use Rattle.nb_session.specs.Acts.{Touched, AreKept}
-use Rattle.nb_session.specs.Ready.{IsReady, IsApart}
-use Rattle.nb_session.specs.Steps.{begun_in, touching}
 use Rattle.nb_session.proofs.MakesLaws.{makes_none, none_before, none_here}
 use Rattle.nb_session.proofs.TouchingLaws.{begun_among}
 
@@ -60,7 +30,7 @@ module _ (old new : World) (before after : Held) (t u : Trail) (was : IsOpen old
     | inr off ↦ ap is_some (read off)
   ]
 
-own_entry : (b : Base) → is_free_entry (IsBase b) ≡ false
+pub own_entry : (b : Base) → is_free_entry (IsBase b) ≡ false
 unfolding is_free_entry
 own_entry b = refl
 

@@ -1,16 +1,9 @@
 -- Saying a line.
-use Rattle.std.proofs.Common.{◌≡◌, ℕ, zero, suc, ◌+◌, ◌-◌, List, [], ◌∷◌, ◌++◌, Bool, length, take, sym, ap, ◌∙◌, subst, arith}
-use Rattle.std.specs.Prelude.{Result, Ok, Err, IsTrue, OnOk, min}
+use Rattle.std.proofs.Common.{◌≡◌, ℕ, zero, suc, ◌+◌, ◌-◌, List, [], ◌∷◌, ◌++◌, Bool, length, take, sym, ap, ◌∙◌, subst, arith, Result, Ok, Err, IsTrue, OnOk, min}
+use Rattle.nb_session.proofs.Common.{take-append-add, append-nil, take_all, Files, World, LeavesAll, IsStill, IsWhileSaying, IsTimely, PassesSaying, AtEachMoment, goes_on, left_before, FrontSaid, SaysLine, no_err}
 use Rattle.std.specs.Result.{IsErr}
-use Rattle.std.proofs.Math.Seq.{take-append-add}
-use Rattle.std.proofs.lemmas.List.{append-nil, take_all}
-use Rattle.nb_host.specs.Files.{Files}
-use Rattle.nb_host.specs.World.{World}
-use Rattle.nb_host.specs.Crash.{LeavesAll}
-use Rattle.nb_host.specs.Calls.{IsStill, Says}
-use Rattle.nb_host.specs.Moments.{IsWhileSaying, IsTimely, PassesSaying, AtEachMoment}
-use Rattle.nb_change.proofs.MomentLaws.{started, goes_on, left_before}
-use Rattle.nb_session.specs.Says.{FrontSaid, SaysLine}
+use Rattle.nb_host.specs.Calls.{Says}
+use Rattle.nb_change.proofs.MomentLaws.{started}
 
 left_all : (old new : World) → IsStill old new → (files : Files) → LeavesAll new files → LeavesAll old files
 left_all old new still files all name = left_before old new _ still.left name (files name) tt (all name)
@@ -59,10 +52,7 @@ says_line tells told result after old new bytes timely still says time done =
 
 -- a failure said nothing whole
 pub err_unsaid : {S F : Type 0} (P : Type 0) (result : Result S F) → IsErr result → OnOk result P
-err_unsaid {S} {F} P (Ok x) is = absurd (no_err is)
-  where
-    no_err : IsErr {T = S} {E = F} (Ok x) → ⊥
-    no_err h = cc
+err_unsaid {S} {F} P (Ok x) is = absurd (no_err S F x is)
 err_unsaid P (Err e) is = tt
 
 -- the same line

@@ -1,37 +1,7 @@
 -- What holds while sessions take their turns.
-use Rattle.std.proofs.Common.{◌≡◌, ◌≢◌, inl, inr, ℕ, zero, suc, ◌-◌, ◌<◌, ◌≤◌, List, [], ◌∷◌, ◌++◌, length, map, refl, sym, ap, subst, ◌∙◌, arith, append_assoc, length-set}
-use Rattle.std.specs.Prelude.{Bool, true, false, ◌||◌, IsTrue, Result, Ok, Option, Some, None, slice_get, slice_set}
-use Rattle.std.specs.List.{AllByRecursion, list_all, slice_index_or}
-use Rattle.std.proofs.lemmas.List.{append-nil}
-use Rattle.nb_host.specs.World.{World}
-use Rattle.nb_host.specs.Moments.{IsTimely}
-use Rattle.nb_host.specs.declared.faults.RunError.{RunError}
-use Rattle.nb_model.specs.declared.statement.Statement.{Statement}
-use Rattle.nb_model.specs.Account.{Base}
-use Rattle.nb_model.specs.Gifts.{Foretells}
-use Rattle.nb_model.specs.Going.{IsMaking}
-use Rattle.nb_model.specs.Making.{MadeFile, under_way, AreAmong}
-use Rattle.nb_model.specs.Outcomes.{Turn, Begins, Given}
-use Rattle.nb_model.specs.Run.{Event, Now, Played, base_now, one_turn, play, files_made}
-use Rattle.nb_model.specs.Steps.{steps_of, after_steps}
-use Rattle.nb_model.specs.Trail.{Trail}
-use Rattle.nb_model.proofs.GoingLaws.{making_play}
-use Rattle.nb_model.proofs.TodoLaws.{one_turn_idle}
-use Rattle.nb_sched.specs.Turns.{Scene, scene, Kind, kind, agent_of, Rests, Moves}
+use Rattle.std.proofs.Common.{◌≡◌, ◌≢◌, inl, inr, ℕ, zero, suc, ◌-◌, ◌<◌, ◌≤◌, List, [], ◌∷◌, ◌++◌, length, map, refl, sym, ap, subst, ◌∙◌, arith, append_assoc, length-set, Bool, true, false, ◌||◌, IsTrue, Result, Ok, Option, Some, None, slice_get, slice_set}
+use Rattle.nb_session.proofs.Common.{AllByRecursion, list_all, slice_index_or, append-nil, World, IsTimely, RunError, Statement, Base, Foretells, IsMaking, MadeFile, under_way, AreAmong, Turn, Begins, Given, Event, Now, Played, base_now, one_turn, play, files_made, steps_of, after_steps, Trail, making_play, one_turn_idle, Scene, scene, Kind, kind, agent_of, Rests, Moves, IsSession, Held, Task, Backup, Copy, End, Merge, Told, AreSixteen, Grows, Asker, task_todo, task_left, todo_of, HasTodo, left_of, IsFit, any_refused, HasNone, TakesOne, InTurn, IsReady, TaskGoes, only_told, as_played, shown_next, touching_by, Steps, TakesNext, Plays, told_turns, or_assoc}
 use Rattle.nb_sched.proofs.AgentLaws.{agent_there, agent_of_set}
-use Rattle.nb_script.specs.Fits.{IsSession}
-use Rattle.nb_state.specs.Open.{Held}
-use Rattle.nb_session.specs.declared.task.Task.{Task}
-use Rattle.nb_session.specs.declared.task.Task.TheVariants.{Backup, Copy, End, Merge}
-use Rattle.nb_session.specs.declared.told.Told.{Told}
-use Rattle.nb_session.specs.Acts.{AreSixteen, Grows}
-use Rattle.nb_session.specs.Askers.{Asker, task_todo, task_left, todo_of, HasTodo, left_of, IsFit, any_refused}
-use Rattle.nb_session.specs.InTurn.{HasNone, TakesOne, InTurn}
-use Rattle.nb_session.specs.Ready.{IsReady, TaskGoes}
-use Rattle.nb_session.specs.Replies.{only_told}
-use Rattle.nb_session.specs.Steps.{as_played, shown_next, touching_by, Steps, TakesNext}
-use Rattle.nb_session.specs.Stops.{Plays}
-use Rattle.nb_session.specs.Told.{told_turns}
 use Rattle.nb_session.proofs.GiftLaws.{foretold_first, foretold_then, foretold_itself, grows_none, grows_joined}
 use Rattle.nb_session.proofs.GoesLaws.{goes_on}
 use Rattle.nb_session.proofs.InTurnLaws.{in_turn_idle, in_turn_one, told_trail}
@@ -52,10 +22,6 @@ or_last false true false = refl
 or_last false false true = refl
 or_last false false false = refl
 
-or_group : (a b r : Bool) → a || (b || r) ≡ (a || b) || r
-or_group true b r = refl
-or_group false b r = refl
-
 -- one session more was refused a statement, or not
 pub any_set : (askers : List Asker) (i : ℕ) (a b : Asker) (refused : Bool) → slice_get askers i ≡ Some a → b.refused ≡ (a.refused || refused) → any_refused (slice_set askers i b) ≡ any_refused askers || refused
 any_set [] i a b refused there noted = absurd cc
@@ -63,7 +29,7 @@ any_set (x ∷ xs) zero a b refused there noted =
     let same : x ≡ a = cc in
     ap (λ (r : Bool). r || any_refused xs) (noted ∙ ap (λ (y : Asker). y.refused || refused) (sym same)) ∙ or_last x.refused (any_refused xs) refused
 any_set (x ∷ xs) (suc i) a b refused there noted =
-    ap (λ (r : Bool). x.refused || r) (any_set xs i a b refused there noted) ∙ or_group x.refused (any_refused xs) refused
+    ap (λ (r : Bool). x.refused || r) (any_set xs i a b refused there noted) ∙ or_assoc x.refused (any_refused xs) refused
 
 -- who has finished has nothing to do
 done_parts : (task : Option Task) (statements : List Statement) → length statements ≡ 0 → task_left task ≡ 0 → task_todo task ++ map Begins statements ≡ []

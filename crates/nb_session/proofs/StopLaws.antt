@@ -1,28 +1,7 @@
 -- How what a crash leaves goes on from turn to turn.
-use Rattle.std.proofs.Common.{◌≡◌, ◌⊎◌, inl, inr, ℕ, zero, suc, ◌+◌, ◌-◌, ◌≤◌, List, [], ◌∷◌, ◌++◌, length, take, sym, ap, subst, ◌∙◌, arith, append_assoc, length-append, length-take}
-use Rattle.std.specs.Prelude.{Contains, Bool, true, false, Option, Some, None, nat_le}
-use Rattle.std.proofs.Math.Seq.{take-append-add}
-use Rattle.std.proofs.lemmas.List.{take-append-le}
-use Rattle.std.proofs.lemmas.List.Elements.{Contains-append_cases}
-use Rattle.nb_host.specs.Files.{File, Files}
-use Rattle.nb_host.specs.World.{World}
-use Rattle.nb_host.specs.Crash.{Leaves, Untouched, IsDurable}
-use Rattle.nb_change.specs.Changes.{Other, Remade}
-use Rattle.nb_change.proofs.MomentLaws.{left_before}
-use Rattle.nb_model.specs.declared.reply.Reply.{Reply}
-use Rattle.nb_model.specs.Lines.{line_text}
-use Rattle.nb_model.specs.Making.{MadeFile, AreAmong, NamesOnce}
-use Rattle.nb_model.specs.Run.{Event, files_made}
-use Rattle.nb_model.specs.Output.{output}
-use Rattle.nb_model.specs.Steps.{Step, steps_of, after_steps, acked_turns, acked_steps}
-use Rattle.nb_model.specs.Trail.{Trail, StandsIn}
-use Rattle.nb_model.proofs.OutputLaws.{front_more, front_behind}
-use Rattle.nb_model.proofs.StepsLaws.{steps_length, steps_front, steps_behind, after_steps_append, turns_front, turns_behind, acked_steps_front, acked_steps_behind}
-use Rattle.nb_model.proofs.MakingLaws.{made_append}
-use Rattle.nb_base.specs.Open.{OfFiles}
-use Rattle.nb_gather.specs.Making.{IsUnfinishedOr}
-use Rattle.nb_session.specs.Acts.{Touched, MadeLeft}
-use Rattle.nb_session.specs.Stops.{StopLeft, AreWhole}
+use Rattle.std.proofs.Common.{◌≡◌, ◌⊎◌, inl, inr, ℕ, ◌+◌, ◌-◌, ◌≤◌, List, ◌++◌, length, take, sym, ap, subst, ◌∙◌, arith, append_assoc, length-append, length-take, Contains, Some}
+use Rattle.nb_session.proofs.Common.{take-append-add, take-append-le, Contains-append_cases, File, Files, World, Leaves, Untouched, IsDurable, Remade, left_before, MadeFile, AreAmong, NamesOnce, Event, files_made, output, Step, steps_of, after_steps, acked_turns, acked_steps, Trail, StandsIn, front_more, front_behind, steps_length, steps_front, steps_behind, after_steps_append, turns_front, turns_behind, acked_steps_front, acked_steps_behind, turns_most, made_append, OfFiles, IsUnfinishedOr, Touched, MadeLeft, StopLeft, AreWhole}
+use Rattle.nb_change.specs.Changes.{Other}
 use Rattle.nb_session.proofs.MadeLaws.{named_tells, made_grow}
 
 -- none of the files is one of the database's two
@@ -70,28 +49,6 @@ module _ (name : List ℕ) (few many : List MadeFile) (among : AreAmong few many
 
 part_fits : (part : List ℕ) (all : List ℕ) → part ≡ take (length part) all → length part ≤ length all
 part_fits part all is = omega (arith, ap length is, length-take (length part) all)
-
--- no more turns are acknowledged than there are
-turns_most : (es : List Event) (said : ℕ) → acked_turns es said ≤ length es
-unfolding acked_turns
-turns_most [] said = omega arith
-turns_most (e ∷ es) said = by e.reply (turns_most es)
-  where
-    quiet : (n : ℕ) → n ≤ length es → elim n as (λ z. ℕ) [ zero ↦ 0 | suc k ↦ suc (suc k) ] ≤ suc (length es)
-    quiet zero most = omega arith
-    quiet (suc n) most = omega arith
-
-    line : (whole : Bool) (n : ℕ) → n ≤ length es → elim whole as (λ z. ℕ) [ true ↦ suc n | false ↦ 0 ] ≤ suc (length es)
-    line true n most = omega arith
-    line false n most = omega arith
-
-    by : (reply : Option Reply) → ((n : ℕ) → acked_turns es n ≤ length es)
-        → elim reply as (λ z. ℕ) [
-          | None ↦ elim (acked_turns es said) as (λ z. ℕ) [ zero ↦ 0 | suc k ↦ suc (suc k) ]
-          | Some r ↦ elim (nat_le (length (line_text e.session r)) said) as (λ z. ℕ) [ true ↦ suc (acked_turns es (said - length (line_text e.session r))) | false ↦ 0 ]
-        ] ≤ suc (length es)
-    by None most = quiet (acked_turns es said) (most said)
-    by (Some r) most = line (nat_le (length (line_text e.session r)) said) (acked_turns es (said - length (line_text e.session r))) (most (said - length (line_text e.session r)))
 
 -- the files of the turns that are acknowledged once so much was said
 abbrev acked_files : List Event → (said : ℕ) → List MadeFile

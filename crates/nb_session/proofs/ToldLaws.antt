@@ -1,23 +1,10 @@
 -- What is told of turns: each event in its place, with its strokes and its file, and of its reply no more than it had.
-use Rattle.std.proofs.Common.{◌≡◌, ℕ, List, [], ◌∷◌, ◌++◌, Bool, refl, sym, ap, subst, ◌∙◌, true≢false}
-use Rattle.std.specs.Prelude.{true, false, Contains, Option, None, Some}
-use Rattle.nb_host.specs.declared.refusals.Refusal.{Refusal}
-use Rattle.nb_model.specs.declared.reply.Reply.{Reply}
-use Rattle.nb_model.specs.declared.reply.Reply.TheVariants.{Scn, PagesShown, Refused}
+use Rattle.std.proofs.Common.{◌≡◌, ℕ, List, [], ◌∷◌, ◌++◌, Bool, refl, sym, ap, subst, ◌∙◌, true≢false, true, false, Contains, Option, None, Some}
+use Rattle.nb_session.proofs.Common.{Refusal, Reply, Scn, PagesShown, line_text, MadeFile, AreAmong, IsNoneOf, output, status_of, status_after, Event, files_made, replies_of, Step, steps_in, steps_of, Stroke, output_one, status_one, output-quiet, output_no_event, status_no_event, Told, has_only_told, only_told, told_reply, told_events, told_line, told_status}
+use Rattle.nb_model.specs.declared.reply.Reply.TheVariants.{Refused}
 use Rattle.nb_model.specs.Generated.{last_or_refusal, said_by_generated}
 use Rattle.nb_model.specs.Jobs.{sized, all_sized}
-use Rattle.nb_model.specs.Lines.{line_text}
-use Rattle.nb_model.specs.Making.{MadeFile, AreAmong, IsNoneOf}
-use Rattle.nb_model.specs.Output.{output, status_of, status_after}
-use Rattle.nb_model.specs.Run.{Event, files_made, replies_of}
-use Rattle.nb_model.specs.Steps.{Step, steps_in, steps_of}
-use Rattle.nb_model.specs.Strokes.{Stroke}
-use Rattle.nb_model.proofs.OutputLaws.{output_one, status_one, output-quiet, output_no_event, status_no_event}
-use Rattle.nb_session.specs.declared.told.Told.{Told}
 use Rattle.nb_session.specs.declared.told.Told.TheVariants.{Whole, WithPages, Sparingly}
-use Rattle.nb_state.specs.Does.{has_only_told}
-use Rattle.nb_session.specs.Replies.{only_told}
-use Rattle.nb_session.specs.Told.{told_reply, told_events, told_line, told_status}
 
 pub told_nothing : (how : Told) → told_events how [] ≡ []
 unfolding all_sized said_by_generated
@@ -48,7 +35,7 @@ told_append (WithPages pages) a b = sized_append pages a b
 told_append Sparingly a b = sparing_append a b
 
 -- their steps
-sized_steps : (pages : ℕ) (es : List Event) → steps_of (all_sized pages es) ≡ steps_of es
+pub sized_steps : (pages : ℕ) (es : List Event) → steps_of (all_sized pages es) ≡ steps_of es
 unfolding steps_of all_sized
 sized_steps pages [] = refl
 sized_steps pages (e ∷ es) = ap (λ (ss : List Step). steps_in e ++ ss) (sized_steps pages es)
@@ -64,7 +51,7 @@ told_steps (WithPages pages) es = sized_steps pages es
 told_steps Sparingly es = sparing_steps es
 
 -- their files
-sized_files : (pages : ℕ) (es : List Event) → files_made (all_sized pages es) ≡ files_made es
+pub sized_files : (pages : ℕ) (es : List Event) → files_made (all_sized pages es) ≡ files_made es
 unfolding files_made all_sized
 sized_files pages [] = refl
 sized_files pages (e ∷ es) = ap (λ (files : List MadeFile). elim e.made as (λ z. List MadeFile) [ Some file ↦ file ∷ files | None ↦ files ]) (sized_files pages es)
@@ -120,7 +107,7 @@ pub output_told : (e : Event) (r : Option Reply) → e.reply ≡ r → output (e
 output_told e None is = output-quiet e [] is ∙ output_no_event
 output_told e (Some r) is = output_one e r is
 
-status_unsaid : (e : Event) → e.reply ≡ None → status_of (replies_of (e ∷ [])) ≡ 0
+pub status_unsaid : (e : Event) → e.reply ≡ None → status_of (replies_of (e ∷ [])) ≡ 0
 unfolding replies_of
 status_unsaid e none = ap (λ (r : Option Reply). status_of (elim r as (λ z. List (ℕ × Reply)) [ Some reply ↦ (e.session, reply) ∷ [] | None ↦ [] ])) none ∙ status_no_event
 

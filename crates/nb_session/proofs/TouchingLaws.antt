@@ -1,27 +1,8 @@
 -- The files that a turn may touch.
-use Rattle.std.proofs.Common.{◌≡◌, ◌≢◌, ℕ, zero, suc, ◌-◌, List, [], ◌∷◌, ◌++◌, replicate, refl, sym, ap, subst, ◌∙◌, arith, get_or-set_same}
-use Rattle.std.specs.Prelude.{Bool, Contains}
-use Rattle.std.specs.List.{slice_index_or}
-use Rattle.std.proofs.lemmas.List.{append-nil}
-use Rattle.nb_host.specs.declared.refusals.Refusal.{Refusal}
-use Rattle.nb_model.specs.declared.reply.Reply.{Reply}
-use Rattle.nb_model.specs.declared.statement.Statement.{Statement}
-use Rattle.nb_model.specs.declared.statement.Statement.TheVariants.{Backup as BackupTo, BackupSince}
-use Rattle.nb_model.specs.Account.{Ask, Base}
-use Rattle.nb_model.specs.Going.{AreBeginnings, Runs, IsAt, waits, backs_up, copies, ends, merges, IsGoing, IsMaking}
-use Rattle.nb_model.specs.Image.{Image}
-use Rattle.nb_model.specs.Making.{MadeFile, making, making_by, under_way, AreAmong}
-use Rattle.nb_model.specs.Outcomes.{Turn, Begins, Merges, Ends, Finishes, Outcome, Seen}
-use Rattle.nb_model.specs.Run.{Now, Played, base_now, outcome, event_of, stands_then, take_turn, one_turn, files_made}
-use Rattle.nb_model.specs.Strokes.{base_after}
-use Rattle.nb_model.specs.Turns.{first_turn, turn}
-use Rattle.nb_model.proofs.GoingLaws.{one_runs}
-use Rattle.nb_model.proofs.MakingLaws.{under_among}
-use Rattle.nb_model.proofs.RunLaws.{turn_stands}
-use Rattle.nb_model.proofs.TurnCases.{MayStart, refused, started, IsFrom, backup_either, since_either}
-use Rattle.nb_session.specs.Askers.{IsBackup, IsOneTurn, file_asked, copy_first, merge_first, merge_rest}
-use Rattle.nb_session.specs.Steps.{left_making, begun_in, begun_first, touching, touching_by}
-use Rattle.nb_session.proofs.MadeLaws.{none_among, among_left, among_right, both_among}
+use Rattle.std.proofs.Common.{◌≡◌, ◌≢◌, ℕ, zero, suc, ◌-◌, List, [], ◌∷◌, ◌++◌, replicate, refl, sym, ap, subst, ◌∙◌, arith, get_or-set_same, Bool, Contains}
+use Rattle.nb_session.proofs.Common.{slice_index_or, append-nil, Refusal, Reply, Statement, BackupSince, Ask, Base, AreBeginnings, Runs, IsAt, waits, backs_up, copies, ends, merges, IsGoing, IsMaking, Image, MadeFile, making, making_by, under_way, AreAmong, Turn, Begins, Merges, Ends, Finishes, Outcome, Seen, Now, Played, base_now, outcome, event_of, stands_then, take_turn, one_turn, files_made, base_after, first_turn, turn, one_runs, under_among, turn_stands, MayStart, refused, started, IsFrom, backup_either, since_either, IsBackup, IsOneTurn, file_asked, copy_first, merge_first, merge_rest, left_making, begun_in, begun_first, touching, touching_by, Contains-append_left, Contains-append_right}
+use Rattle.nb_model.specs.declared.statement.Statement.TheVariants.{Backup as BackupTo}
+use Rattle.nb_session.proofs.MadeLaws.{none_among, both_among}
 use Rattle.nb_session.proofs.MakesLaws.{place_in}
 use Rattle.nb_session.proofs.UnderWayLaws.{by_among, making_append, none_making}
 
@@ -99,7 +80,7 @@ module _ (session : ℕ) (u : Turn) (rest : List Turn) (now : Now) (is : slice_i
       by_among session then file
       (subst (λ (ts : List Turn). Contains (making frozen ts) file) (sym todo_then)
       (subst (λ (files : List MadeFile). Contains files file) (sym (making_append frozen next rest))
-      (among_left (making frozen next) (making frozen rest) file
+      (Contains-append_left (making frozen next) (making frozen rest) file
       (subst (λ (b : Base). Contains (making b.frozen next) file) (sym (turn_stands session rest (outcome session u now) now)) there))))
 
 -- and so is the file of a backup that begins
@@ -122,7 +103,7 @@ touching_among session now makes =
     first [] is file there = none_among (files_made (one_turn session now).0 ++ under_way (one_turn session now).1) file there
     first (u ∷ rest) is file there =
         subst (λ (p : Played). Contains (files_made p.0 ++ under_way p.1) file) (sym (one_turn_is session now (u ∷ rest) is))
-        (among_right (files_made (event_of session u (outcome session u now) ∷ [])) (under_way (stands_then session rest (outcome session u now) now)) file (begun_among session u rest now is file there))
+        (Contains-append_right (files_made (event_of session u (outcome session u now) ∷ [])) (under_way (stands_then session rest (outcome session u now) now)) file (begun_among session u rest now is file there))
 
 -- While another session runs no backup begins, since the database is stalled.
 none_starts : (session : ℕ) (x : Statement) (now : Now) (place : ℕ) → IsBackup x → Runs now place 1 → left_making session (Begins x) now ≡ []

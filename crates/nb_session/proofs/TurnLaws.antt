@@ -1,43 +1,8 @@
 -- One turn, by what it made of the database and by its line.
-use Rattle.std.proofs.Common.{◌≡◌, ◌<◌, ℕ, ◌-◌, List, [], ◌∷◌, ◌++◌, Bool, false, refl, sym, ap, subst, ◌∙◌}
-use Rattle.std.specs.Prelude.{true, Result, Ok, Err, IsErr, IfOk, Option, Some, None, if◌then◌else◌}
-use Rattle.std.specs.List.{slice_index_or}
-use Rattle.std.proofs.lemmas.List.{append-nil}
-use Rattle.nb_host.specs.World.{World}
-use Rattle.nb_host.specs.declared.faults.Fault.{Fault}
-use Rattle.nb_host.specs.declared.faults.Fault.TheVariants.{Refused, Device, Memory}
-use Rattle.nb_host.specs.declared.refusals.Refusal.{Refusal}
-use Rattle.nb_host.specs.declared.faults.RunError.{RunError}
-use Rattle.nb_model.specs.declared.reply.Reply.{Reply}
+use Rattle.std.proofs.Common.{◌≡◌, ◌<◌, ℕ, ◌-◌, List, [], ◌∷◌, ◌++◌, Bool, false, refl, sym, ap, subst, ◌∙◌, true, Result, Ok, Err, IsErr, IfOk, Option, Some, None, if◌then◌else◌}
+use Rattle.nb_session.proofs.Common.{slice_index_or, append-nil, World, Fault, Refused, Device, Memory, Refusal, RunError, Reply, Statement, Foretells, IsMaking, line_text, MadeFile, Turn, Begins, Seen, status_after, Now, Played, base_now, outcome, take_turn, Trail, first_turn, turn, status_plain, IsSingle, IsNoRefusal, Held, Left, Other, Task, Taken, Told, Says, Grows, shown_by, Acts, MayAct, TaskFits, left_refused, left_task, task_left, IsReady, HasEnded, is_refusal, EndsEarly, SaysLine, as_played, touching, GoesFurther, IsBehind, Turns, Plays, told_line, told_reply, told_turns, false_true, IfOk-from_err}
 use Rattle.nb_model.specs.declared.reply.Reply.TheVariants.{Refused as RefusedBy}
-use Rattle.nb_model.specs.declared.statement.Statement.{Statement}
-use Rattle.nb_model.specs.Gifts.{Foretells}
-use Rattle.nb_model.specs.Going.{IsMaking}
-use Rattle.nb_model.specs.Lines.{line_text}
-use Rattle.nb_model.specs.Making.{MadeFile}
-use Rattle.nb_model.specs.Outcomes.{Turn, Begins, Seen}
-use Rattle.nb_model.specs.Output.{status_after}
-use Rattle.nb_model.specs.Run.{Now, Played, base_now, outcome, take_turn}
-use Rattle.nb_model.specs.Trail.{Trail}
-use Rattle.nb_model.specs.Turns.{first_turn, turn}
-use Rattle.nb_model.proofs.StatusLaws.{status_plain}
-use Rattle.nb_model.proofs.TodoLaws.{IsSingle}
 use Rattle.nb_model.proofs.UsageLaws.{never_usage}
-use Rattle.nb_base.specs.Takes.{IsNoRefusal}
-use Rattle.nb_state.specs.Open.{Held}
-use Rattle.nb_session.specs.declared.task.Left.{Left}
-use Rattle.nb_session.specs.declared.task.Left.TheVariants.{Other}
-use Rattle.nb_session.specs.declared.task.Task.{Task}
-use Rattle.nb_session.specs.declared.task.Taken.{Taken}
-use Rattle.nb_session.specs.declared.told.Told.{Told}
-use Rattle.nb_session.specs.Acts.{Says, Grows, shown_by, Acts, MayAct}
-use Rattle.nb_session.specs.Askers.{TaskFits, left_refused, left_task, task_left}
-use Rattle.nb_session.specs.Ready.{IsReady}
-use Rattle.nb_session.specs.Replies.{HasEnded, is_refusal}
-use Rattle.nb_session.specs.Says.{EndsEarly, SaysLine}
-use Rattle.nb_session.specs.Steps.{as_played, touching, GoesFurther, IsBehind, Turns}
-use Rattle.nb_session.specs.Stops.{Plays}
-use Rattle.nb_session.specs.Told.{told_line, told_reply, told_turns}
 use Rattle.nb_session.proofs.EventLaws.{Marks, event_failed, event_quiet, event_unsaid, event_said}
 use Rattle.nb_session.proofs.GiftLaws.{foretold_still, grows_joined, grows_none}
 use Rattle.nb_session.proofs.SaysLaws.{says_other}
@@ -48,10 +13,6 @@ pub plays_err : {T : Type 0} (refused : T → Bool) (result : Result T RunError)
     → ((e : RunError) → Plays (Err e) old new before after t now p files) → Plays (as_played refused result) old new before after t now p files
 plays_err refused (Ok value) old new before after t now p files is plays = absurd (cc (is))
 plays_err refused (Err e) old new before after t now p files is plays = plays e
-
-err_none : {S : Type 0} (result : Result S RunError) (P : S → Type 0) → IsErr result → IfOk result P
-err_none (Ok value) P is = absurd (cc (is))
-err_none (Err e) P is = tt
 
 -- A turn of the session that has it to do next, and `tail` and `more` after it.
 module _ {T S : Type 0} (how : Told) (reply : T → Option Reply) (result : Result T Fault) (refused : S → Bool) (task : S → Option Task) (old mid new : World) (e0 e1 : Held) (t : Trail) (now : Now) (session : ℕ)
@@ -72,7 +33,7 @@ module _ {T S : Type 0} (how : Told) (reply : T → Option Reply) (result : Resu
     grows = may.grows;
     plays = λ told. plays_err refused answer old mid e0 e1 t now played (touching session u tail now) failed (event_failed how old mid mid e0 e1 t now session u tail more result reply (acting told) (marks told));
     unchanged = λ told. (acting told).unchanged;
-    behind = λ told. err_none answer _ failed;
+    behind = λ told. IfOk-from_err answer _ failed;
   }
 
   -- it has nothing to say
@@ -104,7 +65,7 @@ module _ {T S : Type 0} (how : Told) (reply : T → Option Reply) (result : Resu
           plays_err refused answer old new e0 e1 t now played (touching session u tail now) failed
           (event_unsaid how old mid new e0 e1 t now session u tail more result reply acts (marks (before told)) has place ready makes r (is_said _ acts.says) line_said says);
       unchanged = λ told only. says.still.files ∙ (acting (before told)).unchanged only;
-      behind = λ told. err_none answer _ failed;
+      behind = λ told. IfOk-from_err answer _ failed;
     }
 
     -- it was
@@ -183,10 +144,7 @@ status_told session statement now r is =
 
 -- after a reply that is no refusal it is 0
 pub status_none : (r : Reply) → is_refusal r ≡ false → status_after r ≡ 0
-status_none r none = status_plain r (λ usage. refused_is (sym none ∙ ap is_refusal usage)) ∙ ap (λ (b : Bool). if b then 1 else 0) none
-  where
-    refused_is : false ≡ true → ⊥
-    refused_is e = cc
+status_none r none = status_plain r (λ usage. false_true (sym none ∙ ap is_refusal usage)) ∙ ap (λ (b : Bool). if b then 1 else 0) none
 
 -- a statement that is done in one turn leaves nothing after it
 pub single_behind : (w : World) (held : Held) (session : ℕ) (statement : Statement) (now : Now) → IsSingle statement → IsBehind w held session (Begins statement) [] now None

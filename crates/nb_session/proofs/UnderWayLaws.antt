@@ -1,16 +1,7 @@
 -- What a session is still to make, and for which of them it runs.
 use Rattle.std.proofs.Common.{Bool, ◌≡◌, ◌≢◌, ℕ, zero, suc, ◌-◌, List, [], ◌∷◌, ◌++◌, map, get_or, refl, ap, subst}
-use Rattle.std.specs.List.{slice_index_or}
-use Rattle.nb_model.specs.declared.statement.Statement.{Statement}
-use Rattle.nb_model.specs.Going.{IsBeginning, AreBeginnings, AreMerging, Runs, IsAt, waits, backs_up, copies, ends, merges, IsGoing}
-use Rattle.nb_model.specs.Image.{Image}
-use Rattle.nb_model.specs.Levels.{file_of, joined}
-use Rattle.nb_model.specs.Making.{MadeFile, kept_of, making, making_by, making_all, under_way, AreAmong}
-use Rattle.nb_model.specs.Outcomes.{Turn, Begins, Copies, ClosesBackup, ClosesCopy, Ends, Merges, Finishes}
-use Rattle.nb_model.specs.Run.{Now, base_now}
-use Rattle.nb_model.proofs.GoingLaws.{one_runs}
-use Rattle.nb_session.specs.Askers.{copy_first}
-use Rattle.nb_session.proofs.MadeLaws.{none_among, among_left, among_right}
+use Rattle.nb_session.proofs.Common.{slice_index_or, Statement, IsBeginning, AreBeginnings, AreMerging, Runs, IsAt, waits, backs_up, copies, ends, merges, IsGoing, Image, file_of, joined, MadeFile, kept_of, making, making_by, making_all, under_way, AreAmong, Turn, Begins, Copies, ClosesBackup, ClosesCopy, Ends, Merges, Finishes, Now, base_now, one_runs, copy_first, beginnings_make, Contains-append_left, Contains-append_right}
+use Rattle.nb_session.proofs.MadeLaws.{none_among}
 
 -- turns after turns
 pub making_append : (frozen : Image) (ts us : List Turn) → making frozen (ts ++ us) ≡ making frozen ts ++ making frozen us
@@ -30,19 +21,13 @@ unfolding making
 making_begins frozen [] = refl
 making_begins frozen (s ∷ statements) = making_begins frozen statements
 
-beginnings_make : (frozen : Image) (ts : List Turn) → AreBeginnings ts → making frozen ts ≡ []
-unfolding making
-beginnings_make frozen [] all = refl
-beginnings_make frozen (Begins statement ∷ ts) all = beginnings_make frozen ts all.1
-beginnings_make frozen (other ∷ ts) all = absurd all.0
-
 -- what a session is to make is under way
 at_among : (frozen : Image) (todo : List (List Turn)) (place : ℕ) → AreAmong (making frozen (get_or todo place [])) (making_all frozen todo)
 unfolding making making_all
 at_among frozen [] zero file there = none_among [] file there
 at_among frozen [] (suc place) file there = none_among [] file there
-at_among frozen (ts ∷ todo) zero file there = among_left (making frozen ts) (making_all frozen todo) file there
-at_among frozen (ts ∷ todo) (suc place) file there = among_right (making frozen ts) (making_all frozen todo) file (at_among frozen todo place file there)
+at_among frozen (ts ∷ todo) zero file there = Contains-append_left (making frozen ts) (making_all frozen todo) file there
+at_among frozen (ts ∷ todo) (suc place) file there = Contains-append_right (making frozen ts) (making_all frozen todo) file (at_among frozen todo place file there)
 
 pub by_among : (session : ℕ) (now : Now) → AreAmong (making_by session now) (under_way now)
 by_among session now = at_among (base_now now).frozen now.todo (session - 1)

@@ -1,13 +1,6 @@
 -- What a session has to do next, and what the database is like then.
-use Rattle.std.proofs.Common.{◌≡◌, ℕ, zero, suc, List, [], ◌∷◌, ◌++◌, ◌<◌, length, replicate, refl, ap, subst, ◌∙◌}
-use Rattle.std.specs.Prelude.{Bool, Option, Some, None, true}
-use Rattle.nb_model.specs.declared.reply.Reply.{Reply}
-use Rattle.nb_model.specs.Causes.{is_free_entry}
-use Rattle.nb_model.specs.Forms.{HasItsEntry}
-use Rattle.nb_model.specs.Going.{AreBeginnings, AreMerging, Runs, IsAt, waits, backs_up, copies, ends, merges}
-use Rattle.nb_model.specs.Outcomes.{Turn, Begins, Copies, ClosesBackup, ClosesCopy, Ends, Merges, Finishes, Backing}
-use Rattle.nb_model.specs.Run.{Now, base_now}
-use Rattle.nb_session.specs.Askers.{copy_first, copy_rest, merge_first, merge_rest}
+use Rattle.std.proofs.Common.{◌≡◌, ℕ, zero, suc, List, [], ◌∷◌, ◌++◌, ◌<◌, length, replicate, refl, ap, subst, ◌∙◌, Bool, Option, Some, None, true}
+use Rattle.nb_session.proofs.Common.{Reply, is_free_entry, HasItsEntry, AreBeginnings, AreMerging, Runs, IsAt, waits, backs_up, copies, ends, merges, Turn, Begins, Copies, ClosesBackup, ClosesCopy, Ends, Merges, Finishes, Backing, Now, base_now, copy_first, copy_rest, merge_first, merge_rest}
 
 -- so many turns and a last one
 pub copy_turns : (left : ℕ) (last : Turn) → replicate left Copies ++ last ∷ [] ≡ copy_first left last ∷ copy_rest left last

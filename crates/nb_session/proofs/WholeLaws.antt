@@ -1,47 +1,12 @@
 -- A script that is played: its schedule, and then rounds until all sessions have finished.
-use Rattle.std.proofs.Common.{◌≡◌, ℕ, zero, suc, ◌+◌, ◌-◌, ◌≤◌, List, [], ◌∷◌, ◌++◌, length, map, get_or, append_assoc, inl, inr, refl, sym, ap, subst, ◌∙◌, arith}
-use Rattle.std.specs.Prelude.{Bool, IsTrue, true, false, Result, Ok, Err, Some, None, Contains, slice_get}
-use Rattle.std.specs.List.{AllByRecursion, range_with_len, slice_index_or}
-use Rattle.std.proofs.lemmas.Bool.{cases_lt}
-use Rattle.std.proofs.lemmas.List.{append-nil, get_or_past, length-map}
-use Rattle.std.proofs.Math.ListN.{get_or-map}
-use Rattle.nb_host.specs.Names.{is_delta}
-use Rattle.nb_host.specs.World.{World}
-use Rattle.nb_host.specs.Moments.{IsTimely}
-use Rattle.nb_host.specs.Causes.{CountsRun}
-use Rattle.nb_host.specs.declared.faults.RunError.{RunError}
-use Rattle.nb_model.specs.Causes.{is_free_entry}
-use Rattle.nb_model.specs.Gifts.{Foretells}
-use Rattle.nb_model.specs.Going.{IsMaking}
-use Rattle.nb_model.specs.Making.{MadeFile, under_way, AreAmong}
-use Rattle.nb_model.specs.Outcomes.{Turn, Begins}
-use Rattle.nb_model.specs.Run.{Event, Now, Played, one_turn, play, rounds, all_sessions, files_made, AreFinished, begun}
-use Rattle.nb_model.specs.Steps.{steps_of, after_steps}
-use Rattle.nb_model.specs.Trail.{Trail}
-use Rattle.nb_model.proofs.GoingLaws.{own_in_use}
-use Rattle.nb_model.proofs.MakingLaws.{free_play, made_once}
-use Rattle.nb_model.proofs.RunLaws.{play-append}
-use Rattle.nb_model.proofs.StandsLaws.{no_main}
-use Rattle.nb_sched.specs.Turns.{Scene, scene, agent_of, AllDone, IsReady as AreReady, TakesTurns, EndsWith, FailsBehind}
+use Rattle.std.proofs.Common.{◌≡◌, ℕ, zero, suc, ◌+◌, ◌-◌, ◌≤◌, List, [], ◌∷◌, ◌++◌, length, map, get_or, append_assoc, inl, inr, refl, sym, ap, subst, ◌∙◌, arith, Bool, IsTrue, true, false, Result, Ok, Err, Some, None, Contains, slice_get}
+use Rattle.nb_session.proofs.Common.{AllByRecursion, range_with_len, slice_index_or, cases_lt, append-nil, get_or_past, length-map, get_or-map, is_delta, World, IsTimely, CountsRun, RunError, is_free_entry, Foretells, IsMaking, MadeFile, under_way, AreAmong, Turn, Begins, Event, Now, Played, one_turn, play, rounds, all_sessions, files_made, AreFinished, begun, steps_of, after_steps, Trail, own_in_use, free_play, made_once, play-append, no_main, Scene, scene, agent_of, AllDone, TakesTurns, EndsWith, FailsBehind, IsAskable, IsSession, Plan, Held, name_of, Told, Grows, Asker, HasTodo, left_of, IsFit, any_refused, fresh_asker, first_askers, IsReady, Plays, shown_next, touching_by, PlaysInTurn, told_events, told_turns, all_append, Contains-append_left}
+use Rattle.nb_sched.specs.Turns.{IsReady as AreReady}
 use Rattle.nb_sched.proofs.TurnLaws.{turns_hold}
-use Rattle.nb_script.specs.Asked.{IsAskable}
-use Rattle.nb_script.specs.Fits.{IsSession}
-use Rattle.nb_script.specs.Scripts.{Plan}
-use Rattle.nb_state.specs.Open.{Held, name_of}
-use Rattle.nb_session.specs.declared.told.Told.{Told}
-use Rattle.nb_session.specs.Acts.{Grows}
-use Rattle.nb_session.specs.Askers.{Asker, HasTodo, left_of, IsFit, any_refused, fresh_asker, first_askers}
-use Rattle.nb_session.specs.Ready.{IsReady}
-use Rattle.nb_session.specs.Stops.{Plays}
-use Rattle.nb_session.specs.Steps.{shown_next, touching_by}
-use Rattle.nb_session.specs.Todo.{PlaysInTurn}
-use Rattle.nb_session.specs.Told.{told_events, told_turns}
-use Rattle.nb_session.proofs.AllLaws.{all_append}
 use Rattle.nb_session.proofs.EndLaws.{turns_end}
 use Rattle.nb_session.proofs.GiftLaws.{foretold_first, grows_joined}
 use Rattle.nb_session.proofs.GuidsTaken.{given_taken}
 use Rattle.nb_session.proofs.InTurnLaws.{told_trail}
-use Rattle.nb_session.proofs.MadeLaws.{among_left}
 use Rattle.nb_session.proofs.NameLaws.{HaveNames, made_named, begun_plain}
 use Rattle.nb_session.proofs.NextLaws.{play_length, play_more, next_among, next_once, next_others, play_ahead, finished_among}
 use Rattle.nb_session.proofs.PlayLaws.{behind, trail_after, plays_none, plays_wider, plays_failed, plays_cut}
@@ -95,7 +60,7 @@ all_finished (ts ∷ todo) none = subst (λ (xs : List Turn). AreFinished (xs �
 made_apart : (w : World) (held : Held) (t : Trail) (now : Now) → IsReady w held t now → IsMaking now → HaveNames (λ name. is_delta name ≡ false) now → (order : List ℕ) → AreApart (name_of held) (files_made (play order now).0)
 made_apart w held t now ready making plain order n bytes there (inl own) =
     own_in_use now making.going (subst (λ (m : List ℕ). is_free_entry (now.account.entry m) ≡ true) (own ∙ ready.named)
-    (free_play order now making.named making.going (n, bytes) (among_left (files_made (play order now).0) (under_way (play order now).1) (n, bytes) there)))
+    (free_play order now making.named making.going (n, bytes) (Contains-append_left (files_made (play order now).0) (under_way (play order now).1) (n, bytes) there)))
 made_apart w held t now ready making plain order n bytes there (inr delta) = no_main (name_of held) n (made_named (λ name. is_delta name ≡ false) order now plain (n, bytes) there) (sym delta)
 
 module _ {H : Type 0} (tells : Bool) (told : IsTrue tells) (world : H → World) (faults : H → ℕ) (old : H) (before : Held) (how : Told) (plan : Plan) (askable : IsAskable plan) (how_often : ℕ) (timely : IsTimely (world old)) where

@@ -1,18 +1,13 @@
 -- What an inventory page says of the pages that have their bits in it.
-use Rattle.std.proofs.Common.{◌≡◌, ◌↔◌, ℕ, ◌+◌, ◌*◌, ◌/◌, ◌%◌, ◌<◌, length, get_or, refl, sym, ap, subst, ◌∙◌, arith}
-use Rattle.std.specs.Prelude.{Bool, true, false, not, ◌==◌, IsTrue}
+use Rattle.std.proofs.Common.{◌≡◌, ◌↔◌, ℕ, ◌+◌, ◌*◌, ◌/◌, ◌%◌, ◌<◌, length, get_or, refl, sym, ap, subst, ◌∙◌, arith, Bool, true, false, not, ◌==◌, IsTrue}
+use Rattle.nb_shown.proofs.Common.{bits_in, inventory_place, Page, Image, page_at, image_size, is_free_page}
 use Rattle.std.proofs.lemmas.Nat.{div-mul-add, mod-mul-add}
 use Rattle.std.proofs.lemmas.Nat.Bits.{bit_at-lt}
-use Rattle.nb_fields.specs.Places.{bits_in, inventory_place}
 use Rattle.nb_fields.specs.Payloads.{bit_of}
 use Rattle.nb_pip.specs.Bits.{bits}
 use Rattle.nb_pip.proofs.BitLaws.{get_or-bits}
-use Rattle.nb_model.specs.Image.{Page, Image, page_at, image_size}
-use Rattle.nb_model.specs.Forms.{is_free_page}
 use Rattle.nb_model.proofs.ReadLaws.{eq_no, eq_yes}
-
-not_false : IsTrue false → ⊥
-not_false e = cc
+use Rattle.nb_host.proofs.PlainLaws.{never}
 
 module _ (image : Image) (size k bit : ℕ) (map : Page) (same : size ≡ image_size image) (page : map ≡ page_at image (inventory_place size k)) (long : length map ≡ size) (inside : bit < bits_in size) where
   abbrev p : ℕ
@@ -35,5 +30,5 @@ module _ (image : Image) (size k bit : ℕ) (map : Page) (same : size ≡ image_
   used_is true is = sym (ap not (free_there ∙ eq_no (get_or (bits map) bit 0) 1 (λ e. absurd (omega (arith, e, is.0 refl)))))
   used_is false is =
       let small : bit_of map bit < 2 = bit_at-lt _ _ in
-      let other : get_or (bits map) bit 0 ≡ 0 → ⊥ = λ e. not_false (is.1 e) in
+      let other : get_or (bits map) bit 0 ≡ 0 → ⊥ = λ e. never (is.1 e) in
       sym (ap not (free_there ∙ eq_yes (get_or (bits map) bit 0) 1 (omega (arith, small, read_is, other))))

@@ -1,13 +1,7 @@
 -- Pages are counted one after the other.
-use Rattle.std.proofs.Common.{◌≡◌, ℕ, zero, suc, ◌+◌, refl, sym, ap, ◌∙◌, arith}
+use Rattle.std.proofs.Common.{◌≡◌, ℕ, zero, suc, ◌+◌, refl, sym, ap, ◌∙◌, arith, Bool, true, false, not, ◌==◌}
+use Rattle.nb_shown.proofs.Common.{kind_of, Image, page_at, is_free_page, count_from, is_other, PageCounts, counts_below, is_taken_of, one_if, with_page}
 use Rattle.std.proofs.lemmas.Bool.{true≢false}
-use Rattle.std.specs.Prelude.{Bool, true, false, not, ◌==◌}
-use Rattle.nb_fields.specs.Page.{kind_of}
-use Rattle.nb_model.specs.Image.{Image, page_at}
-use Rattle.nb_model.specs.Forms.{is_free_page}
-use Rattle.nb_model.specs.Backups.{count_from, is_other}
-use Rattle.nb_shown.specs.declared.counts.PageCounts.{PageCounts}
-use Rattle.nb_shown.specs.Counts.{counts_below, is_taken_of, one_if, with_page}
 
 -- one that counts, or one that doesn't, before the others
 abbrev before : Bool → ℕ → ℕ

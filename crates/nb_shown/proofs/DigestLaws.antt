@@ -1,11 +1,10 @@
 -- The bytes of the pages so far.
 use Rattle.std.proofs.Common.{◌≡◌, ℕ, suc, ◌<◌, List, [], ◌∷◌, ◌++◌, length, take, sym, ap, ◌∙◌}
+use Rattle.nb_shown.proofs.Common.{Page, Image, page_at, bytes_of_image}
 use Rattle.std.proofs.Math.Seq.{take-suc}
 use Rattle.std.proofs.lemmas.Grind.{flat_map-append}
 use Rattle.std.proofs.lemmas.List.{append-nil}
 use Rattle.std.proofs.lemmas.List.Concat.{flat_map-cons}
-use Rattle.nb_model.specs.Image.{Page, Image, page_at}
-use Rattle.nb_shown.specs.Replies.{bytes_of_image}
 
 one_page : (page : Page) → bytes_of_image (page ∷ []) ≡ page
 one_page page = flat_map-cons (λ (p : Page). p) page [] ∙ append-nil page

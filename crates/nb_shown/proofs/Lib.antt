@@ -4,3 +4,4 @@ pub mod BitLaws
 pub mod DigestLaws
 pub mod TurnLaws
 pub mod ReadCounts
+mod Common

@@ -1,17 +1,8 @@
 -- The inventory pages that are needed, one after the other.
-use Rattle.std.proofs.Common.{◌≡◌, inl, inr, ℕ, zero, suc, ◌+◌, ◌-◌, ◌*◌, ◌/◌, ◌<◌, ◌≤◌, List, [], ◌∷◌, length, refl, sym, ap, subst, ◌∙◌, arith}
-use Rattle.std.specs.Prelude.{Bool, true, false, not, IsTrue, Some, None, min}
-use Rattle.std.proofs.Math.Nat.{le-div_iff_mul-le}
+use Rattle.std.proofs.Common.{◌≡◌, inl, inr, ℕ, zero, suc, ◌+◌, ◌-◌, ◌*◌, ◌/◌, ◌<◌, ◌≤◌, List, [], ◌∷◌, length, refl, sym, ap, subst, ◌∙◌, arith, Bool, true, false, not, IsTrue, Some, None, min}
+use Rattle.nb_shown.proofs.Common.{le-div_iff_mul-le, is_page_size, bits_in, inventory_place, bits-least, inventory_kind, Refusal, Image, image_size, Draft, drafted, is_kind, needs, needs_inventories, all_needed, lowest_broken, not_kind, not_of_form, when}
 use Rattle.std.proofs.lemmas.Bool.Decides.{leb_tells}
-use Rattle.nb_fields.specs.Places.{is_page_size, bits_in, inventory_place}
-use Rattle.nb_fields.proofs.PlaceLaws.{bits-least}
-use Rattle.nb_fields.specs.Kinds.{inventory_kind}
-use Rattle.nb_host.specs.declared.refusals.Refusal.{Refusal}
 use Rattle.nb_host.specs.declared.refusals.Refusal.TheVariants.{NotDatabase}
-use Rattle.nb_model.specs.Image.{Image, image_size}
-use Rattle.nb_model.specs.Forms.{Draft, drafted, is_kind, needs, needs_inventories}
-use Rattle.nb_model.specs.Backups.{all_needed}
-use Rattle.nb_model.specs.Causes.{lowest_broken, not_kind, not_of_form, when}
 
 -- inventory pages stand in rising order
 place_rises : (size k : ℕ) → IsTrue (is_page_size size) → inventory_place size k ≤ inventory_place size (k + 1)

@@ -1,6 +1,5 @@
 -- How many reads were made.
-use Rattle.std.proofs.Common.{ℕ, zero, suc, ◌+◌, ◌-◌, ◌<◌, ◌≤◌, arith}
-use Rattle.std.specs.Prelude.{min}
+use Rattle.std.proofs.Common.{ℕ, zero, suc, ◌+◌, ◌-◌, ◌<◌, ◌≤◌, arith, min}
 
 -- Page 0 may have taken two.
 pub page_read : (old loop new number bit : ℕ) → (0 < number → new ≤ loop + 1) → new ≤ loop + 2 → bit ≤ number → loop ≤ old + bit + min bit 1 → new ≤ old + (bit + 1) + min (bit + 1) 1
@@ -12,7 +11,3 @@ pub pages_read : (old loop new first end k : ℕ) → (0 < first → new ≤ loo
     → new ≤ old + end + (k + 1) + min (k + 1) 1
 pages_read old loop new zero end k once front few rises so_far = omega (arith, front, few, so_far)
 pages_read old loop new (suc n) end k once front few rises so_far = let one : new ≤ loop + 1 + (end - suc n) = once (omega arith) in omega (arith, one, rises, so_far)
-
--- pages one by one, of which page 0 may have taken two
-pub fed_read : (old loop new number : ℕ) → (0 < number → new ≤ loop + 1) → new ≤ loop + 2 → loop ≤ old + number + min number 1 → new ≤ old + (number + 1) + min (number + 1) 1
-fed_read old loop new number once twice so_far = page_read old loop new number number once twice (omega arith) so_far

@@ -1,22 +1,12 @@
 -- What is shown is what the turns say.
-use Rattle.std.proofs.Common.{◌≡◌, ℕ, List, [], length, sym, ap, subst, ◌∙◌}
-use Rattle.std.specs.Prelude.{Some, None, Result}
+use Rattle.std.proofs.Common.{◌≡◌, ℕ, List, [], length, sym, ap, subst, ◌∙◌, Some, None, Result}
+use Rattle.nb_shown.proofs.Common.{inventory_place, inventory_kind, Refusal, all_needed, pages_turn, taken_of, Cause, not_kind, not_of_form, Image, image_turn, PageCounts, counts_below, bytes_of_image, image_shown, pages_shown}
 use Rattle.sha2.specs.Sha256.{sha256}
-use Rattle.nb_fields.specs.Places.{inventory_place}
-use Rattle.nb_fields.specs.Kinds.{inventory_kind}
 use Rattle.nb_host.specs.declared.faults.Fault.{Fault}
-use Rattle.nb_host.specs.declared.refusals.Refusal.{Refusal}
 use Rattle.nb_model.specs.declared.reply.Reply.TheVariants.{Refused}
-use Rattle.nb_model.specs.Backups.{all_needed, pages_turn, taken_of}
-use Rattle.nb_model.specs.Causes.{Cause, not_kind, not_of_form}
-use Rattle.nb_model.specs.Image.{Image}
 use Rattle.nb_model.specs.Outcomes.{Seen, says}
-use Rattle.nb_model.specs.Pages.{image_turn}
 use Rattle.nb_state.specs.Does.{Tested}
 use Rattle.nb_alloc.proofs.CauseLaws.{unless_refused, unless_allowed}
-use Rattle.nb_shown.specs.declared.counts.PageCounts.{PageCounts}
-use Rattle.nb_shown.specs.Counts.{counts_below}
-use Rattle.nb_shown.specs.Replies.{bytes_of_image, image_shown, pages_shown}
 
 -- the same test, by the page size
 pub tested_at : {T : Type 0} (result : Result T Fault) (image : Image) (n m k : ℕ) → n ≡ m → Tested result (not_kind image inventory_kind (inventory_place n k)) → Tested result (not_kind image inventory_kind (inventory_place m k))

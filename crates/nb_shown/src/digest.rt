@@ -4,11 +4,11 @@ ghost use Rattle.sha2.specs.Hashers.{Holds256};
 ghost use Rattle.sha2.specs.Sha256.{sha256};
 ghost use Rattle.nb_host.specs.Causes.{CountsDevice, CountsFault};
 ghost use Rattle.nb_host.specs.declared.faults.Fault.TheVariants.{Device};
-ghost use Rattle.nb_page.specs.Quiet.{Quiet};
 ghost use Rattle.nb_model.specs.Outcomes.{Seen};
 ghost use Rattle.nb_model.specs.Pages.{image_turn};
 ghost use Rattle.nb_model.specs.Trail.{Trail};
-ghost use Rattle.nb_state.specs.Open.{IsOpen, but_pages};
+ghost use Rattle.nb_state.specs.Open.{IsOpen};
+ghost use Rattle.nb_state.specs.Looks.{Looks};
 ghost use Rattle.nb_state.specs.Does.{Does, Goes};
 ghost use Rattle.nb_shown.specs.Replies.{bytes_of_image, image_shown};
 
@@ -26,9 +26,7 @@ fn feed_pages<H: Host>(
 ) -> Result<(), HostFault>
     requires size { length page.old ≡ engine.old.files.page_size }
     ensures holds { (t : Trail) → IsTrue H.tells → IsOpen (H.world host.old) engine.old t → Holds256 hasher.old [] → OnOk result (Holds256 hasher.new (bytes_of_image t.base.image)) }
-    ensures open { (t : Trail) → IsTrue H.tells → IsOpen (H.world host.old) engine.old t → IsOpen (H.world host.new) engine.new t }
-    ensures same { but_pages engine.new ≡ but_pages engine.old }
-    ensures quiet { Quiet (H.world host.old) (H.world host.new) }
+    ensures looks { Looks H.tells (H.world host.old) (H.world host.new) engine.old engine.new }
     ensures once { IsTrue H.tells → (H.world host.new).reads ≤ (H.world host.old).reads + engine.old.files.count + 1 }
     ensures cause { CountsFault result (H.faults host.old) (H.faults host.new) }
 {
@@ -46,10 +44,8 @@ pub fn image_digest<H: Host>(host: &mut H, engine: &mut Engine) -> Result<[u8; 3
     ensures digest { (t : Trail) → IsTrue H.tells → IsOpen (H.world host.old) engine.old t → IfOk result (λ digest. digest ≡ sha256 (bytes_of_image t.base.image)) }
     ensures turn { (s : Seen) (t : Trail) → IsTrue H.tells → t.base ≡ s.base → IsOpen (H.world host.old) engine.old t
         → Does (image_shown engine.old.files.count) result (H.world host.old) (H.world host.new) engine.old engine.new t (image_turn s) }
-    ensures open { (t : Trail) → IsTrue H.tells → IsOpen (H.world host.old) engine.old t → IsOpen (H.world host.new) engine.new t }
+    ensures looks { Looks H.tells (H.world host.old) (H.world host.new) engine.old engine.new }
     ensures goes { Goes engine.old engine.new }
-    ensures same { but_pages engine.new ≡ but_pages engine.old }
-    ensures quiet { Quiet (H.world host.old) (H.world host.new) }
     ensures once { IsTrue H.tells → (H.world host.new).reads ≤ (H.world host.old).reads + engine.old.files.count + 1 }
     ensures cause { CountsDevice result (H.faults host.old) (H.faults host.new) }
     ensures only_device { IfErr result (λ fault. fault ≡ Device) }

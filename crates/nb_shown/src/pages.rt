@@ -4,14 +4,14 @@ ghost use Rattle.nb_fields.specs.Places.{is_page_size, bits_in, inventory_place,
 ghost use Rattle.nb_fields.specs.Kinds.{inventory_kind};
 ghost use Rattle.nb_host.specs.Causes.{CountsDevice, CountsFault};
 ghost use Rattle.nb_host.specs.declared.faults.Fault.TheVariants.{Memory};
-ghost use Rattle.nb_page.specs.Quiet.{Quiet};
 ghost use Rattle.nb_model.specs.Backups.{all_needed, pages_turn};
 ghost use Rattle.nb_model.specs.Causes.{not_kind, not_of_form};
 ghost use Rattle.nb_model.specs.Forms.{is_free_page};
 ghost use Rattle.nb_model.specs.Image.{page_at};
 ghost use Rattle.nb_model.specs.Outcomes.{Seen};
 ghost use Rattle.nb_model.specs.Trail.{Trail};
-ghost use Rattle.nb_state.specs.Open.{IsOpen, but_pages};
+ghost use Rattle.nb_state.specs.Open.{IsOpen};
+ghost use Rattle.nb_state.specs.Looks.{Looks};
 ghost use Rattle.nb_state.specs.Does.{Does, Goes, Tested};
 ghost use Rattle.nb_engine.specs.Put.{Reads};
 ghost use Rattle.nb_shown.specs.Counts.{counts_below, inventories_below, sum_of};
@@ -35,9 +35,7 @@ fn read_map<H: Host>(
     requires room { length map.old ≡ engine.old.files.page_size }
     requires low { 0 < place }
     ensures reads { (t : Trail) → IsTrue H.tells → IsOpen (H.world host.old) engine.old t → Reads result t.base.image (not_kind t.base.image inventory_kind place) place map.new }
-    ensures open { (t : Trail) → IsTrue H.tells → IsOpen (H.world host.old) engine.old t → IsOpen (H.world host.new) engine.new t }
-    ensures same { but_pages engine.new ≡ but_pages engine.old }
-    ensures quiet { Quiet (H.world host.old) (H.world host.new) }
+    ensures looks { Looks H.tells (H.world host.old) (H.world host.new) engine.old engine.new }
     ensures once { IsTrue H.tells → (H.world host.new).reads ≤ (H.world host.old).reads + 1 }
     ensures cause { CountsDevice result (H.faults host.old) (H.faults host.new) }
     ensures takes_none { IfErr result (λ fault. fault ≢ Memory) }
@@ -67,9 +65,7 @@ fn count_page<H: Host>(
     ensures counts { (t : Trail) → IsTrue H.tells → IsOpen (H.world host.old) engine.old t → number < length t.base.image → used ≡ not (is_free_page t.base.image number)
         → counts.old ≡ counts_below t.base.image number → OnOk result (counts.new ≡ counts_below t.base.image (number + 1)) }
     ensures sum { OnOk result (sum_of counts.new ≡ sum_of counts.old + 1) }
-    ensures open { (t : Trail) → IsTrue H.tells → IsOpen (H.world host.old) engine.old t → IsOpen (H.world host.new) engine.new t }
-    ensures same { but_pages engine.new ≡ but_pages engine.old }
-    ensures quiet { Quiet (H.world host.old) (H.world host.new) }
+    ensures looks { Looks H.tells (H.world host.old) (H.world host.new) engine.old engine.new }
     ensures once { IsTrue H.tells → 0 < number → (H.world host.new).reads ≤ (H.world host.old).reads + 1 }
     ensures twice { IsTrue H.tells → (H.world host.new).reads ≤ (H.world host.old).reads + 2 }
     ensures cause { CountsFault result (H.faults host.old) (H.faults host.new) }
@@ -103,9 +99,7 @@ fn count_covered<H: Host>(
         → map.now ≡ page_at t.base.image (inventory_place (length page.old) k) → first + len ≤ length t.base.image
         → counts.old ≡ counts_below t.base.image first → OnOk result (counts.new ≡ counts_below t.base.image (first + len)) }
     ensures sum { OnOk result (sum_of counts.new ≡ first + len) }
-    ensures open { (t : Trail) → IsTrue H.tells → IsOpen (H.world host.old) engine.old t → IsOpen (H.world host.new) engine.new t }
-    ensures same { but_pages engine.new ≡ but_pages engine.old }
-    ensures quiet { Quiet (H.world host.old) (H.world host.new) }
+    ensures looks { Looks H.tells (H.world host.old) (H.world host.new) engine.old engine.new }
     ensures once { IsTrue H.tells → 0 < first → (H.world host.new).reads ≤ (H.world host.old).reads + len }
     ensures front { IsTrue H.tells → (H.world host.new).reads ≤ (H.world host.old).reads + len + 1 }
     ensures cause { CountsFault result (H.faults host.old) (H.faults host.new) }
@@ -137,9 +131,7 @@ fn count_next<H: Host>(
     ensures counts { (t : Trail) → IsTrue H.tells → IsOpen (H.world host.old) engine.old t → counts.old ≡ counts_below t.base.image first → IfOk result (λ end. counts.new ≡ counts_below t.base.image end) }
     ensures end { IfOk result (λ end. end ≡ min engine.old.files.count (first + bits_in (length page.old))) }
     ensures sum { IfOk result (λ end. sum_of counts.new ≡ end) }
-    ensures open { (t : Trail) → IsTrue H.tells → IsOpen (H.world host.old) engine.old t → IsOpen (H.world host.new) engine.new t }
-    ensures same { but_pages engine.new ≡ but_pages engine.old }
-    ensures quiet { Quiet (H.world host.old) (H.world host.new) }
+    ensures looks { Looks H.tells (H.world host.old) (H.world host.new) engine.old engine.new }
     ensures once { IsTrue H.tells → 0 < first → (H.world host.new).reads ≤ (H.world host.old).reads + 1 + (min engine.old.files.count (first + bits_in (length page.old)) - first) }
     ensures front { IsTrue H.tells → (H.world host.new).reads ≤ (H.world host.old).reads + 2 + (min engine.old.files.count (first + bits_in (length page.old)) - first) }
     ensures cause { CountsDevice result (H.faults host.old) (H.faults host.new) }
@@ -165,9 +157,7 @@ fn count_all<H: Host>(
     ensures test { (t : Trail) → IsTrue H.tells → IsOpen (H.world host.old) engine.old t → Tested result (not_of_form (all_needed t.base.image)) }
     ensures counts { (t : Trail) → IsTrue H.tells → IsOpen (H.world host.old) engine.old t → IfOk result (λ counts. counts ≡ counts_below t.base.image (length t.base.image)) }
     ensures all { IfOk result (λ counts. sum_of counts ≡ engine.old.files.count) }
-    ensures open { (t : Trail) → IsTrue H.tells → IsOpen (H.world host.old) engine.old t → IsOpen (H.world host.new) engine.new t }
-    ensures same { but_pages engine.new ≡ but_pages engine.old }
-    ensures quiet { Quiet (H.world host.old) (H.world host.new) }
+    ensures looks { Looks H.tells (H.world host.old) (H.world host.new) engine.old engine.new }
     ensures once { IsTrue H.tells → (H.world host.new).reads ≤ (H.world host.old).reads + engine.old.files.count + inventories_below engine.old.files.page_size engine.old.files.count + 1 }
     ensures cause { CountsDevice result (H.faults host.old) (H.faults host.new) }
     ensures takes_none { IfErr result (λ fault. fault ≢ Memory) }
@@ -191,10 +181,8 @@ pub fn count_pages<H: Host>(host: &mut H, engine: &mut Engine) -> Result<PageCou
     ensures turn { (s : Seen) (t : Trail) → IsTrue H.tells → t.base ≡ s.base → IsOpen (H.world host.old) engine.old t
         → Does pages_shown result (H.world host.old) (H.world host.new) engine.old engine.new t (pages_turn s) }
     ensures all { IfOk result (λ counts. sum_of counts ≡ engine.old.files.count) }
-    ensures open { (t : Trail) → IsTrue H.tells → IsOpen (H.world host.old) engine.old t → IsOpen (H.world host.new) engine.new t }
+    ensures looks { Looks H.tells (H.world host.old) (H.world host.new) engine.old engine.new }
     ensures goes { Goes engine.old engine.new }
-    ensures same { but_pages engine.new ≡ but_pages engine.old }
-    ensures quiet { Quiet (H.world host.old) (H.world host.new) }
     ensures once { IsTrue H.tells → (H.world host.new).reads ≤ (H.world host.old).reads + engine.old.files.count + inventories_below engine.old.files.page_size engine.old.files.count + 1 }
     ensures cause { CountsDevice result (H.faults host.old) (H.faults host.new) }
     ensures takes_none { IfErr result (λ fault. fault ≢ Memory) }

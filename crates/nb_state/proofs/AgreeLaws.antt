@@ -1,26 +1,11 @@
 -- What is held of page 0 after a stroke.
-use Rattle.std.proofs.Common.{◌≡◌, inl, inr, ℕ, zero, suc, ◌<◌, ◌≤◌, List, length, refl, sym, ap, subst, ◌∙◌, arith}
-use Rattle.std.specs.Prelude.{true, not, ◌==◌}
+use Rattle.std.proofs.Common.{◌≡◌, inl, inr, ℕ, zero, suc, ◌<◌, ◌≤◌, List, length, refl, sym, ap, subst, ◌∙◌, arith, true, not, ◌==◌}
+use Rattle.nb_state.proofs.Common.{number_in, part, is_header, scn_of, guid_of, merge_state, World, Page, Image, first_page, image_scn, image_guid, Base, page, controlled, with_control, Trail, after_stroke, control_other, control_scn, control_guid, header-long, same-number, some_page, AreMerged, Fits, with_control-first, Held, AgreesWith, IsOpen, Goes}
 use Rattle.std.proofs.lemmas.Bool.Decides.{eqb_tells}
-use Rattle.nb_fields.specs.Bytes.{number_in, part}
-use Rattle.nb_fields.specs.Header.{is_header, scn_of, guid_of}
 use Rattle.nb_fields.proofs.PartLaws.{part-take}
-use Rattle.nb_fields.specs.States.{merge_state}
-use Rattle.nb_host.specs.World.{World}
-use Rattle.nb_model.specs.Image.{Page, Image, first_page, image_scn, image_guid}
-use Rattle.nb_model.specs.Account.{Base}
-use Rattle.nb_model.specs.Strokes.{page, controlled, with_control}
-use Rattle.nb_model.specs.Trail.{Trail, after_stroke}
-use Rattle.nb_model.proofs.ControlLaws.{control_other, control_scn, control_guid}
-use Rattle.nb_model.proofs.HeaderLaws.{header-long, same-number}
-use Rattle.nb_model.proofs.MainLaws.{some_page}
-use Rattle.nb_base.specs.Open.{AreMerged, Fits}
-use Rattle.nb_base.proofs.ControlLaws.{with_control-first}
 use Rattle.nb_base.proofs.AgreeLaws.{first_written, first_stays}
 use Rattle.nb_base.proofs.LeftLaws.{later_front}
 use Rattle.nb_owner.specs.Open.{IsOpen as PairOpen}
-use Rattle.nb_state.specs.Open.{Held, AgreesWith, IsOpen}
-use Rattle.nb_state.specs.Does.{Goes}
 
 -- what is held of page 0 goes by page 0 alone
 pub agrees_front : (held : Held) (a b : Base) → first_page b.image ≡ first_page a.image → AgreesWith held a → AgreesWith held b

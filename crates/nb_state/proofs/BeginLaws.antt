@@ -1,23 +1,13 @@
 -- A database is created or opened, as it is held.
-use Rattle.std.proofs.Common.{◌≡◌, ℕ, ◌<◌, List, [], subst, replicate, refl, sym, ap, ◌∙◌, arith}
-use Rattle.std.specs.Prelude.{Bool, false, not, ◌==◌, None, Ok}
-use Rattle.nb_fields.specs.Bytes.{bytes_of, padded, number_in}
-use Rattle.nb_fields.specs.Header.{scn_of, guid_of}
-use Rattle.nb_fields.specs.Page.{head_of, page_of}
-use Rattle.nb_fields.specs.Payloads.{control_block, header_payload}
-use Rattle.nb_fields.specs.Fresh.{fresh_kind, fresh_payload, fresh_page, fresh}
-use Rattle.nb_host.specs.World.{World}
-use Rattle.nb_model.specs.Trail.{Trail, settled}
+use Rattle.std.proofs.Common.{◌≡◌, ℕ, ◌<◌, List, [], subst, replicate, refl, sym, ap, ◌∙◌, arith, Bool, false, not, ◌==◌, None, Ok}
+use Rattle.nb_state.proofs.Common.{number_in, scn_of, guid_of, World, Trail, settled, Page, Image, first_page, base_of, NoneWaits, Pages, AreOf, open_settled, Held, IsOpen}
+use Rattle.nb_fields.specs.Fresh.{fresh}
 use Rattle.nb_model.proofs.FreshImageLaws.{fresh_first, fresh_state, fresh_scn, fresh_open}
 use Rattle.nb_base.specs.Beginnings.{Creates as CreatesFiles, IsAttached as AreAttached}
 use Rattle.nb_base.specs.Open.{IsOpen as FilesOpen}
-use Rattle.nb_model.specs.Image.{Page, Image, first_page}
-use Rattle.nb_model.specs.Account.{base_of}
-use Rattle.nb_cache.specs.Held.{NoneWaits}
-use Rattle.nb_owner.specs.Open.{Pages, AreOf, IsOpen as PairOpen}
-use Rattle.nb_owner.proofs.WaitLaws.{open_settled}
-use Rattle.nb_state.specs.Open.{Held, IsOpen}
+use Rattle.nb_owner.specs.Open.{IsOpen as PairOpen}
 use Rattle.nb_state.specs.Beginnings.{IsAttached, Creates}
+use Rattle.nb_model.proofs.FreshSound.{header_guid}
 
 -- where no page is in memory, each is of the image
 of_none : (image : Image) (pages : Pages) → pages ≡ [] → AreOf image pages
@@ -26,11 +16,6 @@ of_none image pages none = subst (λ (ps : Pages). AreOf image ps) (sym none) tt
 -- and none waits
 none_wait : (pages : Pages) → pages ≡ [] → NoneWaits pages
 none_wait pages none = subst NoneWaits (sym none) tt
-
--- a new database has no backup
-no_guid : (size raw : ℕ) → guid_of (fresh_page size raw 0) ≡ replicate 16 0
-unfolding fresh_page fresh_kind fresh_payload page_of head_of padded header_payload control_block bytes_of
-no_guid size raw = refl
 
 pub created : (pair : Rattle.nb_owner.specs.Open.Held) (old new : World) (name : List ℕ) (size raw : ℕ) → CreatesFiles (Ok pair.files) old new name (fresh size raw) → pair.pages ≡ []
     → Creates (Ok (record { files = pair.files; scn = 1; guid = replicate 16 0; read_only = false; running = None; merged = 0; pages = pair.pages; cap = pair.cap })) old new name (fresh size raw)
@@ -47,7 +32,7 @@ created pair old new name size raw is none =
           agrees = record {
             scn = sym (fresh_scn size raw);
             four = omega arith;
-            guid = sym (ap guid_of (fresh_first size raw) ∙ no_guid size raw);
+            guid = sym (ap guid_of (fresh_first size raw) ∙ header_guid size raw);
             read_only = sym (fresh_open size raw);
           };
           merged = λ two. absurd (omega (arith, two, normal));

@@ -1,30 +1,10 @@
 -- How runs of calls that make strokes go on.
-use Rattle.std.proofs.Common.{◌≡◌, ℕ, List, [], ◌∷◌, ◌++◌, refl, sym, ◌∙◌, subst, ap, arith}
+use Rattle.std.proofs.Common.{◌≡◌, ℕ, List, [], ◌∷◌, ◌++◌, refl, sym, ◌∙◌, subst, ap, arith, Option, Result, Ok, Err}
+use Rattle.nb_state.proofs.Common.{Files, IsStill, World, Fault, Refused, Device, Memory, RunError, as_fault, Quiet, GaveNothing, rested, after_all-joined, reached_first, reached_front, strokes_composed, weaker_has, Base, Stroke, base_after, Trail, StandsIn, after_stroke, trail_base, OfFiles, IsMerged, Strikes, after_strokes, IsNoRefusal, Held, IsOpen, but_pages, name_of, pair_of, WhereEnded, Goes, Makes}
 use Rattle.std.proofs.lemmas.List.{append-nil}
-use Rattle.std.specs.Prelude.{Option, Result, Ok, Err}
-use Rattle.nb_host.specs.Files.{Files}
-use Rattle.nb_host.specs.Calls.{IsStill}
-use Rattle.nb_host.specs.World.{World}
-use Rattle.nb_host.specs.declared.faults.Fault.{Fault}
-use Rattle.nb_host.specs.declared.faults.Fault.TheVariants.{Refused, Device, Memory}
-use Rattle.nb_host.specs.declared.faults.RunError.{RunError}
 use Rattle.nb_host.specs.declared.faults.RunError.TheVariants.{Device as DeviceError, Memory as MemoryError}
-use Rattle.nb_host.specs.Faults.{as_fault}
-use Rattle.nb_page.specs.Quiet.{Quiet}
-use Rattle.nb_change.specs.Gave.{GaveNothing}
-use Rattle.nb_change.proofs.ChangesLaws.{rested}
-use Rattle.nb_change.proofs.ReachedLaws.{after_all-joined, reached_first, reached_front, strokes_composed}
-use Rattle.nb_change.proofs.ChangesLaws.{weaker_has}
 use Rattle.nb_change.proofs.GaveLaws.{nothing_joined}
-use Rattle.nb_model.specs.Account.{Base}
-use Rattle.nb_model.specs.Strokes.{Stroke, base_after}
-use Rattle.nb_model.specs.Trail.{Trail, StandsIn, after_stroke}
-use Rattle.nb_model.proofs.TrailLaws.{trail_base}
-use Rattle.nb_base.specs.Open.{OfFiles, IsMerged}
-use Rattle.nb_base.specs.Takes.{Strikes, after_strokes, IsNoRefusal}
 use Rattle.nb_owner.proofs.WaitLaws.{still_open as pair_still}
-use Rattle.nb_state.specs.Open.{Held, IsOpen, but_pages, name_of, pair_of}
-use Rattle.nb_state.specs.Does.{WhereEnded, Goes, Makes}
 
 -- a database stays open
 pub still_open : (old new : World) (held : Held) (t : Trail) → IsStill old new → IsOpen old held t → IsOpen new held t

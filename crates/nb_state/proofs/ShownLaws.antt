@@ -1,18 +1,9 @@
 -- What the two files show of a database that is open, and that it stays open while other files change.
-use Rattle.std.proofs.Common.{◌≡◌, ℕ, refl, sym, subst}
-use Rattle.std.specs.Prelude.{Ok, drop, slice_index}
+use Rattle.std.proofs.Common.{◌≡◌, ℕ, refl, sym, subst, Ok, drop, slice_index}
+use Rattle.nb_state.proofs.Common.{File, Files, bytes_of, World, Base, page_at, image_in, delta_name, owner, Trail, ShowsIn, settled, IsMerged, open_of, files_open, files_shown, settled_none, Held, NoPageWaits, IsOpen, name_of, pair_of}
 use Rattle.nb_fields.specs.Table.{page_in, slot_place}
-use Rattle.nb_host.specs.Files.{File, Files, bytes_of}
-use Rattle.nb_host.specs.World.{World}
 use Rattle.nb_host.specs.Crash.{LeavesAll}
-use Rattle.nb_model.specs.Account.{Base}
-use Rattle.nb_model.specs.Image.{page_at, image_in}
-use Rattle.nb_model.specs.Owner.{delta_name, owner}
-use Rattle.nb_model.specs.Trail.{Trail, ShowsIn, settled}
 use Rattle.nb_base.specs.Firm.{StandsFirmOn}
-use Rattle.nb_base.specs.Open.{IsMerged}
-use Rattle.nb_owner.proofs.WaitLaws.{open_of, files_open, files_shown, settled_none}
-use Rattle.nb_state.specs.Open.{Held, NoPageWaits, IsOpen, name_of, pair_of}
 
 -- where no page waits they show what was seen
 pub shown : (w : World) (held : Held) (t : Trail) → NoPageWaits held → IsOpen w held t → ShowsIn (name_of held) t.base w.files

@@ -1,28 +1,16 @@
 -- Why a backup doesn't begin, and why a merge doesn't.
-use Rattle.std.proofs.Common.{◌≡◌, ◌≢◌, ℕ, ◌≤◌, ◌<◌, [], ◌∷◌, refl, ap, ◌∙◌}
-use Rattle.std.specs.Prelude.{Bool, Option, Some, None, not}
-use Rattle.std.proofs.lemmas.Bool.{eq-eqb, ne_eqb}
-use Rattle.nb_fields.specs.States.{normal_state}
-use Rattle.nb_host.specs.declared.refusals.Refusal.{Refusal}
-use Rattle.nb_host.specs.declared.refusals.Refusal.TheVariants.{ScnExhausted, BackupRunning}
-use Rattle.nb_model.specs.Image.{Image, image_scn}
-use Rattle.nb_model.specs.Causes.{Cause, first_cause, when, not_state, no_scn, runs_other}
+use Rattle.std.proofs.Common.{◌≡◌, ◌≢◌, ℕ, ◌≤◌, ◌<◌, [], ◌∷◌, ap, ◌∙◌, Bool, Option, Some, None, not}
+use Rattle.nb_state.proofs.Common.{eq-eqb, ne_eqb, normal_state, Refusal, ScnExhausted, BackupRunning, Image, image_scn, Cause, first_cause, when, not_state, no_scn, runs_other, none_to_end, begin_cause, end_cause, one_cause}
 use Rattle.nb_model.proofs.ReadLaws.{lt_no, lt_yes}
-use Rattle.nb_cases.specs.Events.{none_to_end}
-use Rattle.nb_state.specs.Turns.{begin_cause, end_cause}
 
 -- the first of two causes, and the second where the first doesn't apply
-first_applies : (c d : Cause) (r : Refusal) → c ≡ Some r → first_cause (c ∷ d ∷ []) ≡ Some r
+pub first_applies : (c d : Cause) (r : Refusal) → c ≡ Some r → first_cause (c ∷ d ∷ []) ≡ Some r
 unfolding first_cause
 first_applies c d r is = ap (λ (x : Cause). first_cause (x ∷ d ∷ [])) is
 
 second_decides : (c d : Cause) → c ≡ None → first_cause (c ∷ d ∷ []) ≡ d
 unfolding first_cause
-second_decides c d none = ap (λ (x : Cause). first_cause (x ∷ d ∷ [])) none ∙ last d
-  where
-    last : (d : Cause) → first_cause (d ∷ []) ≡ d
-    last None = refl
-    last (Some r) = refl
+second_decides c d none = ap (λ (x : Cause). first_cause (x ∷ d ∷ [])) none ∙ one_cause d
 
 module _ (image : Image) where
   pub other_state : (r : Refusal) → not_state normal_state image ≡ Some r → begin_cause image ≡ Some r

@@ -1,48 +1,16 @@
 -- What is open after the turns of a backup.
-use Rattle.std.proofs.Common.{◌≡◌, ◌≢◌, ◌⊎◌, ⊎_elim, ℕ, ◌+◌, ◌<◌, ◌≤◌, List, [], ◌∷◌, ◌++◌, length, drop, refl, sym, ap, subst, ◌∙◌, arith, length-append, drop_at}
-use Rattle.std.specs.Prelude.{Bool, true, false, Option, Some, None, Result, Ok, Err}
-use Rattle.std.proofs.lemmas.Bool.{eq-eqb, ne_eqb}
-use Rattle.nb_fields.specs.Header.{is_header, state_of}
-use Rattle.nb_fields.specs.States.{normal_state, stalled_state, merge_state}
-use Rattle.nb_host.specs.World.{World}
-use Rattle.nb_host.specs.Calls.{IsStill}
-use Rattle.nb_host.specs.Moments.{IsNow, IsTimely, Passes}
-use Rattle.nb_host.specs.declared.faults.Fault.{Fault}
+use Rattle.std.proofs.Common.{◌≡◌, ◌≢◌, ◌⊎◌, ⊎_elim, ℕ, ◌+◌, ◌<◌, ◌≤◌, List, [], ◌∷◌, ◌++◌, length, drop, refl, sym, ap, subst, ◌∙◌, arith, length-append, drop_at, Bool, true, false, Option, Some, None, Result, Ok, Err}
+use Rattle.nb_state.proofs.Common.{eq-eqb, ne_eqb, is_header, state_of, normal_state, stalled_state, merge_state, World, IsStill, Fault, Refused, Device, Memory, Refusal, weaker_has, strokes_composed, reached_front, Image, first_page, image_state, image_scn, image_guid, trimmed, Ask, Base, Cause, Stroke, begin, ends, finish, with_control, Trail, StandsIn, after_stroke, control_state, header-long, header-room, some_page, trail_base, OfFiles, AreMerged, Strikes, with_control-first, Quiet, GaveNothing, after_strokes, but_drafts, Held, AgreesWith, IsOpen, name_of, Tested, unless_by, begin_cause, end_cause, Begins, Ends, Merges, begun_image, ended_image}
+use Rattle.nb_host.specs.Moments.{IsTimely, Passes}
 use Rattle.nb_host.specs.declared.faults.HostFault.{HostFault}
-use Rattle.nb_host.specs.declared.faults.Fault.TheVariants.{Refused, Device, Memory}
-use Rattle.nb_host.specs.declared.refusals.Refusal.{Refusal}
-use Rattle.nb_change.proofs.MomentLaws.{started, untouched_begun}
-use Rattle.nb_change.proofs.ChangesLaws.{weaker_has}
 use Rattle.nb_change.proofs.CallLaws.{still_alone}
-use Rattle.nb_change.proofs.ReachedLaws.{strokes_composed, reached_front}
-use Rattle.nb_model.specs.Image.{Image, first_page, image_state, image_scn, image_guid, trimmed}
-use Rattle.nb_model.specs.Account.{Ask, Base}
-use Rattle.nb_model.specs.Causes.{Cause}
-use Rattle.nb_model.specs.Strokes.{Stroke, begin, ends, finish, on_base, with_control}
-use Rattle.nb_model.specs.Trail.{Trail, StandsIn, after_stroke}
 use Rattle.nb_model.specs.Pages.{end_strokes, end_scn}
-use Rattle.nb_model.proofs.ControlLaws.{control_state}
-use Rattle.nb_model.proofs.HeaderLaws.{header-long, header-room}
-use Rattle.nb_model.proofs.MainLaws.{some_page}
-use Rattle.nb_model.proofs.TrailLaws.{trail_base}
 use Rattle.nb_model.proofs.TrimLaws.{trimmed_front, finish_base}
-use Rattle.nb_base.specs.Open.{OfFiles, AreMerged}
-use Rattle.nb_base.specs.Takes.{Strikes}
-use Rattle.nb_base.proofs.ControlLaws.{with_control-first}
-use Rattle.nb_page.specs.Quiet.{Quiet}
-use Rattle.nb_change.specs.Gave.{GaveNothing}
-use Rattle.nb_base.specs.Takes.{after_strokes}
-use Rattle.nb_owner.specs.Open.{IsOpen as PairOpen, but_drafts}
-use Rattle.nb_state.specs.Open.{Held, AgreesWith, IsOpen, name_of}
-use Rattle.nb_state.specs.Does.{Tested, unless_by}
-use Rattle.nb_state.specs.Turns.{begin_cause, end_cause, Begins, Ends, Merges}
+use Rattle.nb_owner.specs.Open.{IsOpen as PairOpen}
 use Rattle.nb_state.specs.declared.turns.Progress.{Progress}
 use Rattle.nb_state.proofs.AgreeLaws.{agrees_front, agrees_control}
 use Rattle.nb_state.proofs.MakesLaws.{none_yet, gave_none}
-
--- no call is quiet
-pub no_call : (w : World) → IsTimely w → Quiet w w
-no_call w timely = record { still = record { files = refl; left = untouched_begun w _ }; said = refl; guids = refl; times = refl; moments = started w (IsNow w) timely (λ files said is. is) }
+use Rattle.nb_host.proofs.PlainLaws.{none_there}
 
 -- calls that change no file, and then strokes
 pub still_struck : (old mid new : World) (held : Held) (t : Trail) (xs : List Stroke) → IsOpen old held t → IsTimely old → IsStill old mid → mid.said ≡ old.said → Passes old mid → Strikes mid new (name_of held) t xs → Strikes old new (name_of held) t xs
@@ -69,14 +37,6 @@ given_guid old new given guid is =
 state_control : (before after : Base) (state scn : ℕ) (guid : List ℕ) → is_header (first_page before.image) ≡ true → length guid ≡ 16 → state < 65536 → after.image ≡ with_control state scn guid before.image → image_state after.image ≡ state
 state_control before after state scn guid header sixteen low is =
     ap image_state is ∙ ap state_of (with_control-first state scn guid before.image (some_page before.image header)) ∙ control_state state scn guid (first_page before.image) (header-long (first_page before.image) header) sixteen low
-
-begun_image : (b : Base) (guid : List ℕ) (ask : Option Ask) → (on_base (begin guid ask) b).image ≡ with_control stalled_state (image_scn b.image + 1) guid b.image
-unfolding on_base
-begun_image b guid ask = refl
-
-ended_image : (b : Base) → (on_base ends b).image ≡ with_control merge_state (image_scn b.image + 1) (image_guid b.image) b.image
-unfolding on_base
-ended_image b = refl
 
 module _ (old new : World) (held : Held) (t : Trail) (is : IsOpen old held t) (pair : Rattle.nb_owner.specs.Open.Held) where
   header : is_header (first_page t.base.image) ≡ true
@@ -220,11 +180,8 @@ unfolding end_scn
 scn_other image ne = ap (λ (b : Bool). elim b as (λ z. ℕ) [ true ↦ image_scn image + 1 | false ↦ image_scn image ]) (ne_eqb (image_state image) 1 ne)
 
 -- strokes that there is no cause against
-unless_none : (cause : Cause) (strokes : List Stroke) → cause ≡ None → unless_by cause strokes ≡ strokes
+pub unless_none : (cause : Cause) (strokes : List Stroke) → cause ≡ None → unless_by cause strokes ≡ strokes
 unless_none cause strokes none = ap (λ (c : Cause). unless_by c strokes) none
-
-none_some : {r : Refusal} → None ≡ Some r → ⊥
-none_some e = cc
 
 -- A backup that may begin, with the GUID that was given.
 module _ (old mid new : World) (before after : Held) (t : Trail) (guid : List ℕ) (ask : Option Ask) (is : IsOpen old before t) (allowed : begin_cause t.base.image ≡ None) (struck : Strikes old new (name_of before) t (begin guid ask ∷ []))
@@ -233,7 +190,7 @@ module _ (old mid new : World) (before after : Held) (t : Trail) (guid : List �
   left = subst (λ (ss : List Stroke). Strikes old new (name_of before) t ss) (sym (unless_none (begin_cause t.base.image) (begin guid ask ∷ []) allowed)) struck
 
   allows : (r : Refusal) → begin_cause t.base.image ≡ Some r → Quiet old new
-  allows r some = absurd (none_some (sym allowed ∙ some))
+  allows r some = absurd (none_there (sym allowed ∙ some))
 
   pub begin_failed : Begins (Err Device) old new before after t guid ask
   begin_failed = record { test = tt; left = left; opened = tt; answer = tt; gave = tt; times = nothing.times ∙ times; refused = tt; idle = allows; running = running; name = name }
@@ -275,7 +232,7 @@ module _ (old new : World) (before after : Held) (t : Trail) (session : ℕ) (al
   end_left = subst (λ (ss : List Stroke). Strikes old new (name_of before) t ss) (sym (unless_none (end_cause t.base.image before.running session) (end_strokes t.base.image) allowed)) struck
 
   end_allows : (r : Refusal) → end_cause t.base.image before.running session ≡ Some r → Quiet old new
-  end_allows r some = absurd (none_some (sym allowed ∙ some))
+  end_allows r some = absurd (none_there (sym allowed ∙ some))
 
   pub end_failed : Ends (Err Device) old new before after t session
   end_failed = record { test = tt; left = end_left; opened = tt; answer = tt; begins = tt; gave = gave; refused = tt; idle = end_allows; name = name }

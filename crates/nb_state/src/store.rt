@@ -14,6 +14,7 @@ ghost use Rattle.nb_base.specs.Touches.{WritesIn};
 ghost use Rattle.nb_cache.specs.Held.{slot_of};
 ghost use Rattle.nb_owner.specs.Open.{may_wait};
 ghost use Rattle.nb_state.specs.Open.{IsOpen, HasBlock, NoPageWaits, but_pages, name_of, pair_of};
+ghost use Rattle.nb_state.specs.Looks.{Looks};
 ghost use Rattle.nb_state.specs.Does.{Makes, Goes};
 
 use crate::front::front_of;
@@ -150,12 +151,10 @@ impl Store {
     ) -> Result<(), HostFault>
         requires size { length into.old ≡ self.old.files.page_size }
         ensures page { (t : Trail) → IsTrue H.tells → IsOpen (H.world host.old) self.old t → number < length t.base.image → OnOk result (into.new ≡ page_at t.base.image number) }
-        ensures open { (t : Trail) → IsTrue H.tells → IsOpen (H.world host.old) self.old t → IsOpen (H.world host.new) self.new t }
+        ensures looks { Looks H.tells (H.world host.old) (H.world host.new) self.old self.new }
         ensures control_block { number ≡ 0 → IsTrue H.tells → OnOk result (HasBlock (H.world host.new) self.new into.new) }
         ensures none_waits { NoPageWaits self.old → NoPageWaits self.new }
-        ensures same { but_pages self.new ≡ but_pages self.old }
         ensures in_memory { IsSome (slot_of self.old.pages number) → IsOk result × (host.new ≡ host.old) }
-        ensures quiet { Quiet (H.world host.old) (H.world host.new) }
         ensures reads { IsTrue H.tells → 0 < number → (H.world host.new).reads ≤ (H.world host.old).reads + 1 }
         ensures first_reads { IsTrue H.tells → (H.world host.new).reads ≤ (H.world host.old).reads + 2 }
         ensures cause { CountsFault result (H.faults host.old) (H.faults host.new) }

@@ -1,36 +1,8 @@
 -- What a row's turn does, once its table's rows are come by.
-use Rattle.std.proofs.Common.{◌≡◌, ℕ, List, [], ◌∷◌, refl, sym, ap, ◌∙◌}
-use Rattle.std.specs.Prelude.{true, false, Option, Some, None, Result, Ok, Err, IfOk, is_some}
-use Rattle.nb_fields.specs.Kinds.{data_kind}
-use Rattle.nb_host.specs.World.{World}
-use Rattle.nb_host.specs.declared.faults.Fault.{Fault}
-use Rattle.nb_host.specs.declared.refusals.Refusal.{Refusal}
-use Rattle.nb_host.specs.declared.refusals.Refusal.TheVariants.{KeyExists, NoKey}
-use Rattle.nb_model.specs.declared.reply.Reply.TheVariants.{Refused, Done}
-use Rattle.nb_model.specs.Image.{Image}
-use Rattle.nb_model.specs.Trail.{Trail}
-use Rattle.nb_model.specs.Forms.{Draft, drafted}
-use Rattle.nb_model.specs.Causes.{Cause, when, read_only, too_long, not_kind, not_of_form, no_room, broken_at, short_for}
-use Rattle.nb_model.specs.Chains.{Chain, RowsFrom, Slot, Spot, pages_of, found_pages, spots, table_spot, row_spot, free_spot, first_in, row_slot, free_slot, put_slot, place_slot}
-use Rattle.nb_model.specs.Outcomes.{Seen, Outcome, says, unless, changes}
-use Rattle.nb_model.specs.Tables.{with_spot, in_row, insert_turn, update_turn, delete_turn}
-use Rattle.nb_state.specs.Open.{Held}
-use Rattle.nb_state.specs.Does.{Does}
-use Rattle.nb_engine.specs.Put.{entry_cause}
-use Rattle.nb_engine.specs.Replies.{done}
-use Rattle.nb_engine.specs.Tries.{Tries}
-use Rattle.nb_alloc.proofs.CauseLaws.{first_none, first_next, first_here, refused_by, judged_by}
-use Rattle.nb_alloc.proofs.DoesLaws.{seeing, tries_does}
-use Rattle.nb_alloc.proofs.RoomsLaws.{slot_alone}
-use Rattle.nb_alloc.proofs.TestLaws.{applies, rests}
-use Rattle.nb_table.specs.declared.look.Found.{Found}
-use Rattle.nb_table.specs.declared.look.Sought.TheVariants.{Row}
-use Rattle.nb_table.specs.declared.look.Walked.{Walked}
-use Rattle.nb_table.specs.Rows.{rows_cause, place_cause}
-use Rattle.nb_table.specs.Walks.{gathered, found_at, place_at}
+use Rattle.std.proofs.Common.{◌≡◌, ℕ, List, [], ◌∷◌, refl, sym, ap, ◌∙◌, true, false, Option, Some, None, Result, Ok, Err, IfOk, is_some}
+use Rattle.nb_table.proofs.Common.{data_kind, World, Fault, Refusal, KeyExists, NoKey, Refused, Done, Image, Trail, Draft, drafted, Cause, when, read_only, too_long, not_kind, not_of_form, no_room, broken_at, short_for, Chain, RowsFrom, Slot, Spot, pages_of, found_pages, spots, table_spot, row_spot, free_spot, first_in, row_slot, free_slot, put_slot, place_slot, Seen, Outcome, says, unless, changes, with_spot, in_row, insert_turn, update_turn, delete_turn, Held, Does, entry_cause, done, Tries, refused_by, judged_by, seeing, tries_does, slot_alone, Found, Row, Walked, rows_cause, place_cause, gathered, found_at, place_at, row_kind, applies, first_here, first_next, no_cause, when_false}
 use Rattle.nb_table.proofs.InTableLaws.{table_refused, table_goes_from}
 use Rattle.nb_table.proofs.PlaceLaws.{IsPlaceOf, found_some, found_there}
-use Rattle.nb_walk.proofs.SpotPages.{row_kind}
 
 -- what is said is `ok`
 pub said : (result : Result (Unit {0}) Fault) → IfOk result (λ value. done value ≡ Done)
@@ -54,7 +26,7 @@ module _ (s : Seen) (chain : Chain) (key : ℕ) (bytes : Slot) where
   pub row_written : (row : Spot) → row_spot key (spots chain image) ≡ Some row → in_row s chain key bytes ≡ unless s (entry_cause image row.page) (says s Done (put_slot row.page row.slot bytes (drafted image)).strokes)
   unfolding in_row with_spot
   row_written row found =
-      ap row_by found ∙ judged_by s [] (put_slot row.page row.slot bytes (drafted image)) Done first_none
+      ap row_by found ∙ judged_by s [] (put_slot row.page row.slot bytes (drafted image)) Done no_cause
       ∙ ap (λ (c : Cause). unless s c (says s Done (put_slot row.page row.slot bytes (drafted image)).strokes)) (slot_alone image row.page row.slot bytes)
 
 -- the page of a row that was found is a data page
@@ -109,7 +81,7 @@ module _ (s : Seen) (chain : Chain) (key : ℕ) (bytes : Slot) where
   -- or it isn't, and the row is placed
   pub key_new : is_some (row_spot key (spots chain now)) ≡ false → adding ≡ unless s (place_cause chain now bytes) (says s Done into.strokes)
   unfolding changes
-  key_new e = ap (λ (c : Cause). unless s c (says s Done into.strokes)) (first_next known (short ∷ not_of_form into ∷ no_room into ∷ []) (rests _ _ e))
+  key_new e = ap (λ (c : Cause). unless s c (says s Done into.strokes)) (first_next known (short ∷ not_of_form into ∷ no_room into ∷ []) (when_false _ _ e))
 
 -- What a walk for a key came by.
 module _ (first key : ℕ) (ss : List Spot) (walked : Walked) (is : walked ≡ gathered (Row first key) ss) where

@@ -1,38 +1,16 @@
 -- The pages of a chain are tested one after the other, along their links, before any of them is given back.
-use Rattle.std.proofs.Common.{◌≡◌, ◌≢◌, ℕ, zero, suc, ◌-◌, ◌<◌, List, [], ◌∷◌, ◌++◌, length, refl, sym, ap, subst, ◌∙◌, arith}
-use Rattle.std.specs.Prelude.{min, Option, Some, None, Ok}
-use Rattle.std.proofs.lemmas.List.{append-nil}
-use Rattle.nb_fields.specs.Kinds.{data_kind}
-use Rattle.nb_host.specs.declared.refusals.Refusal.{Refusal}
-use Rattle.nb_host.specs.declared.refusals.Refusal.TheVariants.{NotDatabase}
-use Rattle.nb_model.specs.Causes.{Cause, lowest_of, lowest_broken}
-use Rattle.nb_model.specs.Chains.{Chain, first_of, owner_of, next_in, walk, pages_of}
-use Rattle.nb_model.specs.Image.{Image, page_at}
-use Rattle.nb_model.proofs.ChainWalks.{walk_zero, err_ok}
-use Rattle.nb_model.proofs.RoomLaws.{in_chain, chain_owner}
-use Rattle.nb_engine.specs.Behind.{give_broken}
-use Rattle.nb_engine.specs.Data.{not_data}
-use Rattle.nb_engine.specs.Find.{need_cause}
-use Rattle.nb_alloc.proofs.DataLaws.{owner_is}
-use Rattle.nb_alloc.proofs.RoomsLaws.{lowest_append}
-use Rattle.nb_alloc.proofs.TestLaws.{kind_is}
-use Rattle.nb_table.specs.Drops.{drop_broken}
+use Rattle.std.proofs.Common.{◌≡◌, ◌≢◌, ℕ, zero, suc, ◌-◌, ◌<◌, List, [], ◌∷◌, ◌++◌, length, refl, sym, ap, subst, ◌∙◌, arith, min, Option, Some, None, Ok}
+use Rattle.nb_table.proofs.Common.{append-nil, data_kind, Refusal, NotDatabase, Cause, lowest_of, lowest_broken, Chain, first_of, owner_of, next_in, walk, pages_of, Image, page_at, walk_zero, in_chain, chain_owner, give_broken, not_data, need_cause, owner_is, lowest_append, kind_is, drop_broken, err_ok, none_some, some_none}
 use Rattle.nb_table.proofs.GiveLaws.{IsFirst, walk_first}
 
 page_same : (p q : ℕ) → Some (NotDatabase p) ≡ Some (NotDatabase q) → p ≡ q
 page_same p q e = cc
 
-some_none : (p : ℕ) → Some (NotDatabase p) ≡ None → ⊥
-some_none p e = cc
-
-none_some : (p : ℕ) → None ≡ Some (NotDatabase p) → ⊥
-none_some p e = cc
-
 -- the lowest of two lists
 pub lower_both : (pages more : List ℕ) (p q : ℕ) → Some (NotDatabase p) ≡ lowest_broken pages → Some (NotDatabase q) ≡ lowest_broken more → Some (NotDatabase (min p q)) ≡ lowest_broken (more ++ pages)
 unfolding lowest_broken
-lower_both [] more p q e f = absurd (some_none p e)
-lower_both (x ∷ xs) [] p q e f = absurd (some_none q f)
+lower_both [] more p q e f = absurd (some_none (NotDatabase p) e)
+lower_both (x ∷ xs) [] p q e f = absurd (some_none (NotDatabase q) f)
 lower_both (x ∷ xs) (y ∷ ys) p q e f =
     let a : p ≡ lowest_of x xs = page_same p (lowest_of x xs) e in
     let b : q ≡ lowest_of y ys = page_same q (lowest_of y ys) f in
@@ -41,12 +19,12 @@ lower_both (x ∷ xs) (y ∷ ys) p q e f =
 pub lower_first : (pages more : List ℕ) (p : ℕ) → Some (NotDatabase p) ≡ lowest_broken pages → None ≡ lowest_broken more → Some (NotDatabase p) ≡ lowest_broken (more ++ pages)
 unfolding lowest_broken
 lower_first pages [] p e f = e
-lower_first pages (y ∷ ys) p e f = absurd (none_some (lowest_of y ys) f)
+lower_first pages (y ∷ ys) p e f = absurd (none_some (NotDatabase (lowest_of y ys)) f)
 
 pub lower_second : (pages more : List ℕ) (c : Cause) → None ≡ lowest_broken pages → c ≡ lowest_broken more → c ≡ lowest_broken (more ++ pages)
 unfolding lowest_broken
 lower_second [] more c e f = f ∙ ap lowest_broken (sym (append-nil more))
-lower_second (x ∷ xs) more c e f = absurd (none_some (lowest_of x xs) e)
+lower_second (x ∷ xs) more c e f = absurd (none_some (NotDatabase (lowest_of x xs)) e)
 
 -- Some pages of a chain were tested, after others; the rest are still to come, `number` next.
 pub record Checks (chain : Chain) (image : Image) (pages noted : List ℕ) (left number : ℕ) (lacking : Option ℕ) : Type 0 where
@@ -106,10 +84,7 @@ module _ (chain : Chain) (image : Image) (pages noted : List ℕ) where
 
   -- a refusal of the page is of no page of the chain
   pub checks_refused : (left number : ℕ) (lacking : Option ℕ) → 0 < left → Checks chain image pages noted left number lacking → (r : Refusal) → not_data image (owner_of chain) number ≡ Some r → lowest_broken (drop_broken image pages noted) ≡ Some r
-  checks_refused left number lacking some c r e = absurd (never (sym (checks_data left number lacking some c) ∙ e))
-    where
-      never : None ≡ Some r → ⊥
-      never f = cc
+  checks_refused left number lacking some c r e = absurd (none_some r (sym (checks_data left number lacking some c) ∙ e))
 
   pub checks_last : (left number : ℕ) (lacking : Option ℕ) → 0 < left → (c : Checks chain image pages noted left number lacking) (found : Option ℕ) (next : ℕ) → need_cause found ≡ lowest_broken (give_broken image number ++ c.behind)
       → next ≡ next_in (page_at image number) → next ≡ 0 → need_cause found ≡ lowest_broken (drop_broken image pages noted)

@@ -1,44 +1,12 @@
 -- A table that is made: its first page, and then its slot in the catalogue.
-use Rattle.std.proofs.Common.{◌≡◌, inl, inr, ℕ, suc, ◌+◌, ◌*◌, ◌≤◌, List, [], ◌∷◌, ◌++◌, length, drop, refl, sym, ap, subst, ◌∙◌, arith}
-use Rattle.std.specs.Prelude.{Bool, true, not, Some, None, Result, Ok, Err}
-use Rattle.std.proofs.lemmas.Bool.Decides.{leb_tells}
-use Rattle.nb_fields.specs.Bytes.{with_part}
+use Rattle.std.proofs.Common.{◌≡◌, inl, inr, ℕ, suc, ◌+◌, ◌*◌, ◌≤◌, List, [], ◌∷◌, ◌++◌, length, drop, refl, sym, ap, subst, ◌∙◌, arith, Bool, true, not, None, Result, Ok, Err}
+use Rattle.nb_table.proofs.Common.{leb_tells, with_part, data_kind, World, Fault, NotDatabase, not_kind, not_of_form, no_room, too_short, when, Catalogue, Slot, found_pages, last_of, put_slot, grown, table_slot, Draft, drafted, is_kind, Image, page_at, Stroke, Trail, IsOf, drafted_is, drafts_are, new_keeps, no_first, draft_cause, after_strokes, Held, IsOpen, Makes, behind_cause, second_data, unmade, unmade_behind, entry_cause, Tries, tries_front, tries_then, sure_of, tries_opened, tries_named, image_is, IsFreeBehind, free_behind, grown_named, slot_named, unmade_is, joined_clear, lt_no, Place, first_made, created_in, created_behind, table_length, first_next, when_false, unless_none, some_none, one_cause}
 use Rattle.nb_fields.specs.Payloads.{data_payload}
-use Rattle.nb_fields.specs.Kinds.{data_kind}
-use Rattle.nb_host.specs.World.{World}
-use Rattle.nb_host.specs.declared.faults.Fault.{Fault}
-use Rattle.nb_host.specs.declared.refusals.Refusal.TheVariants.{NotDatabase}
-use Rattle.nb_model.specs.Causes.{not_kind, not_of_form, no_room, too_short, when}
-use Rattle.nb_model.specs.Chains.{Catalogue, Slot, found_pages, last_of, put_slot, grown, table_slot}
-use Rattle.nb_model.specs.Forms.{Draft, drafted, is_kind}
-use Rattle.nb_model.specs.Image.{Image, page_at}
-use Rattle.nb_model.specs.Strokes.{Stroke}
-use Rattle.nb_model.specs.Trail.{Trail}
 use Rattle.nb_model.proofs.DraftJoin.{joined, join_put}
-use Rattle.nb_model.proofs.DraftLaws.{IsOf, drafted_is, drafts_are, new_keeps}
 use Rattle.nb_model.proofs.PlaceTurns.{join_at}
-use Rattle.nb_model.proofs.PutSound.{no_first}
-use Rattle.nb_model.proofs.SearchLaws.{draft_cause}
-use Rattle.nb_base.specs.Takes.{after_strokes}
-use Rattle.nb_state.specs.Open.{Held, IsOpen}
-use Rattle.nb_state.specs.Does.{Makes}
-use Rattle.nb_engine.specs.Behind.{behind_cause}
-use Rattle.nb_engine.specs.Data.{second_data, unmade, unmade_behind}
-use Rattle.nb_engine.specs.Put.{entry_cause}
 use Rattle.nb_engine.specs.Search.{IsShort}
-use Rattle.nb_engine.specs.Tries.{Tries}
-use Rattle.nb_alloc.proofs.CauseLaws.{first_next, one_cause}
 use Rattle.nb_alloc.proofs.ContentLaws.{data_short}
-use Rattle.nb_alloc.proofs.DoesLaws.{unless_none, tries_front, tries_then, sure_of, tries_opened}
 use Rattle.nb_engine.proofs.GrowLaws.{new_longer}
-use Rattle.nb_alloc.proofs.MakeLaws.{tries_named}
-use Rattle.nb_alloc.proofs.NewLaws.{image_is}
-use Rattle.nb_alloc.proofs.RoomsLaws.{IsFreeBehind, free_behind, grown_named, slot_named, unmade_is, joined_clear}
-use Rattle.nb_alloc.proofs.TestLaws.{rests}
-use Rattle.nb_model.proofs.ReadLaws.{lt_no}
-use Rattle.nb_table.specs.declared.look.Place.{Place}
-use Rattle.nb_table.specs.Creates.{first_made, created_in, created_behind}
-use Rattle.nb_model.proofs.TableTurns.{table_length}
 use Rattle.nb_table.proofs.PlaceLaws.{unnumbered, unnumbered_tries}
 
 -- what the first page holds
@@ -212,15 +180,12 @@ module _ (t : Trail) (table : List ℕ) where
 
     five : 5 ≤ length x
     five = elim (leb_tells (suc (length x)) 5) [
-      | inl w ↦ absurd (some_none (sym (ap (λ (t : Bool). when t (NotDatabase (length x))) w.0) ∙ long))
+      | inl w ↦ absurd (some_none (NotDatabase (length x)) (sym (ap (λ (t : Bool). when t (NotDatabase (length x))) w.0) ∙ long))
       | inr w ↦ omega (arith, w.1)
     ]
-      where
-        some_none : Some (NotDatabase (length x)) ≡ None → ⊥
-        some_none e = cc
 
     long_then : too_short u.base.image ≡ None
-    long_then = rests _ _ (lt_no (length u.base.image) 5 (omega (arith, five, new_longer 5 first x, ap length image_then)))
+    long_then = when_false _ _ (lt_no (length u.base.image) 5 (omega (arith, five, new_longer 5 first x, ap length image_then)))
 
     free : (n : ℕ) → n ≡ new_first.1 → unmade u.base.image (grows_by n) ≡ None
     free n same = clear_made u.base.image (grows_by n) long_then (ap draft_cause (grows_are n same) ∙ both.1)

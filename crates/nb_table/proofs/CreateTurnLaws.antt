@@ -1,30 +1,9 @@
 -- The turn of a table that is made, by its causes.
-use Rattle.std.proofs.Common.{◌≡◌, ℕ, ◌<◌, ◌≤◌, List, [], ◌∷◌, ◌++◌, length, refl, sym, ap, ◌∙◌, arith}
-use Rattle.std.specs.Prelude.{Bool, true, false, Option, Some, None, is_some, nat_le, min}
-use Rattle.nb_fields.specs.Kinds.{data_kind}
-use Rattle.nb_host.specs.declared.refusals.Refusal.{Refusal}
-use Rattle.nb_host.specs.declared.refusals.Refusal.TheVariants.{TableExists, TooManyTables}
-use Rattle.nb_model.specs.declared.reply.Reply.TheVariants.{Done, Refused}
-use Rattle.nb_model.specs.Causes.{Cause, first_cause, broken_at, read_only, not_kind, not_of_form, no_room, when, too_short}
-use Rattle.nb_model.specs.Chains.{Catalogue, Spot, found_pages, free_spot, pages_of, spots, table_spot, table_slot, place_at}
-use Rattle.nb_model.specs.Forms.{Draft}
-use Rattle.nb_model.specs.Image.{Image}
-use Rattle.nb_model.specs.Outcomes.{Seen, says, unless, changes}
-use Rattle.nb_model.specs.Rows.{used}
-use Rattle.nb_model.specs.Tables.{create_turn}
-use Rattle.nb_engine.specs.Data.{unmade}
-use Rattle.nb_model.proofs.PutSound.{no_first}
-use Rattle.nb_model.proofs.ReadLaws.{le_no}
-use Rattle.nb_engine.proofs.DataLaws.{data_there}
-use Rattle.nb_alloc.proofs.TestLaws.{le_yes}
-use Rattle.nb_alloc.proofs.CauseLaws.{first_next, first_here, first_front, first_rest, one_cause, refused_by}
-use Rattle.nb_table.specs.declared.look.Place.{Place}
-use Rattle.nb_table.specs.Creates.{first_made, created_in, created_behind, new_cause}
-use Rattle.nb_table.specs.declared.look.Sought.TheVariants.{Table}
-use Rattle.nb_table.specs.declared.look.Walked.{Walked}
-use Rattle.nb_table.specs.Walks.{gathered, place_of, place_at as places}
+use Rattle.std.proofs.Common.{◌≡◌, ℕ, ◌<◌, ◌≤◌, List, [], ◌∷◌, ◌++◌, length, refl, sym, ap, ◌∙◌, arith, Bool, true, false, Option, Some, None, is_some, nat_le, min}
+use Rattle.nb_table.proofs.Common.{data_kind, Refusal, TableExists, TooManyTables, Done, Refused, Cause, first_cause, broken_at, read_only, not_kind, not_of_form, no_room, when, too_short, Catalogue, Spot, found_pages, free_spot, pages_of, spots, table_spot, table_slot, Draft, Image, Seen, says, unless, changes, used, create_turn, unmade, no_first, le_no, data_there, first_front, first_rest, refused_by, Place, first_made, created_in, created_behind, new_cause, Table, Walked, gathered, place_of, free_kind, first_here, first_next, le_yes, some_same, one_cause}
+use Rattle.nb_model.specs.Chains.{place_at}
+use Rattle.nb_table.specs.Walks.{place_at as places}
 use Rattle.nb_table.proofs.PlaceLaws.{IsPlaceOf, place_some, found_there}
-use Rattle.nb_walk.proofs.SpotPages.{free_kind}
 
 module _ (image : Image) (table : List ℕ) where
   abbrev broken : Cause
@@ -88,12 +67,9 @@ module _ (s : Seen) (table : List ℕ) where
       pub create_at : (place : Place) → Some place ≡ places here → create_turn s table ≡ unless s (unmade image_now (created_in image_now table place)) (says s Done (created_in image_now table place).strokes)
       create_at place e = create_by (created_in image_now table place) (by here e)
         where
-          some_is : (a b : Place) → Some a ≡ Some b → a ≡ b
-          some_is a b f = cc
-
           by : (o : Option Spot) → Some place ≡ places o → draft o ≡ created_in image_now table place
           by None f = cc
-          by (Some f) g = ap (λ (p : Place). created_in image_now table p) (sym (some_is place (place_of f) g))
+          by (Some f) g = ap (λ (p : Place). created_in image_now table p) (sym (some_same place (place_of f) g))
 
       -- or in a new page
       pub create_last : None ≡ places here → create_turn s table ≡ unless s (unmade image_now (created_behind image_now table)) (says s Done (created_behind image_now table).strokes)

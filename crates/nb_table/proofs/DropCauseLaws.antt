@@ -1,25 +1,8 @@
 -- Why a table isn't dropped: the lowest of the pages that change and that aren't of their kind in the database as it stood.
-use Rattle.std.proofs.Common.{◌≡◌, inl, inr, ℕ, ◌+◌, ◌*◌, ◌<◌, ◌≤◌, List, [], ◌∷◌, ◌++◌, length, drop, refl, ap, subst, ◌∙◌, arith, length-drop}
-use Rattle.std.specs.Prelude.{Bool, true, None}
-use Rattle.std.specs.List.{AllByRecursion}
-use Rattle.std.proofs.lemmas.List.{append-nil}
-use Rattle.nb_fields.specs.Bytes.{with_part}
-use Rattle.nb_fields.proofs.PartLaws.{length-with_part}
+use Rattle.std.proofs.Common.{◌≡◌, inl, inr, ℕ, ◌+◌, ◌*◌, ◌<◌, ◌≤◌, List, [], ◌∷◌, ◌++◌, length, drop, refl, ap, subst, ◌∙◌, arith, length-drop, Bool, true, None}
+use Rattle.nb_table.proofs.Common.{AllByRecursion, append-nil, with_part, length-with_part, most_pages, inventory_kind, data_kind, Full, lowest_broken, not_of_form, no_room, when, RowsFrom, Slot, Spot, first_in, found_pages, free_slot, put_slot, Draft, drafted, is_kind, needs, inventory_of, scn_page_of, bit_number, with_bit, set_bit, give_page, Image, image_size, page_at, all_given, all_at, scn_place_before, IsShaped, kind_parts, entry_broken, give_broken, Notes, notes_none, notes_raised, notes_put, notes_given, kept_raised, lowest_same, dropped, drop_broken}
 use Rattle.nb_fields.proofs.SizeLaws.{SizeFacts, size_facts}
-use Rattle.nb_fields.specs.Places.{most_pages}
-use Rattle.nb_fields.specs.Kinds.{inventory_kind, data_kind}
-use Rattle.nb_host.specs.declared.refusals.Refusal.TheVariants.{Full}
-use Rattle.nb_model.specs.Causes.{lowest_broken, not_of_form, no_room, when}
-use Rattle.nb_model.specs.Chains.{RowsFrom, Slot, Spot, first_in, found_pages, free_slot, put_slot}
-use Rattle.nb_model.specs.Forms.{Draft, drafted, is_kind, needs, inventory_of, scn_page_of, bit_number, with_bit, set_bit, give_page}
-use Rattle.nb_model.specs.Image.{Image, image_size, page_at}
-use Rattle.nb_model.specs.Tables.{all_given}
-use Rattle.nb_model.proofs.SoundLaws.{all_at, scn_place_before}
-use Rattle.nb_model.proofs.StepLaws.{IsShaped, kind_parts}
-use Rattle.nb_engine.specs.Behind.{entry_broken, give_broken}
 use Rattle.nb_alloc.proofs.FullLaws.{needs_full, put_full}
-use Rattle.nb_engine.proofs.NotedLaws.{Notes, notes_none, notes_raised, notes_put, notes_given, kept_raised, lowest_same}
-use Rattle.nb_table.specs.Drops.{dropped, drop_broken}
 
 -- pages that may be given back: below the length, and not the header
 abbrev pub AreBelow : Image → List ℕ → Type 0

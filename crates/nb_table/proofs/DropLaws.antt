@@ -1,57 +1,20 @@
 -- A table that is dropped: its slot in the catalogue becomes free, which leaves each page of its chain as it was.
-use Rattle.std.proofs.Common.{◌≡◌, ◌≢◌, inl, inr, ℕ, ◌+◌, ◌*◌, ◌<◌, ◌≤◌, List, [], ◌∷◌, ◌++◌, length, drop, refl, sym, ap, subst, ◌∙◌, arith}
-use Rattle.std.specs.Prelude.{Bool, true, false, None, Result, Ok, Err}
-use Rattle.std.specs.List.{AllByRecursion}
-use Rattle.std.proofs.lemmas.Bool.Decides.{eqb_tells}
-use Rattle.nb_fields.specs.Bytes.{with_part}
+use Rattle.std.proofs.Common.{◌≡◌, ◌≢◌, inl, inr, ℕ, ◌+◌, ◌*◌, ◌<◌, ◌≤◌, List, [], ◌∷◌, ◌++◌, length, drop, refl, sym, ap, subst, ◌∙◌, arith, Bool, true, false, None, Result, Ok, Err}
+use Rattle.nb_table.proofs.Common.{AllByRecursion, eqb_tells, with_part, is_scn_place, header_kind, data_kind, scn_kind, World, Fault, lowest_broken, not_of_form, not_kind, Chain, Catalogue, RowsFrom, Spot, first_in, owner_in, is_in_chain, found_pages, pages_of, table_spot, put_slot, free_slot, HasItsEntry, Draft, drafted, put, is_kind, other_kind, scn_page_of, Image, page_at, image_size, Stroke, all_given, Trail, StaysLinked, linked_same, ok_found, pages_stay, IsOf, drafted_is, drafts_are, put_keeps, join_given, in_chain, chain_owner, pages_found, first_found, all_at, kind_of_header, scn_place_of, IsShaped, Puts, put_on, kind_parts, after_strokes, Held, IsOpen, entry_broken, give_broken, entry_cause, Tries, tries_opened, tries_front, tries_then, sure_of, tries_named, image_is, In, Notes, give_by, no_entry_broken, kind_is, IsWholeTable, IsGivable, dropped, drop_broken, spot_on, append_none, all_go, all_both}
 use Rattle.nb_fields.specs.Page.{kind_of}
-use Rattle.nb_fields.specs.Places.{is_scn_place}
-use Rattle.nb_fields.specs.Kinds.{header_kind, data_kind, scn_kind}
-use Rattle.nb_host.specs.World.{World}
-use Rattle.nb_host.specs.declared.faults.Fault.{Fault}
-use Rattle.nb_model.specs.Causes.{lowest_broken, not_of_form, not_kind}
-use Rattle.nb_model.specs.Chains.{Chain, Catalogue, RowsFrom, Spot, first_in, owner_in, is_in_chain, found_pages, pages_of, table_spot, put_slot, free_slot}
-use Rattle.nb_model.specs.Forms.{HasItsEntry, Draft, drafted, put, is_kind, other_kind, scn_page_of}
-use Rattle.nb_model.specs.Image.{Image, page_at, image_size}
 use Rattle.nb_model.specs.Sound.{HasHeader}
-use Rattle.nb_model.specs.Strokes.{Stroke}
-use Rattle.nb_model.specs.Tables.{all_given}
-use Rattle.nb_model.specs.Trail.{Trail}
-use Rattle.nb_model.proofs.ChainWalks.{StaysLinked, linked_same, ok_found, pages_stay}
-use Rattle.nb_model.proofs.DraftLaws.{IsOf, drafted_is, drafts_are, put_keeps}
-use Rattle.nb_model.proofs.DropTurns.{join_given}
-use Rattle.nb_model.proofs.NeatLaws.{all_go, all_both}
-use Rattle.nb_model.proofs.RoomLaws.{in_chain, chain_owner, pages_found, first_found}
-use Rattle.nb_model.proofs.SoundLaws.{all_at, kind_of_header, scn_place_of}
 use Rattle.nb_model.proofs.SpotLaws.{IsSpotOn, spot_within}
-use Rattle.nb_model.proofs.StepLaws.{IsShaped, Puts, put_on, kind_parts, kind_from}
-use Rattle.nb_base.specs.Takes.{after_strokes}
-use Rattle.nb_state.specs.Open.{Held, IsOpen}
-use Rattle.nb_engine.specs.Behind.{entry_broken, give_broken}
-use Rattle.nb_engine.specs.Put.{entry_cause}
-use Rattle.nb_engine.specs.Tries.{Tries}
-use Rattle.nb_alloc.proofs.DoesLaws.{tries_opened, tries_front, tries_then, sure_of}
-use Rattle.nb_alloc.proofs.MakeLaws.{tries_named}
-use Rattle.nb_alloc.proofs.NewLaws.{image_is}
-use Rattle.nb_engine.proofs.NotedLaws.{In, Notes, give_by}
 use Rattle.nb_alloc.proofs.PutLaws.{other-with}
-use Rattle.nb_alloc.proofs.RoomsLaws.{both_empty, none_broken, no_entry_broken}
-use Rattle.nb_alloc.proofs.TestLaws.{kind_is}
-use Rattle.nb_table.specs.Drops.{IsWholeTable, IsGivable, dropped, drop_broken}
 use Rattle.nb_table.proofs.DropCauseLaws.{AreBelow, slot_noted, slot_room, given_noted, noted_lowest}
-use Rattle.nb_walk.proofs.SpotPages.{spot_on}
-
-unbroken : (ps : List ℕ) → lowest_broken ps ≡ None → ps ≡ []
-unfolding lowest_broken
-unbroken [] e = refl
-unbroken (p ∷ ps) e = cc
+use Rattle.nb_model.proofs.RoomThere.{none_broken, other_met}
+use Rattle.nb_model.proofs.RoundLaws.{kind_found}
 
 -- nothing that giving pages back changes is broken, nor what was noted before
 drop_empty : (x : Image) (ps noted : List ℕ) → drop_broken x ps noted ≡ [] → (noted ≡ []) × AllByRecursion (λ (q : ℕ). give_broken x q ≡ []) ps
 drop_empty x [] noted e = (e, tt)
 drop_empty x (q ∷ qs) noted e =
     let rest = drop_empty x qs (give_broken x q ++ noted) e in
-    let both = both_empty (give_broken x q) noted rest.0 in
+    let both = append_none (give_broken x q) noted rest.0 in
     (both.1, (both.0, rest.1))
 
 -- The catalogue begins at page 3, so the database has four pages.
@@ -81,7 +44,7 @@ module _ (x : Image) (h : HasHeader x) (shaped : IsShaped x) (table : List ℕ) 
       ]
 
   chain_kind : (c : Chain) (q : ℕ) → is_in_chain c x q ≡ true → is_kind x data_kind q ≡ true
-  chain_kind c q in_it = let parts = in_chain c x q in_it in kind_from x data_kind q parts.0 parts.1
+  chain_kind c q in_it = let parts = in_chain c x q in_it in kind_found x data_kind q parts.0 parts.1
 
   each : AllByRecursion (λ (q : ℕ). is_in_chain chain x q ≡ true) pages
   each = (pages_found chain x has.formed).each
@@ -122,13 +85,13 @@ module _ (x : Image) (h : HasHeader x) (shaped : IsShaped x) (table : List ℕ) 
   -- where nothing is broken
   module _ (none : lowest_broken (drop_broken x pages noted) ≡ None) where
     empty : (noted ≡ []) × AllByRecursion (λ (q : ℕ). give_broken x q ≡ []) pages
-    empty = drop_empty x pages noted (unbroken (drop_broken x pages noted) none)
+    empty = drop_empty x pages noted (none_broken (drop_broken x pages noted) none)
 
     pub slot_entry : entry_cause x spot.page ≡ None
     slot_entry = no_entry_broken x spot.page empty.0
 
     entry_there : HasItsEntry x spot.page
-    entry_there e = none_broken x 10 (scn_page_of x spot.page) (sym (ap (λ (t : Bool). elim t as (λ z. List ℕ) [ true ↦ other_kind x scn_kind (scn_page_of x spot.page) | false ↦ [] ]) e) ∙ empty.0)
+    entry_there e = other_met x 10 (scn_page_of x spot.page) (sym (ap (λ (t : Bool). elim t as (λ z. List ℕ) [ true ↦ other_kind x scn_kind (scn_page_of x spot.page) | false ↦ [] ]) e) ∙ empty.0)
 
     abbrev payload : List ℕ
     payload = drop 16 (with_part (32 + 256 * spot.slot) free_slot (page_at x spot.page))

@@ -1,18 +1,6 @@
 -- The turn of a table that is dropped, by its causes.
-use Rattle.std.proofs.Common.{◌≡◌, ℕ, List, [], ◌∷◌, refl, ap, ◌∙◌}
-use Rattle.std.specs.Prelude.{Some, None}
-use Rattle.nb_host.specs.declared.refusals.Refusal.{Refusal}
-use Rattle.nb_model.specs.declared.reply.Reply.TheVariants.{Done, Refused}
-use Rattle.nb_model.specs.Causes.{Cause, first_cause, broken_at, read_only, not_of_form, no_room}
-use Rattle.nb_model.specs.Chains.{Chain, Catalogue, Spot, found_pages, free_slot, pages_of, put_slot, table_spot}
-use Rattle.nb_model.specs.Forms.{drafted}
-use Rattle.nb_model.specs.Image.{Image}
-use Rattle.nb_model.specs.Outcomes.{Seen, Outcome, says, unless, changes}
-use Rattle.nb_model.specs.Tables.{all_given, drop_turn}
-use Rattle.nb_model.proofs.PutSound.{no_first}
-use Rattle.nb_alloc.proofs.CauseLaws.{first_none, judged_by}
-use Rattle.nb_table.specs.Drops.{IsWholeTable, dropped}
-use Rattle.nb_table.specs.Rows.{chain_cause, rows_cause}
+use Rattle.std.proofs.Common.{◌≡◌, ℕ, List, [], ◌∷◌, refl, ap, ◌∙◌, Some, None}
+use Rattle.nb_table.proofs.Common.{Refusal, Done, Refused, Cause, first_cause, broken_at, read_only, not_of_form, no_room, Chain, Catalogue, Spot, found_pages, free_slot, pages_of, put_slot, table_spot, drafted, Image, Seen, Outcome, says, unless, changes, all_given, drop_turn, no_first, judged_by, IsWholeTable, dropped, chain_cause, rows_cause, no_cause}
 use Rattle.nb_table.proofs.DropCauseLaws.{dropped_full}
 use Rattle.nb_table.proofs.InTableLaws.{chain_formed, table_refused, table_goes}
 
@@ -47,5 +35,5 @@ module _ (s : Seen) (table : List ℕ) where
   pub drop_says : tests ≡ None → (spot : Spot) → IsWholeTable image table spot → drop_turn s table ≡ unless s (not_of_form (dropped image spot)) (says s Done (dropped image spot).strokes)
   unfolding drop_turn
   drop_says none spot has =
-      table_goes s (read_only image) table None drops none spot has.found ∙ judged_by s [] (dropped image spot) Done first_none
+      table_goes s (read_only image) table None drops none spot has.found ∙ judged_by s [] (dropped image spot) Done no_cause
       ∙ ap (λ (c : Cause). unless s c (says s Done (dropped image spot).strokes)) (alone (not_of_form (dropped image spot)) (no_room (dropped image spot)) (dropped_full image spot))

@@ -1,20 +1,6 @@
 -- A table or a row that was looked for: it is found, or there is none.
-use Rattle.std.proofs.Common.{◌≡◌, ℕ, [], ◌∷◌, refl, sym, ap, ◌∙◌}
-use Rattle.std.specs.Prelude.{Option, Some, None, is_none}
-use Rattle.nb_host.specs.declared.refusals.Refusal.{Refusal}
-use Rattle.nb_host.specs.declared.refusals.Refusal.TheVariants.{NoKey}
-use Rattle.nb_model.specs.Image.{Image}
-use Rattle.nb_model.specs.Causes.{Cause, first_cause, when, broken_at}
-use Rattle.nb_model.specs.Chains.{Spot, RowsFrom, pages_of, spots, row_spot}
-use Rattle.nb_alloc.proofs.CauseLaws.{first_none, first_next, first_here}
-use Rattle.nb_table.specs.declared.look.Found.{Found}
-use Rattle.nb_table.specs.Walks.{found_of, spot_of, found_at}
-
-some_same : (f g : Found) → Some f ≡ Some g → f ≡ g
-some_same f g e = cc
-
-some_none : (f : Found) → Some f ≡ None → ⊥
-some_none f e = cc
+use Rattle.std.proofs.Common.{◌≡◌, ℕ, [], ◌∷◌, refl, sym, ap, ◌∙◌, Option, Some, None, is_none}
+use Rattle.nb_table.proofs.Common.{Refusal, NoKey, Image, Cause, first_cause, when, broken_at, Spot, RowsFrom, pages_of, spots, row_spot, Found, found_of, spot_of, found_at, first_here, first_next, no_cause, some_none, some_same}
 
 -- why a row isn't found, and that it is
 abbrev pub row_cause : Image → (first key : ℕ) → Cause
@@ -44,15 +30,12 @@ module _ (broken : Cause) (o : Option Spot) (missing : Refusal) where
   search_missing whole none = first_next broken (when (is_none o) missing ∷ []) whole ∙ first_here (when (is_none o) missing) [] missing (ap (λ (x : Option Spot). when (is_none x) missing) none)
 
   pub search_found : (s : Spot) → broken ≡ None → o ≡ Some s → search_cause ≡ None
-  search_found s whole some = first_next broken (when (is_none o) missing ∷ []) whole ∙ first_next (when (is_none o) missing) [] (ap (λ (x : Option Spot). when (is_none x) missing) some) ∙ first_none
+  search_found s whole some = first_next broken (when (is_none o) missing ∷ []) whole ∙ first_next (when (is_none o) missing) [] (ap (λ (x : Option Spot). when (is_none x) missing) some) ∙ no_cause
 
   -- what a search that isn't refused says
   pub search_whole : search_cause ≡ None → broken ≡ None
   search_whole e = by broken refl
     where
-      clash : (r : Refusal) → Some r ≡ None → ⊥
-      clash r d = cc
-
       by : (c : Cause) → broken ≡ c → broken ≡ None
       by None d = d
-      by (Some r) d = absurd (clash r (sym (search_broken r d) ∙ e))
+      by (Some r) d = absurd (some_none r (sym (search_broken r d) ∙ e))

@@ -1,20 +1,7 @@
 -- What a walk has come by, and one slot more.
-use Rattle.std.proofs.Common.{◌≡◌, ◌≢◌, ℕ, ◌+◌, List, [], ◌∷◌, ◌++◌, length, refl, ap, ◌∙◌, arith, ◌*◌, ◌<◌}
-use Rattle.std.specs.Prelude.{Bool, true, false, ◌&&◌, nat_eq, min, Option, Some, None, slice_index, is_some}
-use Rattle.std.proofs.lemmas.Bool.{eqb-true}
-use Rattle.nb_model.specs.Chains.{Slot, Spot, is_used, first_such, free_spot, spots_of}
-use Rattle.nb_model.specs.Image.{Image, Page}
-use Rattle.nb_model.specs.Rows.{used}
-use Rattle.nb_model.proofs.ReadLaws.{eq_no, eq_yes}
-use Rattle.nb_walk.proofs.FirstLaws.{stays, misses, hits}
+use Rattle.std.proofs.Common.{◌≡◌, ◌≢◌, ℕ, ◌+◌, List, [], ◌∷◌, ◌++◌, length, refl, ap, ◌∙◌, arith, ◌*◌, ◌<◌, Bool, true, false, ◌&&◌, nat_eq, min, Option, Some, None, slice_index, is_some}
+use Rattle.nb_table.proofs.Common.{eqb-true, Slot, Spot, is_used, first_such, free_spot, spots_of, Image, Page, used, eq_no, eq_yes, stays, misses, hits, Table, Row, Place, Found, Walked, has, is_sought, place_of, found_of, place_at, found_at, gathered, Comes, comes_next, part}
 use Rattle.nb_table.specs.declared.look.Sought.{Sought}
-use Rattle.nb_table.specs.declared.look.Sought.TheVariants.{Table, Row}
-use Rattle.nb_table.specs.declared.look.Place.{Place}
-use Rattle.nb_table.specs.declared.look.Found.{Found}
-use Rattle.nb_table.specs.declared.look.Walked.{Walked}
-use Rattle.nb_table.specs.Walks.{has, is_sought, place_of, found_of, place_at, found_at, gathered}
-use Rattle.nb_walk.proofs.SpotLaws.{Comes, comes_next}
-use Rattle.nb_fields.specs.Bytes.{part}
 
 sought_is : (sought : Sought) (slot : Slot) → is_sought sought slot ≡ (is_used slot && has sought slot)
 sought_is (Table name) slot = refl

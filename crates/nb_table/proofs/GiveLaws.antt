@@ -1,48 +1,8 @@
 -- The pages of a chain are given back one after the other, along their links, which stay.
-use Rattle.std.proofs.Common.{◌≡◌, ◌≢◌, ℕ, zero, suc, ◌-◌, ◌<◌, List, [], ◌∷◌, ◌++◌, length, refl, sym, ap, subst, append_assoc, ◌∙◌, arith}
-use Rattle.std.specs.Prelude.{true, None, Ok, Err}
-use Rattle.std.specs.List.{AllByRecursion}
-use Rattle.std.proofs.lemmas.Bool.{true≢false}
-use Rattle.std.proofs.lemmas.List.{append-nil}
-use Rattle.nb_fields.specs.Kinds.{data_kind}
-use Rattle.nb_host.specs.World.{World}
-use Rattle.nb_host.specs.declared.faults.Fault.{Fault}
-use Rattle.nb_page.specs.Quiet.{Quiet}
+use Rattle.std.proofs.Common.{◌≡◌, ◌≢◌, ℕ, zero, suc, ◌-◌, ◌<◌, List, [], ◌∷◌, ◌++◌, length, refl, sym, ap, subst, append_assoc, ◌∙◌, arith, true, None, Ok, Err}
+use Rattle.nb_table.proofs.Common.{AllByRecursion, true≢false, append-nil, data_kind, World, Fault, Quiet, Chain, first_of, owner_of, owner_in, next_in, is_in_chain, walk, pages_of, Draft, drafted, give_page, Image, page_at, Stroke, all_given, Trail, after_stroke, IsWalk, walk_cases, walk_zero, IsOf, drafted_is, drafts_are, set_bit_keeps, eq_yes, chain_owner, IsShaped, kind_parts, after_strokes, IsNoRefusal, Held, IsOpen, Makes, makes_none, makes_then, makes_front, not_data, mark_cause, Tries, owner_is, tries_made, sure_of, makes_valued, image_is, IsGivenOn, given_cause, given_on, give_same, kind_is, IsGivable, err_ok, unless_none, given_none, given_first, all_go, all_both}
 use Rattle.nb_change.proofs.ReachedLaws.{after_all-joined}
-use Rattle.nb_model.specs.Chains.{Chain, first_of, owner_of, owner_in, next_in, is_in_chain, walk, pages_of}
-use Rattle.nb_model.specs.Forms.{Draft, drafted, give_page}
-use Rattle.nb_model.specs.Image.{Image, page_at}
-use Rattle.nb_model.specs.Strokes.{Stroke}
-use Rattle.nb_model.specs.Tables.{all_given}
-use Rattle.nb_model.specs.Trail.{Trail, after_stroke}
-use Rattle.nb_model.proofs.ChainWalks.{IsWalk, ends as walk_ends, leads as walk_leads, Walks, walk_cases, walk_zero, err_ok}
-use Rattle.nb_model.proofs.DraftLaws.{IsOf, drafted_is, drafts_are, set_bit_keeps}
-use Rattle.nb_model.proofs.DropTurns.{join_given}
-use Rattle.nb_model.proofs.NeatLaws.{all_go, all_both}
-use Rattle.nb_model.proofs.ReadLaws.{eq_yes}
-use Rattle.nb_model.proofs.RoomLaws.{chain_owner}
-use Rattle.nb_model.proofs.StepLaws.{IsShaped, kind_parts}
-use Rattle.nb_base.specs.Takes.{after_strokes, IsNoRefusal}
-use Rattle.nb_state.specs.Open.{Held, IsOpen}
-use Rattle.nb_state.specs.Does.{Makes}
-use Rattle.nb_state.proofs.MakesLaws.{makes_none, makes_then, makes_front}
-use Rattle.nb_engine.specs.Data.{not_data}
-use Rattle.nb_engine.specs.Mark.{mark_cause}
-use Rattle.nb_engine.specs.Tries.{Tries}
-use Rattle.nb_alloc.proofs.DataLaws.{owner_is}
-use Rattle.nb_alloc.proofs.DoesLaws.{unless_none, tries_made, sure_of, makes_valued}
-use Rattle.nb_alloc.proofs.NewLaws.{image_is}
-use Rattle.nb_engine.proofs.NotedLaws.{IsGivenOn, given_cause, given_on, give_same}
-use Rattle.nb_alloc.proofs.TestLaws.{kind_is}
-use Rattle.nb_table.specs.Drops.{IsGivable}
-
-given_first : (p : ℕ) (ps : List ℕ) (z : Image) → (all_given (p ∷ ps) (drafted z)).strokes ≡ (give_page p (drafted z)).strokes ++ (all_given ps (drafted (give_page p (drafted z)).image)).strokes
-unfolding all_given
-given_first p ps z = ap (λ (d : Draft). d.strokes) (join_given ps (give_page p (drafted z)))
-
-given_none : (z : Image) → (all_given [] (drafted z)).strokes ≡ []
-unfolding all_given
-given_none z = refl
+use Rattle.nb_model.proofs.ChainWalks.{ends as walk_ends, leads as walk_leads, Walks}
 
 -- it is so where pages keep their kinds
 givable_on : (x y : Image) (q : ℕ) → IsGivenOn x y → IsGivable x q → IsGivable y q

@@ -1,27 +1,8 @@
 -- A statement on a table, test by test: before the table is looked for, that it is there, after that, and that its chain is of the form.
-use Rattle.std.proofs.Common.{◌≡◌, ℕ, List, [], ◌∷◌, refl, sym, ap, subst, ◌∙◌}
-use Rattle.std.specs.Prelude.{Option, Some, None, is_none, Result}
-use Rattle.nb_host.specs.World.{World}
-use Rattle.nb_host.specs.declared.faults.Fault.{Fault}
-use Rattle.nb_host.specs.declared.refusals.Refusal.{Refusal}
-use Rattle.nb_host.specs.declared.refusals.Refusal.TheVariants.{NoTable}
-use Rattle.nb_page.specs.Quiet.{Quiet}
-use Rattle.nb_page.proofs.QuietLaws.{quiet_joined}
+use Rattle.std.proofs.Common.{◌≡◌, ℕ, List, [], ◌∷◌, refl, sym, ap, subst, ◌∙◌, Option, Some, None, is_none, Result}
+use Rattle.nb_table.proofs.Common.{World, Fault, Refusal, NoTable, Quiet, quiet_joined, Refused, Done, Image, Cause, first_cause, when, broken_at, Chain, Catalogue, RowsFrom, Spot, pages_of, table_spot, first_in, Seen, Outcome, says, unless, with_spot, in_table, Trail, Held, IsOpen, but_pages, Does, makes_after, unless_refused, unless_allowed, seeing, chain_cause, rows_cause, first_here, first_next, no_cause, some_same, one_cause}
 use Rattle.nb_model.specs.declared.reply.Reply.{Reply}
-use Rattle.nb_model.specs.declared.reply.Reply.TheVariants.{Refused, Done}
 use Rattle.nb_model.specs.Account.{Base}
-use Rattle.nb_model.specs.Image.{Image}
-use Rattle.nb_model.specs.Causes.{Cause, first_cause, when, broken_at}
-use Rattle.nb_model.specs.Chains.{Chain, Catalogue, RowsFrom, Spot, pages_of, table_spot, first_in}
-use Rattle.nb_model.specs.Outcomes.{Seen, Outcome, says, unless}
-use Rattle.nb_model.specs.Tables.{with_spot, in_table}
-use Rattle.nb_model.specs.Trail.{Trail}
-use Rattle.nb_state.specs.Open.{Held, IsOpen, but_pages}
-use Rattle.nb_state.specs.Does.{Does}
-use Rattle.nb_state.proofs.MakesLaws.{makes_after}
-use Rattle.nb_alloc.proofs.CauseLaws.{unless_refused, unless_allowed, first_none, first_next, first_here, one_cause}
-use Rattle.nb_alloc.proofs.DoesLaws.{seeing}
-use Rattle.nb_table.specs.Rows.{chain_cause, rows_cause}
 
 -- The chain of the rows that a slot of the catalogue leads to.
 abbrev pub chain_at : Spot → Chain
@@ -30,13 +11,6 @@ chain_at spot = RowsFrom (first_in spot.bytes)
 -- why a table isn't found
 abbrev pub find_cause : Image → (table : List ℕ) → Cause
 find_cause image table = first_cause (broken_at (pages_of Catalogue image) ∷ when (is_none (table_spot table image)) NoTable ∷ [])
-
--- a cause isn't none
-pub none_some : (r : Refusal) → None ≡ Some r → ⊥
-none_some r e = cc
-
-some_same : (x y : Spot) → Some x ≡ Some y → x ≡ y
-some_same x y e = cc
 
 -- Why the rows aren't come by, test by test.
 module _ (image : Image) (before : Cause) (table : List ℕ) (behind : Cause) where
@@ -83,7 +57,7 @@ module _ (image : Image) (before : Cause) (table : List ℕ) (behind : Cause) wh
       chain_fails passed r e = leads ∙ first_next behind (broken ∷ []) passed ∙ first_here broken [] r e
 
       pub rows_none : behind ≡ None → broken ≡ None → rows_cause image before table behind ≡ None
-      rows_none passed e = leads ∙ first_next behind (broken ∷ []) passed ∙ first_next broken [] e ∙ first_none
+      rows_none passed e = leads ∙ first_next behind (broken ∷ []) passed ∙ first_next broken [] e ∙ no_cause
 
   -- what none of these tests finds
   module _ (none : rows_cause image before table behind ≡ None) (spot : Spot) (at : table_spot table image ≡ Some spot) where

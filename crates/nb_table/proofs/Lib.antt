@@ -13,3 +13,4 @@ pub mod GatherLaws
 pub mod FindLaws
 pub mod SortedLaws
 pub mod ReadTurns
+mod Common

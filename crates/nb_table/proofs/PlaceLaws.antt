@@ -1,38 +1,11 @@
 -- A slot of a chain is written, or its chain grows: what that does of a turn.
-use Rattle.std.proofs.Common.{◌≡◌, ℕ, ◌+◌, ◌*◌, List, [], ◌∷◌, ◌++◌, refl, sym, ap, ◌∙◌}
-use Rattle.std.specs.Prelude.{Bool, true, false, Option, Some, None, Result, is_some, Err, Ok}
-use Rattle.nb_fields.specs.Bytes.{with_part}
-use Rattle.nb_fields.specs.Kinds.{data_kind}
-use Rattle.nb_host.specs.World.{World}
-use Rattle.nb_host.specs.declared.faults.Fault.{Fault}
-use Rattle.nb_host.specs.declared.refusals.Refusal.TheVariants.{NotDatabase}
-use Rattle.nb_model.specs.Image.{Image, page_at}
-use Rattle.nb_model.specs.Trail.{Trail}
-use Rattle.nb_model.specs.Forms.{Draft, drafted, is_kind, other_kind, wants}
-use Rattle.nb_model.specs.Causes.{first_cause, not_kind, not_of_form, no_room, broken_at, too_short, short_for, Cause}
-use Rattle.nb_model.specs.Chains.{Chain, Slot, Spot, pages_of, found_pages, spots, free_spot, put_slot, grown, place_slot, last_of}
-use Rattle.nb_model.proofs.SearchLaws.{draft_cause}
-use Rattle.nb_state.specs.Open.{Held}
-use Rattle.nb_engine.specs.Data.{data_cause, put_data, unmade}
-use Rattle.nb_engine.specs.Put.{entry_cause}
-use Rattle.nb_engine.specs.Tries.{Tries}
-use Rattle.nb_alloc.proofs.CauseLaws.{first_next}
-use Rattle.nb_engine.proofs.DataLaws.{by_entry}
-use Rattle.nb_alloc.proofs.MakeLaws.{tries_named}
-use Rattle.nb_alloc.proofs.PutLaws.{none_of}
-use Rattle.nb_alloc.proofs.RoomsLaws.{slot_alone}
-use Rattle.nb_table.specs.declared.look.Place.{Place}
-use Rattle.nb_table.specs.declared.look.Found.{Found}
-use Rattle.nb_table.specs.Rows.{place_cause}
-use Rattle.nb_table.specs.Walks.{place_of, found_of, place_at, found_at}
-use Rattle.nb_walk.proofs.SpotPages.{free_kind, last_kind}
-use Rattle.nb_model.specs.Strokes.{Stroke}
-use Rattle.nb_alloc.proofs.DoesLaws.{tries_other, tries_valued}
+use Rattle.std.proofs.Common.{◌≡◌, ℕ, ◌+◌, ◌*◌, List, [], ◌∷◌, ◌++◌, refl, sym, ap, ◌∙◌, Bool, true, false, Option, Some, None, Result, is_some, Err, Ok}
+use Rattle.nb_table.proofs.Common.{with_part, data_kind, World, Fault, NotDatabase, Image, page_at, Trail, Draft, drafted, is_kind, other_kind, wants, first_cause, not_kind, not_of_form, no_room, broken_at, too_short, short_for, Cause, Chain, Slot, Spot, pages_of, found_pages, spots, free_spot, put_slot, grown, place_slot, last_of, draft_cause, Held, data_cause, put_data, unmade, entry_cause, Tries, by_entry, tries_named, slot_alone, Place, Found, place_cause, place_of, found_of, place_at, found_at, free_kind, last_kind, Stroke, tries_other, tries_valued, first_next, is_so}
 
 -- nothing is noted of it
 pub wants_met : (image : Image) (kind p : ℕ) (d : Draft) → not_kind image kind p ≡ None → wants image kind p d ≡ d
 unfolding other_kind
-wants_met image kind p d none = ap (λ (t : Bool). record d { broken = (elim t as (λ z. List ℕ) [ true ↦ [] | false ↦ p ∷ [] ]) ++ d.broken }) (none_of (is_kind image kind p) (NotDatabase p) none)
+wants_met image kind p d none = ap (λ (t : Bool). record d { broken = (elim t as (λ z. List ℕ) [ true ↦ [] | false ↦ p ∷ [] ]) ++ d.broken }) (is_so (is_kind image kind p) (NotDatabase p) none)
 
 -- A slot of a data page is written as its page is, with these bytes there.
 pub slot_tries : {T : Type 0} (result : Result T Fault) (old new : World) (a b : Held) (t : Trail) (p slot : ℕ) (bytes : Slot) → not_kind t.base.image data_kind p ≡ None
@@ -46,7 +19,7 @@ slot_tries result old new a b t p slot bytes kind tries =
 pub last_is_data : (chain : Chain) (image : Image) → broken_at (pages_of chain image) ≡ None → (last : ℕ) → last ≡ last_of (found_pages chain image) → is_kind image data_kind last ≡ true
 last_is_data chain image formed last is =
     let end : ℕ = last_of (found_pages chain image) in
-    ap (is_kind image data_kind) is ∙ none_of (is_kind image data_kind end) (NotDatabase end) (last_kind chain image formed)
+    ap (is_kind image data_kind) is ∙ is_so (is_kind image data_kind end) (NotDatabase end) (last_kind chain image formed)
 
 -- what a call answers that makes a page, without the page's number
 abbrev pub unnumbered : Result ℕ Fault → Result (Unit {0}) Fault
@@ -101,10 +74,6 @@ found_some None f e = cc
 found_some (Some s) f e =
     let same : f ≡ found_of s = cc in
     record { spot = s; is = refl; page = ap (λ (x : Found). x.place.page) same; slot = ap (λ (x : Found). x.place.slot) same }
-
-pub found_none : (o : Option Spot) → None ≡ found_at o → o ≡ None
-found_none None e = refl
-found_none (Some s) e = cc
 
 pub found_there : (o : Option Spot) → is_some (found_at o) ≡ is_some o
 found_there None = refl

@@ -1,16 +1,7 @@
 -- The turns that read rows, by what is found on the way.
-use Rattle.std.proofs.Common.{◌≡◌, ℕ, List, [], ◌∷◌, refl, ap, ◌∙◌}
-use Rattle.std.specs.Prelude.{Option, Some, None}
-use Rattle.nb_host.specs.declared.refusals.Refusal.{Refusal}
-use Rattle.nb_host.specs.declared.refusals.Refusal.TheVariants.{NoTable, NoKey}
-use Rattle.nb_model.specs.declared.reply.Reply.TheVariants.{Refused, Value, Rows}
-use Rattle.nb_model.specs.Image.{Image}
-use Rattle.nb_model.specs.Causes.{Cause, first_cause, broken_at}
-use Rattle.nb_model.specs.Chains.{Chain, Catalogue, RowsFrom, Spot, pages_of, spots, table_spot, row_spot, first_in, text_in}
-use Rattle.nb_model.specs.Outcomes.{Seen, Outcome, says, unless}
-use Rattle.nb_model.specs.Rows.{rows_in}
-use Rattle.nb_model.specs.Tables.{with_spot, in_table, get_turn, scan_turn}
-use Rattle.nb_alloc.proofs.CauseLaws.{unless_refused, unless_allowed, first_next, one_cause}
+use Rattle.std.proofs.Common.{◌≡◌, ℕ, List, [], ◌∷◌, refl, ap, ◌∙◌, Option, Some, None}
+use Rattle.nb_table.proofs.Common.{Refusal, NoTable, NoKey, Refused, Value, Image, Cause, first_cause, broken_at, Chain, Catalogue, RowsFrom, Spot, pages_of, spots, table_spot, row_spot, first_in, text_in, Seen, Outcome, says, unless, rows_in, with_spot, in_table, get_turn, scan_turn, unless_refused, unless_allowed, first_next, one_cause}
+use Rattle.nb_model.specs.declared.reply.Reply.TheVariants.{Rows}
 use Rattle.nb_table.proofs.FindLaws.{search_cause, search_whole}
 
 -- a slot that was looked for, by what was found

@@ -1,17 +1,10 @@
 -- Slots are written field by field, and read.
-use Rattle.std.proofs.Common.{◌≡◌, ℕ, ◌+◌, ◌≤◌, ◌-◌, List, [], ◌∷◌, ◌++◌, length, replicate, refl, ap, ◌∙◌, arith, append_assoc, length-append}
-use Rattle.std.specs.Prelude.{IsTrue, nat_lt, nat_le, slice_index}
-use Rattle.std.specs.List.{list_all}
-use Rattle.std.proofs.lemmas.Bool.{and_parts, leb-true}
-use Rattle.nb_fields.specs.Bytes.{bytes_of, with_part, padded}
+use Rattle.std.proofs.Common.{◌≡◌, ℕ, ◌+◌, ◌≤◌, ◌-◌, List, [], ◌∷◌, ◌++◌, length, replicate, refl, ap, ◌∙◌, arith, append_assoc, length-append, IsTrue, nat_lt, nat_le, slice_index}
+use Rattle.nb_table.proofs.Common.{list_all, and_parts, leb-true, bytes_of, with_part, padded, row_slot, table_slot}
 use Rattle.nb_fields.proofs.NumberLaws.{length-bytes_of}
 use Rattle.nb_fields.proofs.PageLaws.{with_part-padded, with_part-padded_next}
 use Rattle.nb_model.specs.TableNames.{is_table_name, is_table_byte, is_letter}
-use Rattle.nb_model.specs.Chains.{row_slot, table_slot}
-
-zeros_are : replicate 256 0 ≡ padded 256 []
-unfolding padded
-zeros_are = refl
+use Rattle.nb_engine.proofs.RowLaws.{zeros_are}
 
 -- bytes are written after a gap
 with_gap : (at gap : ℕ) (bytes front : List ℕ) → length front + gap ≡ at → at + length bytes ≤ 256 → with_part at bytes (padded 256 front) ≡ padded 256 (front ++ (replicate gap 0 ++ bytes))

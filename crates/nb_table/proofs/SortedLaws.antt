@@ -1,21 +1,10 @@
 -- Rows in the order of their keys, slot by slot.
-use Rattle.std.proofs.Common.{Ordering, Less, Equal, Greater, ◌≡◌, ◌≢◌, inl, inr, ℕ, suc, ◌<◌, List, [], ◌∷◌, ◌++◌, refl, sym, ap, ◌∙◌, arith}
-use Rattle.std.specs.Prelude.{Bool, true, false, cond, ◌==◌, nat_lt, nat_eq, Option, Some, None, option_map, is_some, slice_index}
+use Rattle.std.proofs.Common.{Ordering, Less, Equal, Greater, ◌≡◌, ◌≢◌, inl, inr, ℕ, suc, ◌<◌, List, [], ◌∷◌, ◌++◌, refl, sym, ap, ◌∙◌, arith, Bool, true, false, cond, ◌==◌, nat_lt, nat_eq, Option, Some, None, option_map, is_some, slice_index}
+use Rattle.nb_table.proofs.Common.{list_all, insert_entry, is_at, and_from, eqb_tells, leb_tells, RowsFrom, Slot, Spot, is_used, is_slot, key_of, text_in, first_such, row_spot, slots_in, spots_on, spots_of, Page, Image, page_at, RowMap, with_row, row_at, rows_in, eq_yes, eq_no, lt_yes, lt_no, has_key, unused_key, other_key, first_held, first_miss, spots_more, false_true, true≢false}
 use Rattle.std.specs.Ordering.{nat_cmp, is_eq, match_ordering}
-use Rattle.std.specs.List.{list_all}
 use Rattle.std.specs.Map.{lookup}
-use Rattle.std.specs.BTreeMap.{insert_entry, is_at}
-use Rattle.std.proofs.lemmas.Bool.{and_from}
-use Rattle.std.proofs.lemmas.Bool.Decides.{eqb_tells, leb_tells}
-use Rattle.nb_model.specs.Chains.{RowsFrom, Slot, Spot, is_used, is_slot, key_of, text_in, first_such, row_spot, slots_in, spots_on, spots_of}
-use Rattle.nb_model.specs.Image.{Page, Image, page_at}
-use Rattle.nb_model.specs.Rows.{RowMap, with_row, row_at, rows_in}
-use Rattle.nb_model.proofs.ReadLaws.{eq_yes, eq_no, lt_yes, lt_no}
 use Rattle.nb_model.proofs.RowMaps.{rows_rise, same_maps, rows_at}
-use Rattle.nb_model.proofs.SpotMaps.{has_key, unused_key, other_key}
 use Rattle.nb_model.proofs.SpotMore.{more_rows}
-use Rattle.nb_walk.proofs.FirstLaws.{first_held, first_miss}
-use Rattle.nb_walk.proofs.SpotLaws.{spots_more}
 
 -- How two numbers compare.
 cmp_less : (a b : ℕ) → a < b → nat_cmp a b ≡ Less
@@ -101,9 +90,6 @@ module _ (ss : List Spot) (s : Spot) where
     | inr w ↦ first_miss (has_key k) s ss (other_key key k s refl w.1)
   ])
     where
-      false_true : false ≡ true → ⊥
-      false_true e = cc
-
       at_key : (k : ℕ) → is_some (row_at k (rows_in ss)) ≡ true → (o : Option Spot) → first_such (has_key k) ss ≡ o → first_such (has_key k) more ≡ first_such (has_key k) ss
       at_key k there (Some y) e = first_held (has_key k) s ss y e ∙ sym e
       at_key k there None e = absurd (false_true (sym (ap is_some (rows_at k ss ∙ ap (option_map text_of) e)) ∙ there))
@@ -113,12 +99,9 @@ module _ (ss : List Spot) (s : Spot) where
   unfolding row_spot
   row_new used none = more_rows ss [] s key (and_from (is_used s.bytes) (key == key) used (eq_yes key key refl)) tt (by (row_spot key ss) refl)
     where
-      true_false : true ≡ false → ⊥
-      true_false e = cc
-
       by : (o : Option Spot) → row_spot key ss ≡ o → row_spot key ss ≡ None
       by None e = e
-      by (Some y) e = absurd (true_false (sym (ap is_some (rows_at key ss ∙ ap (option_map text_of) e)) ∙ none))
+      by (Some y) e = absurd (true≢false (sym (ap is_some (rows_at key ss ∙ ap (option_map text_of) e)) ∙ none))
 
 -- the rows that a map holds, and one slot more
 module _ (ss : List Spot) (s : Spot) (slot : Slot) (rs : RowMap) (is : rs ≡ rows_in ss) (same : s.bytes ≡ slot) where

@@ -3,7 +3,6 @@ ghost use Rattle.std.specs.Prelude.{◌≡◌, ◌<◌, ◌≤◌, true, IsTrue,
 ghost use Rattle.nb_fields.specs.Places.{most_pages};
 ghost use Rattle.nb_fields.specs.Kinds.{data_kind};
 ghost use Rattle.nb_host.specs.Causes.{CountsDevice};
-ghost use Rattle.nb_page.specs.Quiet.{Quiet};
 ghost use Rattle.nb_model.specs.Chains.{Catalogue, found_pages, free_spot, last_of, spots};
 ghost use Rattle.nb_model.specs.Outcomes.{Seen};
 ghost use Rattle.nb_model.specs.Forms.{is_kind};
@@ -12,7 +11,8 @@ ghost use Rattle.nb_model.specs.Trail.{Trail};
 ghost use Rattle.nb_engine.specs.Data.{unmade};
 ghost use Rattle.nb_engine.specs.Replies.{done};
 ghost use Rattle.nb_engine.specs.Tries.{Tries};
-ghost use Rattle.nb_state.specs.Open.{IsOpen, but_pages};
+ghost use Rattle.nb_state.specs.Open.{IsOpen};
+ghost use Rattle.nb_state.specs.Looks.{Looks};
 ghost use Rattle.nb_state.specs.Does.{Tested, Does, Goes};
 ghost use Rattle.nb_table.specs.Creates.{IsLastOf, created_in, created_behind, new_cause};
 ghost use Rattle.nb_table.specs.Walks.{IsPlaced, place_at};
@@ -45,9 +45,7 @@ fn check_table<H: Host>(
     ensures placed { IfOk result (λ (room, last). IfSome room (IsPlaced engine.old.files.page_size)) }
     ensures low { IfOk result (λ (room, last). 0 < last) }
     ensures high { IfOk result (λ (room, last). last < most_pages) }
-    ensures open { (t : Trail) → IsTrue H.tells → IsOpen (H.world host.old) engine.old t → IsOpen (H.world host.new) engine.new t }
-    ensures same { but_pages engine.new ≡ but_pages engine.old }
-    ensures quiet { Quiet (H.world host.old) (H.world host.new) }
+    ensures looks { Looks H.tells (H.world host.old) (H.world host.new) engine.old engine.new }
     ensures cause { CountsDevice result (H.faults host.old) (H.faults host.new) }
 {
     let (walked, last) = walk(host, engine, &Sought::Table(table.copied()), page)?;

@@ -18,8 +18,8 @@ ghost use Rattle.nb_engine.specs.Find.{need_cause};
 ghost use Rattle.nb_engine.specs.Mark.{mark_cause};
 ghost use Rattle.nb_engine.specs.Replies.{done};
 ghost use Rattle.nb_engine.specs.Tries.{Tries};
-ghost use Rattle.nb_page.specs.Quiet.{Quiet};
-ghost use Rattle.nb_state.specs.Open.{IsOpen, but_pages};
+ghost use Rattle.nb_state.specs.Open.{IsOpen};
+ghost use Rattle.nb_state.specs.Looks.{Looks};
 ghost use Rattle.nb_state.specs.Does.{Tested, Does, Goes};
 ghost use Rattle.nb_table.specs.Drops.{IsWholeTable, IsGivable, dropped, drop_broken};
 ghost use Rattle.nb_table.specs.Walks.{spot_of, IsPlaced};
@@ -79,9 +79,7 @@ fn look_further<H: Host>(
     ensures test { (t : Trail) → IsTrue H.tells → IsOpen (H.world host.old) engine.old t → Tested result (not_data t.base.image owner number) }
     ensures lacking { (t : Trail) (pages : List ℕ) → IsTrue H.tells → IsOpen (H.world host.old) engine.old t → need_cause lacking ≡ lowest_broken pages → IfOk result (λ (found, next). need_cause found ≡ lowest_broken (give_broken t.base.image number ++ pages)) }
     ensures next { (t : Trail) → IsTrue H.tells → IsOpen (H.world host.old) engine.old t → IfOk result (λ (found, next). next ≡ next_in (page_at t.base.image number)) }
-    ensures open { (t : Trail) → IsTrue H.tells → IsOpen (H.world host.old) engine.old t → IsOpen (H.world host.new) engine.new t }
-    ensures same { but_pages engine.new ≡ but_pages engine.old }
-    ensures quiet { Quiet (H.world host.old) (H.world host.new) }
+    ensures looks { Looks H.tells (H.world host.old) (H.world host.new) engine.old engine.new }
     ensures cause { CountsDevice result (H.faults host.old) (H.faults host.new) }
 {
     engine.data_read(host, number, owner, page)?;
@@ -103,9 +101,7 @@ fn check_chain<H: Host>(
     requires room { length page.old ≡ engine.old.files.page_size }
     ensures test { (t : Trail) (pages noted : List ℕ) → IsTrue H.tells → IsOpen (H.world host.old) engine.old t → pages_of (RowsFrom first) t.base.image ≡ Ok pages → need_cause before ≡ lowest_broken noted
         → Tested result (lowest_broken (drop_broken t.base.image pages noted)) }
-    ensures open { (t : Trail) → IsTrue H.tells → IsOpen (H.world host.old) engine.old t → IsOpen (H.world host.new) engine.new t }
-    ensures same { but_pages engine.new ≡ but_pages engine.old }
-    ensures quiet { Quiet (H.world host.old) (H.world host.new) }
+    ensures looks { Looks H.tells (H.world host.old) (H.world host.new) engine.old engine.new }
     ensures cause { CountsDevice result (H.faults host.old) (H.faults host.new) }
 {
     let mut lacking = before;
@@ -136,9 +132,7 @@ fn check_drop<H: Host>(
     requires placed { IsPlaced engine.old.files.page_size rows.now.table.place }
     ensures test { (t : Trail) (pages : List ℕ) → IsTrue H.tells → IsOpen (H.world host.old) engine.old t → pages_of (RowsFrom rows.now.first) t.base.image ≡ Ok pages
         → Tested result (lowest_broken (drop_broken t.base.image pages (entry_broken t.base.image rows.now.table.place.page))) }
-    ensures open { (t : Trail) → IsTrue H.tells → IsOpen (H.world host.old) engine.old t → IsOpen (H.world host.new) engine.new t }
-    ensures same { but_pages engine.new ≡ but_pages engine.old }
-    ensures quiet { Quiet (H.world host.old) (H.world host.new) }
+    ensures looks { Looks H.tells (H.world host.old) (H.world host.new) engine.old engine.new }
     ensures cause { CountsDevice result (H.faults host.old) (H.faults host.new) }
 {
     let lacking = engine.data_ready(host, rows.table.place.page)?;

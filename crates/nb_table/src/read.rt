@@ -6,7 +6,6 @@ ghost use Rattle.std.specs.BTreeMap.{get, insert_entry};
 ghost use Rattle.nb_fields.specs.Places.{is_page_size};
 ghost use Rattle.nb_host.specs.declared.faults.Fault.TheVariants.{Memory};
 ghost use Rattle.nb_host.specs.Causes.{CountsDevice};
-ghost use Rattle.nb_page.specs.Quiet.{Quiet};
 ghost use Rattle.nb_model.specs.Causes.{broken_at};
 ghost use Rattle.nb_model.specs.Chains.{RowsFrom, Spot, is_slot, slots_in, spots_on, pages_of, spots};
 ghost use Rattle.nb_model.specs.Outcomes.{Seen};
@@ -15,7 +14,8 @@ ghost use Rattle.nb_model.specs.Tables.{get_turn, scan_turn};
 ghost use Rattle.nb_model.specs.Trail.{Trail};
 ghost use Rattle.nb_model.specs.declared.reply.Reply.TheVariants.{Rows};
 ghost use Rattle.nb_engine.specs.Replies.{valued};
-ghost use Rattle.nb_state.specs.Open.{IsOpen, but_pages};
+ghost use Rattle.nb_state.specs.Open.{IsOpen};
+ghost use Rattle.nb_state.specs.Looks.{Looks};
 ghost use Rattle.nb_state.specs.Does.{Does, Goes, Tested};
 
 use crate::LARGEST_PAGE;
@@ -53,10 +53,8 @@ pub fn get<H: Host>(
 ) -> Result<ArrayVec<u8, 200>, Fault>
     ensures turn { (s : Seen) (t : Trail) → IsTrue H.tells → t.base ≡ s.base → IsOpen (H.world host.old) engine.old t
         → Does valued result (H.world host.old) (H.world host.new) engine.old engine.new t (get_turn s table.now key) }
-    ensures open { (t : Trail) → IsTrue H.tells → IsOpen (H.world host.old) engine.old t → IsOpen (H.world host.new) engine.new t }
+    ensures looks { Looks H.tells (H.world host.old) (H.world host.new) engine.old engine.new }
     ensures goes { Goes engine.old engine.new }
-    ensures same { but_pages engine.new ≡ but_pages engine.old }
-    ensures quiet { Quiet (H.world host.old) (H.world host.new) }
     ensures cause { CountsDevice result (H.faults host.old) (H.faults host.new) }
     ensures takes_none { IfErr result (λ fault. fault ≢ Memory) }
 {
@@ -128,9 +126,7 @@ fn take_rows<H: Host>(
     requires size { length page.old ≡ engine.old.files.page_size }
     ensures test { (t : Trail) → IsTrue H.tells → IsOpen (H.world host.old) engine.old t → Tested result (broken_at (pages_of (RowsFrom first) t.base.image)) }
     ensures rows { (t : Trail) → IsTrue H.tells → IsOpen (H.world host.old) engine.old t → IfOk result (λ rows. rows.entries ≡ rows_in (spots (RowsFrom first) t.base.image)) }
-    ensures open { (t : Trail) → IsTrue H.tells → IsOpen (H.world host.old) engine.old t → IsOpen (H.world host.new) engine.new t }
-    ensures same { but_pages engine.new ≡ but_pages engine.old }
-    ensures quiet { Quiet (H.world host.old) (H.world host.new) }
+    ensures looks { Looks H.tells (H.world host.old) (H.world host.new) engine.old engine.new }
     ensures cause { CountsDevice result (H.faults host.old) (H.faults host.new) }
 {
     // Slots are counted by the size of a page, which is one of six.
@@ -176,10 +172,8 @@ pub fn scan<H: Host>(
 ) -> Result<RowList, Fault>
     ensures turn { (s : Seen) (t : Trail) → IsTrue H.tells → t.base ≡ s.base → IsOpen (H.world host.old) engine.old t
         → Does Rows result (H.world host.old) (H.world host.new) engine.old engine.new t (scan_turn s table.now) }
-    ensures open { (t : Trail) → IsTrue H.tells → IsOpen (H.world host.old) engine.old t → IsOpen (H.world host.new) engine.new t }
+    ensures looks { Looks H.tells (H.world host.old) (H.world host.new) engine.old engine.new }
     ensures goes { Goes engine.old engine.new }
-    ensures same { but_pages engine.new ≡ but_pages engine.old }
-    ensures quiet { Quiet (H.world host.old) (H.world host.new) }
     ensures cause { CountsDevice result (H.faults host.old) (H.faults host.new) }
 {
     let mut buffer = [0; LARGEST_PAGE];

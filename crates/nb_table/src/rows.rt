@@ -2,12 +2,12 @@
 ghost use Rattle.std.specs.Prelude.{◌≡◌, ◌<◌, ◌≤◌, ℕ, Some, IsTrue, IfOk, IfSome, OnOk, length};
 ghost use Rattle.nb_fields.specs.Places.{most_pages};
 ghost use Rattle.nb_host.specs.Causes.{CountsDevice};
-ghost use Rattle.nb_page.specs.Quiet.{Quiet};
 ghost use Rattle.nb_model.specs.Image.{Image, is_read_only};
 ghost use Rattle.nb_model.specs.Causes.{read_only, too_long};
 ghost use Rattle.nb_model.specs.Chains.{RowsFrom, found_pages, spots, last_of, first_in, table_spot};
 ghost use Rattle.nb_model.specs.Trail.{Trail};
-ghost use Rattle.nb_state.specs.Open.{IsOpen, but_pages};
+ghost use Rattle.nb_state.specs.Open.{IsOpen};
+ghost use Rattle.nb_state.specs.Looks.{Looks};
 ghost use Rattle.nb_state.specs.Does.{Tested};
 ghost use Rattle.nb_table.specs.declared.look.Sought.TheVariants.{Row};
 ghost use Rattle.nb_table.specs.Rows.{rows_cause};
@@ -82,9 +82,7 @@ pub(crate) fn find_rows<H: Host>(
     ensures room { IfOk result (λ rows. IfSome rows.walked.room (IsPlaced engine.old.files.page_size)) }
     ensures low { IfOk result (λ rows. 0 < rows.last) }
     ensures high { IfOk result (λ rows. rows.last < most_pages) }
-    ensures open { (t : Trail) → IsTrue H.tells → IsOpen (H.world host.old) engine.old t → IsOpen (H.world host.new) engine.new t }
-    ensures same { but_pages engine.new ≡ but_pages engine.old }
-    ensures quiet { Quiet (H.world host.old) (H.world host.new) }
+    ensures looks { Looks H.tells (H.world host.old) (H.world host.new) engine.old engine.new }
     ensures cause { CountsDevice result (H.faults host.old) (H.faults host.new) }
 {
     check_access(engine.store().is_read_only())?;

@@ -4,12 +4,12 @@ ghost use Rattle.std.specs.List.{list_all};
 ghost use Rattle.nb_fields.specs.Places.{is_page_size, most_pages};
 ghost use Rattle.nb_host.specs.declared.faults.Fault.TheVariants.{Memory};
 ghost use Rattle.nb_host.specs.Causes.{CountsDevice};
-ghost use Rattle.nb_page.specs.Quiet.{Quiet};
 ghost use Rattle.nb_model.specs.Image.{page_at};
 ghost use Rattle.nb_model.specs.Causes.{broken_at};
 ghost use Rattle.nb_model.specs.Chains.{Spot, is_slot, is_filled, slots_in, spots_on, spots_of, next_in, pages_of, found_pages, spots, last_of};
 ghost use Rattle.nb_model.specs.Trail.{Trail};
-ghost use Rattle.nb_state.specs.Open.{IsOpen, but_pages};
+ghost use Rattle.nb_state.specs.Open.{IsOpen};
+ghost use Rattle.nb_state.specs.Looks.{Looks};
 ghost use Rattle.nb_state.specs.Does.{Tested};
 ghost use Rattle.nb_table.specs.Walks.{chain_of, gathered, IsPlaced};
 ghost use Rattle.nb_walk.specs.Walks.{not_linked};
@@ -93,9 +93,7 @@ fn read_link<H: Host>(
     ensures low { OnOk result (0 < number) }
     ensures high { OnOk result (number < most_pages) }
     ensures sized { length page.new ≡ length page.old }
-    ensures open { (t : Trail) → IsTrue H.tells → IsOpen (H.world host.old) engine.old t → IsOpen (H.world host.new) engine.new t }
-    ensures same { but_pages engine.new ≡ but_pages engine.old }
-    ensures quiet { Quiet (H.world host.old) (H.world host.new) }
+    ensures looks { Looks H.tells (H.world host.old) (H.world host.new) engine.old engine.new }
     ensures once { IsTrue H.tells → (H.world host.new).reads ≤ (H.world host.old).reads + 1 }
     ensures cause { CountsDevice result (H.faults host.old) (H.faults host.new) }
     ensures takes_none { IfErr result (λ fault. fault ≢ Memory) }
@@ -126,9 +124,7 @@ pub(crate) fn walk<H: Host>(
     ensures low { IfOk result (λ (walked, last). 0 < last) }
     ensures high { IfOk result (λ (walked, last). last < most_pages) }
     ensures sized { length page.new ≡ length page.old }
-    ensures open { (t : Trail) → IsTrue H.tells → IsOpen (H.world host.old) engine.old t → IsOpen (H.world host.new) engine.new t }
-    ensures same { but_pages engine.new ≡ but_pages engine.old }
-    ensures quiet { Quiet (H.world host.old) (H.world host.new) }
+    ensures looks { Looks H.tells (H.world host.old) (H.world host.new) engine.old engine.new }
     ensures once { (t : Trail) → IsTrue H.tells → IsOpen (H.world host.old) engine.old t → OnOk result ((H.world host.new).reads ≤ (H.world host.old).reads + length (found_pages (chain_of sought.now) t.base.image)) }
     ensures cause { CountsDevice result (H.faults host.old) (H.faults host.new) }
     ensures takes_none { IfErr result (λ fault. fault ≢ Memory) }

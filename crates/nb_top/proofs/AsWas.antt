@@ -1,7 +1,6 @@
 -- Files of which those under some names are as they were.
 use Rattle.std.proofs.Common.{◌≡◌, ◌≢◌, inl, inr, ℕ, List, [], ◌∷◌, refl, sym, ap, subst, ◌∙◌}
-use Rattle.nb_host.specs.Files.{File, Files, with_file}
-use Rattle.nb_change.proofs.NameLaws.{decide, with_file-same, with_file-other}
+use Rattle.nb_top.proofs.Common.{File, Files, with_file, decide, with_file-same, with_file-other}
 
 -- the name is none of these
 abbrev pub IsOff : List (List ℕ) → List ℕ → Type 0

@@ -1,41 +1,8 @@
 -- What the call of the first statement gives to a run, whether it creates a database or opens one.
-use Rattle.std.proofs.Common.{◌≡◌, ◌≢◌, ℕ, List, [], ◌++◌, Bool, sym, ap, subst, ◌∙◌}
-use Rattle.std.specs.Prelude.{Result, Ok, Err, None, Some, IfOk, OnOk, if◌then◌else◌}
-use Rattle.nb_host.specs.World.{World}
-use Rattle.nb_host.specs.Crash.{Leaves, Untouched}
-use Rattle.nb_host.specs.Moments.{AtEachMoment, IsTimely}
-use Rattle.nb_host.specs.declared.faults.Fault.{Fault}
-use Rattle.nb_host.specs.declared.faults.Fault.TheVariants.{Refused}
-use Rattle.nb_host.specs.declared.refusals.Refusal.{Refusal}
-use Rattle.nb_host.specs.declared.refusals.Refusal.TheVariants.{Usage}
-use Rattle.nb_host.specs.declared.faults.RunError.{RunError}
-use Rattle.nb_change.specs.Changes.{Other}
-use Rattle.nb_change.specs.Gave.{GaveNothing}
-use Rattle.nb_page.specs.Quiet.{Quiet}
-use Rattle.nb_model.specs.declared.reply.Reply.{Reply}
+use Rattle.std.proofs.Common.{◌≡◌, ◌≢◌, ℕ, List, [], ◌++◌, Bool, sym, ap, subst, ◌∙◌, Result, Ok, Err, None, Some, IfOk, OnOk, if◌then◌else◌}
+use Rattle.nb_top.proofs.Common.{World, Leaves, Untouched, AtEachMoment, IsTimely, Fault, Refused, Refusal, Usage, RunError, Other, GaveNothing, Quiet, Reply, Account, Base, IsMaking, line_text, Given, status_after, Event, Now, base_now, begun, opening, after_steps, steps_in, settled, status_refused, OfFiles, Held, NoPageWaits, name_of, IsAskable, Plan, IsReady, SaysLine, Status, EndsAs, number_of, ScriptByTurns, TurnsFrom, RunsTo, HasSmallScn, PlaysOpened, first_event, opened_reply, pages_first, refused_at, told_first, told_later, Telling, ToRun}
 use Rattle.nb_model.specs.declared.reply.Reply.TheVariants.{Refused as RefusedReply}
-use Rattle.nb_model.specs.Account.{Account, Base}
-use Rattle.nb_model.specs.Going.{IsMaking}
-use Rattle.nb_model.specs.Lines.{line_text}
-use Rattle.nb_model.specs.Outcomes.{Given}
-use Rattle.nb_model.specs.Output.{status_after}
-use Rattle.nb_model.specs.Run.{Event, Now, base_now, begun, opening}
-use Rattle.nb_model.specs.Steps.{after_steps, steps_in}
-use Rattle.nb_model.specs.Trail.{settled}
-use Rattle.nb_model.proofs.StatusLaws.{status_refused}
-use Rattle.nb_base.specs.Open.{OfFiles}
-use Rattle.nb_state.specs.Open.{Held, NoPageWaits, name_of}
-use Rattle.nb_script.specs.Asked.{IsAskable}
-use Rattle.nb_script.specs.Scripts.{Plan}
-use Rattle.nb_session.specs.Ready.{IsReady}
-use Rattle.nb_session.specs.Says.{SaysLine}
-use Rattle.nb_top.specs.declared.status.Status.{Status}
 use Rattle.nb_top.specs.declared.status.Status.TheVariants.{Refused as RefusedStatus}
-use Rattle.nb_top.specs.Numbers.{EndsAs, number_of}
-use Rattle.nb_top.specs.ByTurns.{ScriptByTurns, TurnsFrom}
-use Rattle.nb_top.specs.Performed.{RunsTo, HasSmallScn, PlaysOpened, first_event, opened_reply, pages_first, refused_at, told_first, told_later}
-use Rattle.nb_top.specs.declared.telling.Telling.{Telling}
-use Rattle.nb_top.specs.Requests.{ToRun}
 use Rattle.nb_top.proofs.BegunRuns.{Left, start, first_one, begun_fails, begun_runs}
 use Rattle.nb_top.proofs.ByTurnsLaws.{OpensBeside, script_turns}
 use Rattle.nb_top.proofs.FirstLaws.{First}

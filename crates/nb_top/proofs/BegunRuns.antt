@@ -1,44 +1,7 @@
 -- A run after its first statement.
-use Rattle.std.proofs.Common.{◌≡◌, ◌⊎◌, inl, inr, ⊎_elim, ℕ, List, [], ◌∷◌, ◌++◌, take, true, false, refl, sym, ap, subst, ◌∙◌, true≢false}
-use Rattle.std.specs.List.{list_all}
-use Rattle.std.specs.Prelude.{Bool, Option, None, Some, Ok, Err, Contains, if◌then◌else◌}
-use Rattle.nb_host.specs.Files.{Files}
-use Rattle.nb_host.specs.World.{World}
-use Rattle.nb_host.specs.Crash.{Leaves, Untouched}
-use Rattle.nb_host.specs.Moments.{AtEachMoment, IsTimely}
-use Rattle.nb_host.specs.declared.faults.RunError.{RunError}
-use Rattle.nb_change.specs.Changes.{Other}
-use Rattle.nb_change.specs.Gave.{GaveNothing}
-use Rattle.nb_change.proofs.MomentLaws.{joined, left_before}
-use Rattle.nb_page.specs.Quiet.{Quiet}
-use Rattle.nb_model.specs.Account.{Base, Account}
-use Rattle.nb_model.specs.Gifts.{WasGiven}
-use Rattle.nb_model.specs.Making.{MadeFile, IsNoneOf}
-use Rattle.nb_model.specs.NewGuids.{guids_in}
-use Rattle.nb_model.specs.Outcomes.{Given}
-use Rattle.nb_model.specs.Output.{output}
-use Rattle.nb_model.specs.Run.{Event, AreFinished, files_made, strokes_of}
-use Rattle.nb_model.specs.Steps.{after_steps, steps_of, strokes_in}
-use Rattle.nb_model.specs.Strokes.{Stroke, base_in}
-use Rattle.nb_model.specs.Trail.{StandsIn, settled}
-use Rattle.nb_model.proofs.GuidLaws.{guids_append, strokes_in_steps}
-use Rattle.nb_base.specs.Open.{OfFiles}
-use Rattle.nb_state.specs.Open.{Held, NoPageWaits, IsOpen, name_of}
-use Rattle.nb_state.proofs.ShownLaws.{shown}
-use Rattle.nb_script.specs.Asked.{IsAskable}
-use Rattle.nb_script.specs.Scripts.{Plan}
-use Rattle.nb_session.specs.Acts.{Touched}
+use Rattle.std.proofs.Common.{◌≡◌, ◌⊎◌, inl, inr, ⊎_elim, ℕ, List, [], ◌∷◌, ◌++◌, take, true, false, refl, sym, ap, subst, ◌∙◌, true≢false, Bool, Option, None, Some, Ok, Err, Contains, if◌then◌else◌}
+use Rattle.nb_top.proofs.Common.{list_all, Files, World, Leaves, Untouched, AtEachMoment, IsTimely, RunError, Other, GaveNothing, joined, left_before, Quiet, Base, Account, WasGiven, MadeFile, IsNoneOf, guids_in, Given, output, Event, AreFinished, files_made, strokes_of, after_steps, steps_of, strokes_in, Stroke, base_in, StandsIn, settled, guids_append, strokes_in_steps, OfFiles, Held, NoPageWaits, IsOpen, name_of, shown, IsAskable, Plan, Touched, only_told, StopLeft, Status, number_of, RunLeft, RunReads, RunsTo, Finished, HasSmallScn, IsEnded, IsPerformed, PlaysOpened, Target, begins_refused, first_event, seen_after, pages_first, target_named, target_of, told_first, told_later, only_opens, Telling, All, Quietly, WithSize, Sparingly, ToRun, AreApart, both_true}
 use Rattle.nb_state.specs.Does.{only_tells}
-use Rattle.nb_session.specs.Replies.{only_told}
-use Rattle.nb_session.specs.Stops.{StopLeft}
-use Rattle.nb_top.specs.declared.status.Status.{Status}
-use Rattle.nb_top.specs.Numbers.{number_of}
-use Rattle.nb_top.specs.Performed.{RunLeft, RunReads, RunsTo, Finished, HasSmallScn, IsEnded, IsPerformed, PlaysOpened, Target, begins_refused, first_event, seen_after, pages_first, target_named, target_of, told_first, told_later, only_opens}
-use Rattle.nb_top.specs.declared.telling.Telling.{Telling}
-use Rattle.nb_top.specs.declared.telling.Telling.TheVariants.{All, Quietly, WithSize, Sparingly}
-use Rattle.nb_top.specs.Requests.{ToRun}
-use Rattle.nb_session.proofs.PlayLaws.{both_true}
-use Rattle.nb_session.proofs.StopLaws.{AreApart}
 use Rattle.nb_top.proofs.FirstEnds.{first_ends}
 use Rattle.nb_top.proofs.FirstLaws.{First, turns}
 use Rattle.nb_top.proofs.MadeRuns.{made_behind}

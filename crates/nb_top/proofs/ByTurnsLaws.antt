@@ -1,47 +1,16 @@
 -- A run turn by turn, put together from the calls that it makes.
-use Rattle.std.proofs.Common.{◌≡◌, inl, inr, ℕ, List, [], ◌∷◌, ◌++◌, sym, ap, subst, ◌∙◌}
-use Rattle.std.specs.Prelude.{Bool, true, false, not, Option, None, Some, Result, Ok, Err, IsErr}
-use Rattle.nb_host.specs.World.{World}
-use Rattle.nb_host.specs.Crash.{LeavesAll}
-use Rattle.nb_host.specs.Moments.{IsTimely}
-use Rattle.nb_host.specs.declared.refusals.Refusal.{Refusal}
-use Rattle.nb_host.specs.declared.refusals.Refusal.TheVariants.{FileExists}
-use Rattle.nb_host.specs.declared.faults.RunError.{RunError}
-use Rattle.nb_change.specs.Changes.{Only}
-use Rattle.nb_page.specs.Quiet.{Quiet}
-use Rattle.nb_model.specs.Account.{Plain, Account, with_entry}
-use Rattle.nb_model.specs.Causes.{Cause, is_free_entry, not_free}
-use Rattle.nb_model.specs.Generated.{generated}
-use Rattle.nb_model.specs.Outcomes.{Given}
-use Rattle.nb_model.specs.Output.{output}
-use Rattle.nb_model.specs.Run.{Event, Now, Played, one_turn, opening, play, rounds, files_made}
-use Rattle.nb_model.specs.Trail.{Trail}
-use Rattle.nb_base.specs.Open.{OfFiles}
-use Rattle.nb_state.specs.Open.{Held, name_of}
-use Rattle.nb_script.specs.Scripts.{Plan, script_of}
+use Rattle.std.proofs.Common.{◌≡◌, inl, inr, ℕ, List, [], ◌∷◌, ◌++◌, sym, ap, subst, ◌∙◌, Bool, true, false, not, Option, None, Some, Result, Ok, Err, IsErr}
+use Rattle.nb_top.proofs.Common.{World, LeavesAll, IsTimely, Refusal, FileExists, RunError, Only, Quiet, Plain, Account, with_entry, Cause, is_free_entry, not_free, generated, Given, output, Event, Now, Played, opening, play, rounds, files_made, Trail, OfFiles, Held, name_of, Plan, script_of, LeavesOthers, SaysLine, Plays, leaves_line, leaves_quiet, leaves_then, Status, Telling, Sparingly, EndsEarly, ReadByTurns, RunByTurns, ScriptByTurns, TakesTold, TurnsFrom, WrittenByTurns, EndsAs, pages_first, told_later, Request, ToRun, ToGenerate, no_err}
+use Rattle.nb_model.specs.Run.{one_turn}
 use Rattle.nb_session.specs.ByTurns.{ByTurns, GoesByTurns}
-use Rattle.nb_session.specs.Others.{LeavesOthers}
-use Rattle.nb_session.specs.Says.{SaysLine}
-use Rattle.nb_session.specs.Stops.{Plays}
 use Rattle.nb_session.specs.Todo.{PlaysInTurn}
 use Rattle.nb_session.specs.Told.{told_events}
 use Rattle.nb_session.specs.declared.told.Told.{Told}
 use Rattle.nb_session.proofs.ByTurnsLaws.{goes_by}
-use Rattle.nb_session.proofs.OthersLaws.{leaves_line, leaves_quiet, leaves_then}
-use Rattle.nb_top.specs.declared.status.Status.{Status}
-use Rattle.nb_top.specs.declared.telling.Telling.{Telling}
-use Rattle.nb_top.specs.declared.telling.Telling.TheVariants.{Sparingly}
-use Rattle.nb_top.specs.ByTurns.{EndsEarly, ReadByTurns, RunByTurns, ScriptByTurns, TakesTold, TurnsFrom, WrittenByTurns}
-use Rattle.nb_top.specs.Numbers.{EndsAs}
-use Rattle.nb_top.specs.Performed.{pages_first, told_later}
-use Rattle.nb_top.specs.Requests.{Request, ToRun, ToGenerate}
 
 -- an error is an early end
 pub early_err : (result : Result Status RunError) → IsErr result → EndsEarly result
-early_err (Ok status) is = absurd (no_err is)
-  where
-    no_err : IsErr {T = Status} {E = RunError} (Ok status) → ⊥
-    no_err h = cc
+early_err (Ok status) is = absurd (no_err Status RunError status is)
 early_err (Err e) is = tt
 
 -- a value is no early end

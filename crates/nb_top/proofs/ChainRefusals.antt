@@ -1,57 +1,27 @@
 -- Files of a chain, of a fold or of a plan are never refused as words are that name no job.
-use Rattle.std.proofs.Common.{◌≡◌, ◌≢◌, ℕ, ◌+◌, List, [], ◌∷◌, length, true, false, ap, subst}
-use Rattle.std.specs.Prelude.{Bool, ◌==◌, not, Option, None, Some, Result, Ok, Err}
+use Rattle.std.proofs.Common.{◌≡◌, ◌≢◌, ℕ, ◌+◌, List, [], ◌∷◌, length, true, false, ap, subst, Bool, ◌==◌, not, Option, None, Some, Result, Ok, Err}
+use Rattle.nb_top.proofs.Common.{is_header, signature, state_of, stalled_state, File, Files, same_name, Refusal, Usage, NoFile, BadLevel, ChainLevel, ChainGuid, ChainSize, ChainScn, Cause, first_cause, when, Contents, read_level, begins_level, Link, whole_link, level_link, is_bad_length, not_whole, first_link, not_behind, next_link, linked, next_links, verdict, chained, file_after, files_after, not_after, with_first, Retention, planned, IsOther, other_first, other_when, some_same, none_some, FileExists}
 use Rattle.nb_fields.specs.Bytes.{number_in}
-use Rattle.nb_fields.specs.Header.{is_header, signature, state_of}
-use Rattle.nb_fields.specs.States.{stalled_state}
-use Rattle.nb_host.specs.Files.{File, Files}
-use Rattle.nb_host.specs.Names.{same_name}
-use Rattle.nb_host.specs.declared.refusals.Refusal.{Refusal}
-use Rattle.nb_host.specs.declared.refusals.Refusal.TheVariants.{Usage, NoFile, BadLevel, ChainLevel, ChainGuid, ChainSize, ChainScn}
-use Rattle.nb_model.specs.Causes.{Cause, first_cause, when}
-use Rattle.nb_model.specs.Levels.{Contents, read_level, begins_level}
-use Rattle.nb_model.specs.Restoring.{Link, whole_link, level_link, is_bad_length, not_whole, first_link, not_behind, next_link, linked, next_links, verdict}
-use Rattle.nb_fold.specs.Verdict.{chained, file_after, files_after, not_after, with_files}
-use Rattle.nb_catalog.specs.Answers.{with_first}
+use Rattle.nb_fold.specs.Verdict.{with_files}
 use Rattle.nb_catalog.specs.Heads.{level_head, read_file, read_files, whole_head}
-use Rattle.nb_catalog.specs.Plans.{Retention, plan_of}
-use Rattle.nb_catalog.specs.Turns.{planned}
+use Rattle.nb_catalog.specs.Plans.{plan_of}
 use Rattle.nb_level.specs.declared.head.LevelHead.{LevelHead}
-use Rattle.nb_model.proofs.UsageCauses.{IsOther, other_first, other_when}
 
 -- it isn't refused, or for another reason
-abbrev IsFine : {T : Type 0} → Result T Refusal → Type 0
+abbrev pub IsFine : {T : Type 0} → Result T Refusal → Type 0
 IsFine (Ok value) = Unit {0}
 IsFine (Err refusal) = refusal ≢ Usage
 
-no_file : (name : List ℕ) → NoFile name ≢ Usage
-no_file name h = cc
+pub exists_usage : (name : List ℕ) → FileExists name ≢ Usage
+exists_usage name h = cc
 
-bad_level : (name : List ℕ) (at : ℕ) → BadLevel name at ≢ Usage
-bad_level name at h = cc
-
-chain_level : (name : List ℕ) (a b : ℕ) → ChainLevel name a b ≢ Usage
-chain_level name a b h = cc
-
-chain_guid : (name a b : List ℕ) → ChainGuid name a b ≢ Usage
-chain_guid name a b h = cc
-
-chain_size : (name : List ℕ) (a b : ℕ) → ChainSize name a b ≢ Usage
-chain_size name a b h = cc
-
-chain_scn : (name : List ℕ) (a b : ℕ) → ChainScn name a b ≢ Usage
-chain_scn name a b h = cc
-
-some_other : (r : Refusal) → r ≢ Usage → IsOther (Some r)
-some_other r h e = h (same e)
-  where
-    same : Some r ≡ Some Usage → r ≡ Usage
-    same k = cc
+pub some_other : (r : Refusal) → r ≢ Usage → IsOther (Some r)
+some_other r h e = h (some_same r Usage e)
 
 -- a cause that refuses, or what comes where none does
-by_cause : (c : Cause) (l : Link) → IsOther c → IsFine (elim c as (λ z. Result Link Refusal) [ Some refusal ↦ Err refusal | None ↦ Ok l ])
-by_cause None l h = tt
-by_cause (Some r) l h = λ e. h (ap (λ (x : Refusal). Some x) e)
+pub by_cause : {T : Type 0} (c : Cause) (x : T) → IsOther c → IsFine (elim c as (λ z. Result T Refusal) [ Some refusal ↦ Err refusal | None ↦ Ok x ])
+by_cause None x h = tt
+by_cause (Some r) x h = λ e. h (ap (λ (y : Refusal). Some y) e)
 
 whole_other : (name bytes : List ℕ) → IsOther (not_whole name bytes)
 unfolding not_whole
@@ -61,10 +31,10 @@ whole_other name bytes = by (is_header bytes)
       | false ↦ Some (BadLevel name 0)
       | true ↦ first_cause (when (not (state_of bytes == stalled_state)) (BadLevel name 22) ∷ when (is_bad_length bytes) (BadLevel name (length bytes)) ∷ [])
     ])
-    by false = some_other (BadLevel name 0) (bad_level name 0)
+    by false = some_other (BadLevel name 0) (λ e. cc)
     by true = other_first (when (not (state_of bytes == stalled_state)) (BadLevel name 22) ∷ when (is_bad_length bytes) (BadLevel name (length bytes)) ∷ []) (
-      other_when (not (state_of bytes == stalled_state)) (BadLevel name 22) (bad_level name 22),
-      (other_when (is_bad_length bytes) (BadLevel name (length bytes)) (bad_level name (length bytes)), tt),
+      other_when (not (state_of bytes == stalled_state)) (BadLevel name 22) (λ e. cc),
+      (other_when (is_bad_length bytes) (BadLevel name (length bytes)) (λ e. cc), tt),
     )
 
 first_fine : (name bytes : List ℕ) → IsFine (first_link name bytes)
@@ -75,8 +45,8 @@ first_fine name bytes = by (begins_level bytes) (read_level bytes)
       | true ↦ elim r as (λ z. Result Link Refusal) [ Err at ↦ Err (BadLevel name at) | Ok c ↦ Err (ChainLevel name c.head.level 0) ]
       | false ↦ elim (not_whole name bytes) as (λ z. Result Link Refusal) [ Some refusal ↦ Err refusal | None ↦ Ok (whole_link bytes) ]
     ])
-    by true (Err at) = bad_level name at
-    by true (Ok c) = chain_level name c.head.level 0
+    by true (Err at) = λ e. cc
+    by true (Ok c) = λ e. cc
     by false r = by_cause (not_whole name bytes) (whole_link bytes) (whole_other name bytes)
 
 behind_other : (k : ℕ) (last : Link) (name : List ℕ) (c : Contents) → IsOther (not_behind k last name c)
@@ -87,12 +57,12 @@ behind_other k last name c = other_first (
     ∷ when (not (c.head.size == last.size)) (ChainSize name c.head.size last.size)
     ∷ when (not (c.head.previous_scn == last.scn)) (ChainScn name c.head.previous_scn last.scn)
     ∷ []) (
-      other_when (not (c.head.level == k)) (ChainLevel name c.head.level k) (chain_level name c.head.level k),
+      other_when (not (c.head.level == k)) (ChainLevel name c.head.level k) (λ e. cc),
       (
-        other_when (not (same_name c.head.previous last.guid)) (ChainGuid name c.head.previous last.guid) (chain_guid name c.head.previous last.guid),
+        other_when (not (same_name c.head.previous last.guid)) (ChainGuid name c.head.previous last.guid) (λ e. cc),
         (
-          other_when (not (c.head.size == last.size)) (ChainSize name c.head.size last.size) (chain_size name c.head.size last.size),
-          (other_when (not (c.head.previous_scn == last.scn)) (ChainScn name c.head.previous_scn last.scn) (chain_scn name c.head.previous_scn last.scn), tt),
+          other_when (not (c.head.size == last.size)) (ChainSize name c.head.size last.size) (λ e. cc),
+          (other_when (not (c.head.previous_scn == last.scn)) (ChainScn name c.head.previous_scn last.scn) (λ e. cc), tt),
         ),
       ),
     )
@@ -108,9 +78,9 @@ next_fine k last name bytes = by (begins_level bytes) (number_in 16 4 bytes == s
         | Ok c ↦ elim (not_behind k last name c) as (λ z. Result Link Refusal) [ Some refusal ↦ Err refusal | None ↦ Ok (level_link c) ]
       ]
     ])
-    by false true r = chain_level name 0 k
-    by false false r = bad_level name 0
-    by true signed (Err at) = bad_level name at
+    by false true r = λ e. cc
+    by false false r = λ e. cc
+    by true signed (Err at) = λ e. cc
     by true signed (Ok c) = by_cause (not_behind k last name c) (level_link c) (behind_other k last name c)
 
 linked_fine : (l : Link) (rest : Result (List Link) Refusal) → IsFine rest → IsFine (linked l rest)
@@ -128,7 +98,7 @@ named_fine : (name : List ℕ) (file : File) (link : List ℕ → Result Link Re
       | None ↦ Err (NoFile name)
       | Some bytes ↦ elim (link bytes) as (λ z. Result (List Link) Refusal) [ Err refusal ↦ Err refusal | Ok l ↦ linked l (rest l) ]
     ])
-named_fine name None link rest h later = no_file name
+named_fine name None link rest h later = λ e. cc
 named_fine name (Some bytes) link rest h later = file_fine (link bytes) rest (h bytes) later
 
 nexts_fine : (files : Files) (k : ℕ) (last : Link) (names : List (List ℕ)) → IsFine (next_links files k last names)
@@ -147,15 +117,8 @@ refused_chain files names refusal is = subst (λ (r : Result (List Link) Refusal
 -- ---- files that are folded
 
 after_other : (last : Option Contents) (name : List ℕ) (c : Contents) → IsOther (not_after last name c)
-after_other None name c = λ e. none_usage e
-  where
-    none_usage : ◌≡◌ {A = Cause} None (Some Usage) → ⊥
-    none_usage h = cc
+after_other None name c = λ e. none_some Usage e
 after_other (Some last) name c = behind_other (last.head.level + 1) (level_link last) name c
-
-after_cause : (cause : Cause) (c : Contents) → IsOther cause → IsFine (elim cause as (λ z. Result Contents Refusal) [ Some refusal ↦ Err refusal | None ↦ Ok c ])
-after_cause None c h = tt
-after_cause (Some r) c h = λ e. h (ap (λ (x : Refusal). Some x) e)
 
 after_fine : (files : Files) (last : Option Contents) (name : List ℕ) → IsFine (file_after files last name)
 unfolding file_after
@@ -165,8 +128,8 @@ after_fine files last name = by (files name)
       | Err at ↦ Err (BadLevel name at)
       | Ok c ↦ elim (not_after last name c) as (λ z. Result Contents Refusal) [ Some refusal ↦ Err refusal | None ↦ Ok c ]
     ])
-    read (Err at) = bad_level name at
-    read (Ok c) = after_cause (not_after last name c) c (after_other last name c)
+    read (Err at) = λ e. cc
+    read (Ok c) = by_cause (not_after last name c) c (after_other last name c)
 
     by : (file : File) → IsFine (elim file as (λ z. Result Contents Refusal) [
       | None ↦ Err (NoFile name)
@@ -175,7 +138,7 @@ after_fine files last name = by (files name)
         | Ok c ↦ elim (not_after last name c) as (λ z. Result Contents Refusal) [ Some refusal ↦ Err refusal | None ↦ Ok c ]
       ]
     ])
-    by None = no_file name
+    by None = λ e. cc
     by (Some bytes) = read (read_level bytes)
 
 with_fine : (cs : List Contents) (rest : Result (List Contents) Refusal) → IsFine rest → IsFine (with_files cs rest)
@@ -197,22 +160,18 @@ refused_files files names refusal is = subst (λ (r : Result (List Contents) Ref
 
 -- ---- files that are planned for
 
-head_cause : (cause : Cause) (head : LevelHead) → IsOther cause → IsFine (elim cause as (λ z. Result LevelHead Refusal) [ Some refusal ↦ Err refusal | None ↦ Ok head ])
-head_cause None head h = tt
-head_cause (Some r) head h = λ e. h (ap (λ (x : Refusal). Some x) e)
-
 read_fine : (name : List ℕ) (file : File) → IsFine (read_file name file)
 unfolding read_file
-read_fine name None = no_file name
+read_fine name None = λ e. cc
 read_fine name (Some bytes) = by (begins_level bytes) (read_level bytes)
   where
     by : (t : Bool) (r : Result Contents ℕ) → IsFine (elim t as (λ z. Result LevelHead Refusal) [
       | true ↦ elim r as (λ z. Result LevelHead Refusal) [ Err at ↦ Err (BadLevel name at) | Ok c ↦ Ok (level_head c.head) ]
       | false ↦ elim (not_whole name bytes) as (λ z. Result LevelHead Refusal) [ Some refusal ↦ Err refusal | None ↦ Ok (whole_head bytes) ]
     ])
-    by true (Err at) = bad_level name at
+    by true (Err at) = λ e. cc
     by true (Ok c) = tt
-    by false r = head_cause (not_whole name bytes) (whole_head bytes) (whole_other name bytes)
+    by false r = by_cause (not_whole name bytes) (whole_head bytes) (whole_other name bytes)
 
 heads_fine : (head : LevelHead) (rest : Result (List LevelHead) Refusal) → IsFine rest → IsFine (with_first head rest)
 heads_fine head (Ok heads) h = tt

@@ -1,23 +1,6 @@
 -- Copies of files that stand for an account stand for one with the same records.
-use Rattle.std.proofs.Common.{◌≡◌, ◌≢◌, ℕ, zero, suc, List, refl, sym, ap, subst, ◌∙◌, true, false, arith}
-use Rattle.std.specs.Prelude.{Bool, ◌==◌, Some, None, Result, Ok, Err}
-use Rattle.nb_fields.specs.Header.{state_of}
-use Rattle.nb_fields.specs.States.{normal_state, stalled_state}
-use Rattle.nb_host.specs.Files.{File, Files}
-use Rattle.nb_host.specs.Names.{is_delta}
-use Rattle.nb_host.specs.World.{World}
-use Rattle.nb_host.specs.declared.refusals.Refusal.{Refusal}
-use Rattle.nb_host.specs.declared.refusals.Refusal.TheVariants.{Unfinished}
-use Rattle.nb_model.specs.Account.{Base, base_of, IsBase, Account}
-use Rattle.nb_model.specs.Causes.{Cause, not_database}
-use Rattle.nb_model.specs.Image.{Image, image_in, image_state}
-use Rattle.nb_model.specs.Main.{HoldsMain}
-use Rattle.nb_model.specs.Owner.{delta_name, owner, owner_in, owner_with, entry_in}
-use Rattle.nb_model.specs.Stands.{Stands, Belongs, to_base, to_record}
-use Rattle.nb_model.proofs.FrontLaws.{owner_of_entry}
-use Rattle.nb_model.proofs.MainLaws.{main_state, owner-formed, owner-refused, owner_main}
-use Rattle.nb_top.specs.Standing.{StandsFor}
-use Rattle.nb_top.specs.Worlds.{StartsFrom, AreCopies, account_of}
+use Rattle.std.proofs.Common.{◌≡◌, ◌≢◌, ℕ, zero, suc, List, refl, sym, ap, subst, ◌∙◌, true, false, arith, Bool, ◌==◌, Some, None, Result, Ok, Err}
+use Rattle.nb_top.proofs.Common.{state_of, normal_state, stalled_state, File, Files, is_delta, World, Refusal, Unfinished, Base, base_of, IsBase, Account, Cause, not_database, Image, image_in, image_state, HoldsMain, delta_name, owner, owner_in, owner_with, entry_in, Stands, Belongs, to_base, to_record, owner_of_entry, main_state, owner-formed, owner-refused, owner_main, StandsFor, StartsFrom, AreCopies, account_of, err_not_ok, ok_equal}
 use Rattle.nb_top.proofs.OpenLaws.{none_shown, shown_entry}
 use Rattle.nb_top.proofs.WorldLaws.{stands_from, none_beside, not_beside}
 
@@ -33,10 +16,7 @@ with_none name bytes b h = cc
 
 in_state : (state : ℕ) (name bytes : List ℕ) (b : Base) → owner_in state name bytes None ≡ Ok b → (state ≡ normal_state) × (b ≡ base_of (image_in bytes))
 unfolding owner_in
-in_state zero name bytes b e = (refl, same (base_of (image_in bytes)) e)
-  where
-    same : (a : Base) → ◌≡◌ {A = Result Base Refusal} (Ok a) (Ok b) → b ≡ a
-    same a h = cc
+in_state zero name bytes b e = (refl, sym (ok_equal {T = Base} {E = Refusal} (base_of (image_in bytes)) b e))
 in_state (suc k) name bytes b e = absurd (by (k == 2) e)
   where
     by : (t : Bool) → elim t as (λ z. Result Base Refusal) [ true ↦ Err Unfinished | false ↦ owner_with name bytes None ] ≡ Ok b → ⊥
@@ -46,11 +26,8 @@ in_state (suc k) name bytes b e = absurd (by (k == 2) e)
 opens_alone : (name bytes : List ℕ) (b : Base) → owner name (Some bytes) None ≡ Ok b → IsAlone bytes b
 opens_alone name bytes b e = by (not_database bytes) refl
   where
-    err_ok : (answer : Result Base Refusal) (r : Refusal) → answer ≡ Err r → answer ≡ Ok b → ⊥
-    err_ok answer r f h = cc
-
     by : (c : Cause) → not_database bytes ≡ c → IsAlone bytes b
-    by (Some r) broken = absurd (err_ok (owner name (Some bytes) None) r (owner-refused name bytes None r broken) e)
+    by (Some r) broken = absurd (err_not_ok r b (owner name (Some bytes) None) (owner-refused name bytes None r broken) e)
     by None formed = let found = in_state (state_of bytes) name bytes b (sym (owner-formed name bytes None formed) ∙ e) in record { formed = formed; normal = found.0; is = found.1 }
 
 module _ (files copies : Files) (account : Account) (stands : Stands files account) (copied : AreCopies files copies) where

@@ -1,13 +1,7 @@
 -- GUIDs that count on from those that were given are new.
-use Rattle.std.proofs.Common.{◌≡◌, ℕ, zero, suc, ◌+◌, ◌^◌, ◌<◌, ◌≤◌, List, length, refl, sym, ap, subst, ◌∙◌, arith}
-use Rattle.std.specs.Prelude.{Some, Contains}
-use Rattle.nb_host.specs.Files.{Files}
-use Rattle.nb_host.specs.World.{World}
-use Rattle.nb_mem.specs.Histories.{guid_of, guids_behind}
+use Rattle.std.proofs.Common.{◌≡◌, ℕ, zero, suc, ◌+◌, ◌^◌, ◌<◌, ◌≤◌, List, length, refl, sym, ap, subst, ◌∙◌, arith, Some, Contains}
+use Rattle.nb_top.proofs.Common.{Files, World, guid_of, guids_behind, Kept, AreNew, ComeOnce, NameNone, StartsFrom}
 use Rattle.nb_mem.proofs.GuidLaws.{behind_apart, guid_not_nil, guids_apart}
-use Rattle.nb_model.specs.Account.{Kept}
-use Rattle.nb_model.specs.NewGuids.{AreNew, ComeOnce}
-use Rattle.nb_top.specs.Worlds.{NameNone, StartsFrom}
 
 sixteen : (n : ℕ) → length (guid_of n) ≡ 16
 unfolding guid_of

@@ -1,57 +1,11 @@
 -- A run whose first statement creates its database.
-use Rattle.std.proofs.Common.{◌≡◌, ◌≢◌, inl, inr, ⊎_elim, ℕ, List, [], ◌∷◌, ◌++◌, length, take, true, false, refl, sym, ap, subst, ◌∙◌, arith}
-use Rattle.std.specs.Prelude.{Bool, None, Some, Result, Ok, Err, Contains, IfOk}
-use Rattle.std.proofs.lemmas.Bool.{true≢false}
-use Rattle.std.proofs.lemmas.List.{append-nil, take-append-le, take_all}
-use Rattle.nb_fields.specs.Free.{is_free_file}
-use Rattle.nb_fields.specs.Fresh.{fresh}
-use Rattle.nb_host.specs.Files.{Files}
-use Rattle.nb_host.specs.Names.{is_delta}
-use Rattle.nb_host.specs.World.{World}
-use Rattle.nb_host.specs.Crash.{Leaves}
-use Rattle.nb_host.specs.Moments.{AtEachMoment}
-use Rattle.nb_host.specs.declared.faults.Fault.{Fault}
-use Rattle.nb_host.specs.declared.faults.Fault.TheVariants.{Refused}
-use Rattle.nb_host.specs.declared.refusals.Refusal.{Refusal}
-use Rattle.nb_host.specs.declared.refusals.Refusal.TheVariants.{FileExists, Usage}
-use Rattle.nb_host.specs.declared.faults.RunError.{RunError}
-use Rattle.nb_change.specs.Changes.{ChangedLeft, Only}
-use Rattle.nb_change.proofs.MomentLaws.{weaker, untouched_fewer}
-use Rattle.nb_page.specs.Free.{is_free_name}
-use Rattle.nb_page.specs.Quiet.{Quiet}
-use Rattle.nb_model.specs.declared.reply.Reply.TheVariants.{Pages, Refused as RefusedReply}
-use Rattle.nb_model.specs.declared.statement.Statement.{Statement}
-use Rattle.nb_model.specs.declared.statement.Statement.TheVariants.{CreateDb}
-use Rattle.nb_model.specs.Account.{Base, IsBase, base_of, Account}
-use Rattle.nb_model.specs.Causes.{is_free_entry}
-use Rattle.nb_model.specs.Going.{IsMaking}
-use Rattle.nb_model.specs.Image.{Image}
-use Rattle.nb_model.specs.Making.{MadeFile, IsNoneOf}
-use Rattle.nb_model.specs.Outcomes.{Given}
-use Rattle.nb_model.specs.Owner.{delta_name}
-use Rattle.nb_model.specs.Run.{Event, IsRun, Opening, base_now, files_made, opening, rounds}
-use Rattle.nb_model.specs.Steps.{Step, steps_in, steps_of}
-use Rattle.nb_model.specs.Trail.{Trail, ShowsIn, StandsIn, settled}
+use Rattle.std.proofs.Common.{◌≡◌, ◌≢◌, inl, inr, ⊎_elim, ℕ, List, [], ◌∷◌, ◌++◌, length, take, true, false, refl, sym, ap, subst, ◌∙◌, arith, Bool, None, Some, Result, Ok, Err, Contains, IfOk}
+use Rattle.nb_top.proofs.Common.{true≢false, append-nil, take-append-le, take_all, is_free_file, fresh, Files, is_delta, World, Leaves, AtEachMoment, Fault, Refused, Refusal, FileExists, RunError, ChangedLeft, Only, weaker, untouched_fewer, is_free_name, Quiet, Pages, Statement, CreateDb, Base, IsBase, base_of, Account, is_free_entry, IsMaking, Image, MadeFile, IsNoneOf, Given, delta_name, Event, IsRun, Opening, base_now, files_made, opening, rounds, Step, steps_in, steps_of, Trail, ShowsIn, StandsIn, settled, created, not_created, run_ends, no_main, acked_steps_none, steps_append, steps_length, steps_one, shows_settled, IsWell, OfFiles, Creates, CreateAnswers, Held, IsOpen, IsAskable, FitsFirst, Plan, MadeLeft, IsSaid, leaves_among, leaves_changes, cache_asked, KnowsNames, MayBeGiven, ReadsAsked, RunReads, RunsTo, HasSmallScn, first_event, opened_reply, pages_first, refused_at, seen_after, target_of, Telling, ToRun}
+use Rattle.nb_model.specs.declared.reply.Reply.TheVariants.{Refused as RefusedReply}
 use Rattle.nb_model.proofs.FreshImageLaws.{fresh_length}
-use Rattle.nb_model.proofs.OpeningLaws.{created, not_created, run_ends}
-use Rattle.nb_model.proofs.StandsLaws.{no_main}
-use Rattle.nb_model.proofs.StepsLaws.{acked_steps_none, steps_append, steps_length, steps_one}
-use Rattle.nb_model.proofs.TrailLaws.{shows_settled}
-use Rattle.nb_model.specs.Well.{IsWell}
 use Rattle.nb_model.proofs.WellLaws.{fresh_well_base}
 use Rattle.nb_base.specs.Beginnings.{CreateLeft, CreateReads}
-use Rattle.nb_base.specs.Open.{OfFiles}
-use Rattle.nb_state.specs.Beginnings.{Creates, CreateAnswers, IsCreated}
-use Rattle.nb_state.specs.Open.{Held, IsOpen}
-use Rattle.nb_script.specs.Asked.{IsAskable}
-use Rattle.nb_script.specs.Fits.{FitsFirst}
-use Rattle.nb_script.specs.Scripts.{Plan}
-use Rattle.nb_session.specs.Acts.{MadeLeft}
-use Rattle.nb_session.specs.Stops.{IsSaid}
-use Rattle.nb_session.proofs.OthersLaws.{leaves_among, leaves_changes}
-use Rattle.nb_top.specs.Performed.{cache_asked, KnowsNames, MayBeGiven, ReadsAsked, RunReads, RunsTo, HasSmallScn, first_event, opened_reply, pages_first, refused_at, seen_after, target_of}
-use Rattle.nb_top.specs.declared.telling.Telling.{Telling}
-use Rattle.nb_top.specs.Requests.{ToRun}
+use Rattle.nb_state.specs.Beginnings.{IsCreated}
 use Rattle.nb_top.proofs.QuietRuns.{left_quietly}
 use Rattle.nb_top.proofs.ReadsLaws.{reads_quiet}
 use Rattle.nb_top.proofs.FirstLaws.{First, first_created, first_strikes, created_base, turns}
@@ -62,6 +16,7 @@ use Rattle.nb_top.proofs.BegunRuns.{later as later_told}
 use Rattle.nb_top.proofs.ByTurnsLaws.{OpensBeside, beside_none, beside_now}
 use Rattle.nb_top.proofs.Beginnings.{Beginning, FirstRefused, FirstDone}
 use Rattle.nb_top.proofs.ToldLaws.{Ran, later_files, told_first_made, told_first_steps, performed_refused}
+use Rattle.nb_top.proofs.ChainRefusals.{exists_usage}
 
 module _ (old : World) (account : Account) (given : Given) (plan : Plan) (telling : Telling) (askable : IsAskable plan) (name : List ℕ) (size raw cache : ℕ) (first_is : plan.first ≡ CreateDb name size raw cache)
     (names : KnowsNames old.files account) where
@@ -268,11 +223,8 @@ module _ (old : World) (account : Account) (given : Given) (plan : Plan) (tellin
               quiet = creates.taken answer.0;
               ran = subst (λ (r : Refusal). Ran account given plan (refused_at plan.first_session r) account given) (sym answer.1) (taken_ran (sym knows ∙ answer.0));
               ends = taken_ends (sym knows ∙ answer.0);
-              not_usage = λ e. exists_usage (sym answer.1 ∙ e);
+              not_usage = λ e. exists_usage name (sym answer.1 ∙ e);
             }
-          where
-            exists_usage : FileExists name ≡ Usage → ⊥
-            exists_usage e = cc
 
         done : (held : Held) → result ≡ Ok held → FirstDone old mid account given plan telling askable held
         done held is =

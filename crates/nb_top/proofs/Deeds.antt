@@ -1,15 +1,7 @@
 -- What is known of each deed that fits, in one place: laws over what is asked for cite it.
 use Rattle.std.proofs.Common.{◌≡◌, ◌∙◌, ℕ, List, true, false, ap}
-use Rattle.nb_host.specs.Files.{Files}
-use Rattle.nb_host.specs.Names.{is_name}
-use Rattle.nb_host.specs.World.{World}
-use Rattle.nb_model.specs.declared.job.Deed.{Deed}
-use Rattle.nb_model.specs.declared.job.Deed.TheVariants.{Restore, Fixup, Apply, Fold, Plan}
-use Rattle.nb_model.specs.Account.{Account}
-use Rattle.nb_model.specs.Words.{is_database}
-use Rattle.nb_top.specs.OneTurn.{FitsDeed, OfName, leaves_all, one_turn}
-use Rattle.nb_top.specs.Performed.{HoldsUnder, KnowsNames}
-use Rattle.nb_top.specs.Standing.{StandsFor}
+use Rattle.nb_top.proofs.Common.{Files, is_name, World, Deed, Restore, Fixup, Apply, Fold, Account, is_database, FitsDeed, OfName, leaves_all, one_turn, HoldsUnder, KnowsNames, StandsFor}
+use Rattle.nb_model.specs.declared.job.Deed.TheVariants.{Plan}
 use Rattle.nb_top.proofs.Fixed.{fix_sound}
 use Rattle.nb_top.proofs.FoldStands.{fold_sound}
 use Rattle.nb_top.proofs.Merged.{merge_sound}

@@ -1,11 +1,7 @@
 -- The turns after a first statement come to an end, whatever stands then.
 use Rattle.std.proofs.Common.{◌≡◌, ℕ, ◌≤◌, map, length, ap, arith}
-use Rattle.std.proofs.lemmas.List.{length-map}
-use Rattle.nb_model.specs.Outcomes.{Begins}
-use Rattle.nb_model.specs.Run.{Now, begun, AreFinished}
+use Rattle.nb_top.proofs.Common.{length-map, Begins, Now, begun, AreFinished, IsAskable, Plan}
 use Rattle.nb_model.proofs.FinishLaws.{order_ends}
-use Rattle.nb_script.specs.Asked.{IsAskable}
-use Rattle.nb_script.specs.Scripts.{Plan}
 use Rattle.nb_top.proofs.FirstLaws.{turns}
 
 module _ (plan : Plan) (askable : IsAskable plan) (now : Now) (todo : now.todo ≡ begun plan.sessions) where

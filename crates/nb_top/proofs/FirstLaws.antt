@@ -1,27 +1,6 @@
 -- The first statement of a run, and the run that comes after it.
-use Rattle.std.proofs.Common.{◌≡◌, ℕ, List, [], ◌∷◌, ◌++◌, length, true, false, refl, sym, ap, subst, ◌∙◌, arith}
-use Rattle.std.specs.Prelude.{None, Some}
-use Rattle.nb_fields.specs.Fresh.{fresh, fresh_count}
-use Rattle.nb_model.specs.declared.reply.Reply.{Reply}
-use Rattle.nb_model.specs.declared.reply.Reply.TheVariants.{Pages, Opened}
-use Rattle.nb_model.specs.declared.statement.Statement.{Statement}
-use Rattle.nb_model.specs.declared.statement.Statement.TheVariants.{CreateDb, OpenDb}
-use Rattle.nb_model.specs.Image.{Image, image_state}
-use Rattle.nb_model.specs.Account.{Base, base_of, IsBase, Account}
-use Rattle.nb_model.specs.Strokes.{Stroke, make, on_base, base_in}
-use Rattle.nb_model.specs.Causes.{is_free_entry}
-use Rattle.nb_model.specs.NewGuids.{guids_in}
-use Rattle.nb_model.specs.Outcomes.{Given}
-use Rattle.nb_model.specs.Output.{status_after}
-use Rattle.nb_model.specs.Run.{Event, Now, Played, base_now, begun, opening, play, rounds, AreFinished, IsRun}
-use Rattle.nb_model.specs.Steps.{after_steps, after_step, made, steps_in}
-use Rattle.nb_model.specs.Trail.{settled, settles_at, after_stroke}
-use Rattle.nb_model.proofs.RunLaws.{base_in_base}
-use Rattle.nb_model.proofs.OpeningLaws.{IsCreated, created, run_on}
-use Rattle.nb_model.proofs.ReopenLaws.{IsReopened, reopened}
-use Rattle.nb_script.specs.Scripts.{Plan}
-use Rattle.nb_session.specs.Replies.{is_refusal}
-use Rattle.nb_top.specs.Performed.{cache_asked, Target, first_event, target_named}
+use Rattle.std.proofs.Common.{◌≡◌, ℕ, List, [], ◌∷◌, ◌++◌, length, true, false, refl, sym, ap, subst, ◌∙◌, arith, None, Some}
+use Rattle.nb_top.proofs.Common.{fresh, fresh_count, Reply, Pages, Opened, Statement, CreateDb, OpenDb, Image, image_state, Base, base_of, IsBase, Account, Stroke, make, on_base, base_in, is_free_entry, guids_in, Given, status_after, Event, Now, Played, base_now, begun, opening, play, rounds, AreFinished, IsRun, after_steps, after_step, made, steps_in, settled, settles_at, after_stroke, base_in_base, IsCreated, created, run_on, IsReopened, reopened, Plan, is_refusal, cache_asked, Target, first_event, target_named}
 use Rattle.nb_top.proofs.ToldLaws.{Ran}
 
 -- the turns after it

@@ -1,52 +1,15 @@
 -- After the first statement the database stands ready for the turns of its sessions, and the files that they make are none of its two.
-use Rattle.std.proofs.Common.{◌≡◌, ◌≢◌, inl, inr, ℕ, ◌+◌, ◌-◌, ◌≤◌, List, [], ◌∷◌, length, get_or, refl, sym, ap, subst, ◌∙◌, arith}
-use Rattle.std.specs.Prelude.{Bool, true, false, not, nat_le, is_some, ◌&&◌, Contains}
-use Rattle.std.specs.List.{AllByRecursion}
-use Rattle.std.proofs.lemmas.Bool.{and_parts, true≢false}
-use Rattle.std.proofs.lemmas.List.Elements.{Contains-append_left}
-use Rattle.nb_fields.specs.Header.{is_header}
-use Rattle.nb_host.specs.Names.{is_name, is_delta}
-use Rattle.nb_host.specs.World.{World}
-use Rattle.nb_change.specs.Changes.{Other}
-use Rattle.nb_change.proofs.NameLaws.{decide}
-use Rattle.nb_page.specs.Free.{is_free_name}
-use Rattle.nb_model.specs.declared.statement.Statement.{Statement}
-use Rattle.nb_model.specs.declared.statement.Statement.TheVariants.{Backup, BackupSince, CopyTo, CreateTable}
-use Rattle.nb_model.specs.Account.{Base, IsBase, Account}
-use Rattle.nb_model.specs.Causes.{is_free_entry}
-use Rattle.nb_model.specs.Going.{IsNamed, IsGoing, IsMaking}
-use Rattle.nb_model.specs.Image.{Image, first_page, image_state}
-use Rattle.nb_model.specs.Making.{MadeFile, under_way}
-use Rattle.nb_model.specs.Outcomes.{Begins}
-use Rattle.nb_model.specs.Owner.{delta_name}
-use Rattle.nb_model.specs.Run.{Now, Played, base_now, begun, play, files_made}
-use Rattle.nb_model.specs.Sound.{HasHeader, IsSoundImage}
-use Rattle.nb_model.specs.Trail.{ShowsIn, settled}
-use Rattle.nb_model.proofs.GoingLaws.{begun_going, begun_making, own_in_use}
-use Rattle.nb_model.proofs.MakingLaws.{free_play}
-use Rattle.nb_model.proofs.StandsLaws.{delta_named, delta_same, no_main}
-use Rattle.nb_base.specs.Open.{OfFiles}
+use Rattle.std.proofs.Common.{◌≡◌, ◌≢◌, inl, inr, ℕ, ◌+◌, ◌-◌, ◌≤◌, List, [], ◌∷◌, length, get_or, refl, sym, ap, subst, ◌∙◌, arith, Bool, true, false, not, nat_le, is_some, ◌&&◌, Contains}
+use Rattle.nb_top.proofs.Common.{AllByRecursion, and_parts, true≢false, Contains-append_left, is_header, is_name, is_delta, World, Other, decide, is_free_name, Statement, CopyTo, CreateTable, IsBase, Account, is_free_entry, IsNamed, IsGoing, IsMaking, Image, first_page, image_state, MadeFile, under_way, Begins, delta_name, Now, Played, base_now, begun, play, files_made, HasHeader, IsSoundImage, ShowsIn, settled, begun_going, begun_making, own_in_use, free_play, delta_named, delta_same, no_main, OfFiles, Held, IsOpen, name_of, shown_settled, IsFurther, IsAskable, Plan, is_given, IsReady, begun_plain, made_named, free_same, own_entry, KnowsNames, MayBeGiven, not_true}
+use Rattle.nb_model.specs.declared.statement.Statement.TheVariants.{Backup, BackupSince}
 use Rattle.nb_base.proofs.OwnedLaws.{Holds, holds, base-state}
-use Rattle.nb_state.specs.Open.{Held, IsOpen, name_of}
-use Rattle.nb_state.proofs.ShownLaws.{shown_settled}
-use Rattle.nb_script.specs.Asked.{IsFurther, IsAskable}
-use Rattle.nb_script.specs.Scripts.{Plan}
-use Rattle.nb_script.specs.Words.{is_given}
-use Rattle.nb_session.specs.Ready.{IsReady}
-use Rattle.nb_session.proofs.NameLaws.{begun_plain, made_named}
 use Rattle.nb_copy.proofs.InUseLaws.{in_use}
-use Rattle.nb_session.proofs.ReadyLaws.{free_same}
-use Rattle.nb_top.specs.Performed.{KnowsNames, MayBeGiven}
 
 -- a name that a user may give, of so many bytes at most
 pub record GivenName (most : ℕ) (name : List ℕ) : Type 0 where
   pub named : is_name name ≡ true
   pub short : nat_le (length name) most ≡ true
   pub plain : is_delta name ≡ false
-
-not_true : (b : Bool) → not b ≡ true → b ≡ false
-not_true true h = absurd (true≢false (sym h))
-not_true false h = refl
 
 given_name : (most : ℕ) (name : List ℕ) → is_given most name ≡ true → GivenName most name
 given_name most name is =
@@ -57,10 +20,6 @@ given_name most name is =
 -- that of a database
 pub base_name : (name : List ℕ) → is_given 94 name ≡ true → GivenName 94 name
 base_name name is = given_name 94 name is
-
-own_entry : (b : Base) → is_free_entry (IsBase b) ≡ false
-unfolding is_free_entry
-own_entry b = refl
 
 -- The account after the first statement has the database under its name, and under other names what it had.
 pub record IsBehind (before : Account) (name : List ℕ) (now : Now) : Type 0 where

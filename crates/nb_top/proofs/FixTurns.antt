@@ -1,20 +1,7 @@
 -- The one turn of a fixup: what it must be, and what stands after it.
-use Rattle.std.proofs.Common.{◌≡◌, ◌≢◌, ℕ, List, [], ◌∷◌, refl, ap, ◌∙◌}
-use Rattle.std.specs.Prelude.{None, Some, Err}
-use Rattle.nb_host.specs.Files.{File, Files}
-use Rattle.nb_host.specs.declared.refusals.Refusal.{Refusal}
-use Rattle.nb_host.specs.declared.refusals.Refusal.TheVariants.{Usage, NoFile}
+use Rattle.std.proofs.Common.{◌≡◌, ◌≢◌, ℕ, List, [], ◌∷◌, refl, ap, ◌∙◌, None, Some, Err}
+use Rattle.nb_top.proofs.Common.{File, Files, Refusal, Usage, NoFile, base_of, Plain, Account, Cause, image_in, only_turn, only_refusal, not_fixable, fixup_turn, account_behind, delta_name, owner, owner_in, owner_with, entry_of_files, entry_in, Event, account_after, with_made, fix, base_in, owner-formed, IsOther, other_first, other_when, other_database, fixup_cause, IsFixable}
 use Rattle.nb_model.specs.declared.reply.Reply.TheVariants.{Done}
-use Rattle.nb_model.specs.Account.{base_of, Plain, Account}
-use Rattle.nb_model.specs.Causes.{Cause}
-use Rattle.nb_model.specs.Image.{image_in}
-use Rattle.nb_model.specs.Jobs.{only_turn, only_refusal, not_fixable, fixup_turn, account_behind}
-use Rattle.nb_model.specs.Owner.{delta_name, owner, owner_in, owner_with, entry_of_files, entry_in}
-use Rattle.nb_model.specs.Run.{Event, account_after, with_made}
-use Rattle.nb_model.specs.Strokes.{fix, base_in}
-use Rattle.nb_model.proofs.MainLaws.{owner-formed}
-use Rattle.nb_model.proofs.UsageCauses.{IsOther, other_first, other_when, other_database}
-use Rattle.nb_fixup.specs.Fixup.{fixup_cause, IsFixable}
 use Rattle.nb_fixup.proofs.CauseLaws.{IsFit}
 use Rattle.nb_fixup.proofs.FixupLaws.{copy_there, fixable_fit}
 

@@ -1,34 +1,9 @@
 -- The job of a fixup: its call serves it, and it keeps what stands.
-use Rattle.std.proofs.Common.{true≢false, ◌≡◌, ◌⊎◌, inl, inr, ⊎_elim, ℕ, List, [], ◌∷◌, true, false, refl, sym, ap, subst, ◌∙◌}
-use Rattle.std.specs.Prelude.{Some, None, Result, Ok, Err}
-use Rattle.std.proofs.lemmas.List.{append-nil}
+use Rattle.std.proofs.Common.{true≢false, ◌≡◌, ◌⊎◌, inl, inr, ⊎_elim, ℕ, List, [], ◌∷◌, true, false, refl, sym, ap, subst, ◌∙◌, None, Result, Ok, Err}
+use Rattle.nb_top.proofs.Common.{append-nil, File, Files, is_delta, World, Leaves, Fault, Refused, Device, Memory, Only, weaker_has, Quiet, Reply, Kept, Base, base_of, IsBase, Account, with_entry, Image, image_in, fixup_turn, account_behind, Event, account_after, with_made, IsKeptAs, fix, fixed, on_base, base_after, base_in, records_after, records_of, ShowsIn, IsWellBaseIn, FixAnswers, FixLeft, Fixes, IsFixable, restored_well, OneTurn, fixing, leaves_all, ServedAs, Serves, StandsFor, some_none, some_same}
 use Rattle.nb_fields.specs.Header.{guid_of}
-use Rattle.nb_host.specs.Files.{File, Files}
-use Rattle.nb_host.specs.Names.{is_delta}
-use Rattle.nb_host.specs.World.{World}
-use Rattle.nb_host.specs.Crash.{Leaves}
-use Rattle.nb_host.specs.declared.faults.Fault.{Fault}
-use Rattle.nb_host.specs.declared.faults.Fault.TheVariants.{Refused, Device, Memory}
-use Rattle.nb_host.specs.declared.refusals.Refusal.{Refusal}
-use Rattle.nb_change.specs.Changes.{Only}
-use Rattle.nb_change.proofs.ChangesLaws.{weaker_has}
-use Rattle.nb_page.specs.Quiet.{Quiet}
-use Rattle.nb_model.specs.declared.reply.Reply.{Reply}
 use Rattle.nb_model.specs.declared.reply.Reply.TheVariants.{Done}
-use Rattle.nb_model.specs.Account.{Kept, Base, base_of, IsBase, Account, with_entry}
-use Rattle.nb_model.specs.Image.{Image, image_in}
-use Rattle.nb_model.specs.Jobs.{fixup_turn, account_behind}
-use Rattle.nb_model.specs.Run.{Event, account_after, with_made}
-use Rattle.nb_model.specs.Stands.{IsKeptAs}
-use Rattle.nb_model.specs.Strokes.{fix, fixed, on_base, base_after, base_in, records_after, records_of}
-use Rattle.nb_model.specs.Trail.{ShowsIn}
-use Rattle.nb_model.specs.Well.{IsWellBaseIn}
-use Rattle.nb_fixup.specs.Fixup.{FixAnswers, FixLeft, Fixes, IsFixable}
 use Rattle.nb_fixup.proofs.KeptLaws.{copy_kept}
-use Rattle.nb_restore.proofs.KeptLaws.{restored_well}
-use Rattle.nb_top.specs.OneTurn.{OneTurn, fixing, leaves_all}
-use Rattle.nb_top.specs.Served.{ServedAs, Serves}
-use Rattle.nb_top.specs.Standing.{StandsFor}
 use Rattle.nb_top.proofs.FixTurns.{FixTurn, refuses, fixes, fixed_turn, base_is, done_turn, fixed_account, refused_fix, refused_turn, turn_is}
 use Rattle.nb_top.proofs.Turns.{served_as}
 use Rattle.nb_top.proofs.TurnsStand.{IsSoundJob, IsWellBased, sound_on}
@@ -37,12 +12,6 @@ use Rattle.nb_top.proofs.TurnsStand.{IsSoundJob, IsWellBased, sound_on}
 abbrev pub done_said : Result (Unit {0}) Fault → Result Reply Fault
 done_said (Ok value) = Ok Done
 done_said (Err fault) = Err fault
-
-some_same : (a b : List ℕ) → Some a ≡ Some b → a ≡ b
-some_same a b e = cc
-
-none_some : (refusal : Refusal) → Some refusal ≡ None → ⊥
-none_some refusal e = cc
 
 module _ (old mid : World) (db : List ℕ) (result : Result (Unit {0}) Fault) (does : Fixes result old mid db) where
   abbrev job : OneTurn
@@ -59,7 +28,7 @@ module _ (old mid : World) (db : List ℕ) (result : Result (Unit {0}) Fault) (d
   idle is = by (turn_is old.files db)
     where
       by : FixTurn old.files db → Quiet old mid
-      by (refuses refusal why same) = does.unfit (λ fit. none_some refusal (sym why ∙ fit))
+      by (refuses refusal why same) = does.unfit (λ fit. some_none refusal (sym why ∙ fit))
       by (fixes bytes copy same) = absurd (true≢false (sym is ∙ ap leaves_all same))
 
   answers : (r : Result (Unit {0}) Fault) → FixAnswers r old mid db → ServedAs (done_said r) old mid job turn

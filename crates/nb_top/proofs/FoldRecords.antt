@@ -1,31 +1,17 @@
 -- Level files of kept backups, folded: what they tell is the file of the last backup that goes on from what the first goes on from.
-use Rattle.std.proofs.Common.{◌≡◌, ◌≢◌, inl, inr, ℕ, suc, ◌+◌, ◌<◌, ◌≤◌, List, [], ◌∷◌, ◌++◌, length, refl, sym, ap, ap₂, subst, ◌∙◌, arith}
-use Rattle.std.specs.Prelude.{Bool, true, false, nat_lt, nat_le, Option, Some, None, Ok, Contains}
-use Rattle.std.specs.List.{AllByRecursion}
-use Rattle.std.proofs.lemmas.Bool.{and_from, and_parts, leb-true, le-leb}
-use Rattle.std.proofs.lemmas.Bool.Decides.{eqb_tells, leb_tells}
-use Rattle.nb_fields.specs.Page.{stamp_of}
+use Rattle.std.proofs.Common.{◌≡◌, ◌≢◌, inl, inr, ℕ, suc, ◌+◌, ◌<◌, ◌≤◌, List, [], ◌∷◌, ◌++◌, length, refl, sym, ap, ap₂, subst, ◌∙◌, arith, Bool, true, false, nat_lt, nat_le, Option, Some, None, Ok, Contains}
+use Rattle.nb_top.proofs.Common.{AllByRecursion, and_from, and_parts, leb-true, le-leb, eqb_tells, leb_tells, stamp_of, Files, is_delta, Kept, Account, Page, Image, image_size, AreRising, Contents, Head, file_for, head_for, level_bytes, taken, taken_from, changed, IsSoundImage, IsAncestor, IsKeptAs, IsLineTo, IsSpan, Stands, nil, to_record, span_bytes, level_told, bytes_for, first_head, folded, folded_head, folded_pages, last_head, last_page, or_before, page_of, pages_of_each, chained, files_after, GoesAfter, files_rise, folded_page, goes_after, next_files, AreOfKept, leads_on, none_and_some, some_same}
 use Rattle.nb_fields.specs.Places.{most_pages}
-use Rattle.nb_host.specs.Files.{Files}
-use Rattle.nb_host.specs.Names.{is_delta}
-use Rattle.nb_model.specs.Account.{Ask, Kept, Account}
-use Rattle.nb_model.specs.Image.{Page, Image, Numbered, image_size}
-use Rattle.nb_model.specs.Levels.{AreRising, Contents, Head, file_for, head_for, level_bytes, taken, taken_from, changed}
-use Rattle.nb_model.specs.Sound.{IsSoundImage}
-use Rattle.nb_model.specs.Stands.{IsAncestor, IsKeptAs, IsLineTo, IsSpan, Stands, nil, to_record}
+use Rattle.nb_model.specs.Account.{Ask}
+use Rattle.nb_model.specs.Image.{Numbered}
 use Rattle.nb_model.proofs.ChainLaws.{taken_rise}
 use Rattle.nb_model.proofs.ChangedLaws.{sound_changed}
-use Rattle.nb_model.proofs.FollowsLaws.{Meets, follows_on, meets}
-use Rattle.nb_model.proofs.MadeLaws.{span_bytes}
+use Rattle.nb_model.proofs.FollowsLaws.{Meets, meets}
 use Rattle.nb_model.proofs.ReadLaws.{eq_no, eq_yes, lt_no, lt_yes}
-use Rattle.nb_level.proofs.ToldLaws.{level_told}
 use Rattle.nb_restore.proofs.ParentLaws.{LeadsTo}
 use Rattle.nb_inplace.proofs.KeptLaws.{IsOfRecord, of_record}
-use Rattle.nb_fold.specs.Folding.{bytes_for, first_head, folded, folded_head, folded_pages, last_head, last_page, or_before, page_of, pages_of_each}
-use Rattle.nb_fold.specs.Verdict.{chained, files_after}
 use Rattle.nb_fold.proofs.FoldedLaws.{folded_rises, none_below}
-use Rattle.nb_fold.proofs.SameLaws.{GoesAfter, files_rise, folded_page, goes_after, next_files, no_files}
-use Rattle.nb_top.specs.OneTurn.{AreOfKept}
+use Rattle.nb_fold.proofs.SameLaws.{no_files}
 
 -- ---- the pages that a level takes, by their numbers
 
@@ -97,12 +83,6 @@ meets_pages p n s t (x ∷ xs) (q ∷ qs) le long meet = elim (eqb_tells n p) [
 
 -- ---- pages with rising numbers are told by what stands under each
 
-none_some : (o : Option Page) (page : Page) → o ≡ None → o ≡ Some page → ⊥
-none_some o page e f = cc
-
-some_page : (a b : Page) → ◌≡◌ {A = Option Page} (Some a) (Some b) → a ≡ b
-some_page a b e = cc
-
 first_is : (r : Numbered) (rs : List Numbered) → page_of r.0 (r ∷ rs) ≡ Some r.1
 first_is r rs = ap (λ (t : Bool). elim t as (λ z. Option Page) [ true ↦ Some r.1 | false ↦ page_of r.0 rs ]) (eq_yes r.0 r.0 refl)
 
@@ -114,12 +94,12 @@ from_first k r rs rise = (omega arith, rise.1, rise.2)
 
 pub rising_same : (k : ℕ) (a b : List Numbered) → AreRising k a → AreRising k b → ((p : ℕ) → page_of p a ≡ page_of p b) → a ≡ b
 rising_same k [] [] rise other same = refl
-rising_same k [] (q ∷ qs) rise other same = absurd (none_some (page_of q.0 (q ∷ qs)) q.1 (sym (same q.0)) (first_is q qs))
-rising_same k (r ∷ rs) [] rise other same = absurd (none_some (page_of r.0 (r ∷ rs)) r.1 (same r.0) (first_is r rs))
+rising_same k [] (q ∷ qs) rise other same = absurd (none_and_some (page_of q.0 (q ∷ qs)) q.1 (sym (same q.0)) (first_is q qs))
+rising_same k (r ∷ rs) [] rise other same = absurd (none_and_some (page_of r.0 (r ∷ rs)) r.1 (same r.0) (first_is r rs))
 rising_same k (r ∷ rs) (q ∷ qs) rise other same = elim (eqb_tells r.0 q.0) [
   | inl w ↦
       let number : r.0 ≡ q.0 = w.1 in
-      let page : r.1 ≡ q.1 = some_page r.1 q.1 (sym (first_is r rs) ∙ same r.0 ∙ ap (λ (n : ℕ). page_of n (q ∷ qs)) number ∙ first_is q qs) in
+      let page : r.1 ≡ q.1 = some_same r.1 q.1 (sym (first_is r rs) ∙ same r.0 ∙ ap (λ (n : ℕ). page_of n (q ∷ qs)) number ∙ first_is q qs) in
       let low : AreRising (r.0 + 1) qs = subst (λ (n : ℕ). AreRising (n + 1) qs) (sym number) other.2 in
       let rest : rs ≡ qs = rising_same (r.0 + 1) rs qs rise.2 low (λ p. elim (eqb_tells r.0 p) [
         | inl here ↦ none_below p (r.0 + 1) rs rise.2 (omega (arith, here.1)) ∙ sym (none_below p (r.0 + 1) qs low (omega (arith, here.1)))
@@ -127,10 +107,10 @@ rising_same k (r ∷ rs) (q ∷ qs) rise other same = elim (eqb_tells r.0 q.0) [
       ]) in
       ap₂ (λ (n : ℕ) (x : Page). (n, x) ∷ rs) number page ∙ ap (λ (xs : List Numbered). q ∷ xs) rest
   | inr w ↦ elim (leb_tells (suc r.0) q.0) [
-    | inl low ↦ absurd (none_some (page_of r.0 (q ∷ qs)) r.1 (none_below r.0 q.0 (q ∷ qs) (from_first k q qs other) (omega (arith, low.1))) (sym (same r.0) ∙ first_is r rs))
+    | inl low ↦ absurd (none_and_some (page_of r.0 (q ∷ qs)) r.1 (none_below r.0 q.0 (q ∷ qs) (from_first k q qs other) (omega (arith, low.1))) (sym (same r.0) ∙ first_is r rs))
     | inr high ↦
         let above : q.0 < r.0 = below q.0 r.0 (omega (arith, high.1)) (λ e. w.1 (sym e)) in
-        absurd (none_some (page_of q.0 (r ∷ rs)) q.1 (none_below q.0 r.0 (r ∷ rs) (from_first k r rs rise) above) (same q.0 ∙ first_is q qs))
+        absurd (none_and_some (page_of q.0 (r ∷ rs)) q.1 (none_below q.0 r.0 (r ∷ rs) (from_first k r rs rise) above) (same q.0 ∙ first_is q qs))
   ]
 ]
   where
@@ -145,9 +125,6 @@ ancestor_joined kept a b c first second = record { between = second.between ++ b
     by : (between : List Kept) (r : Kept) → IsLineTo kept b r between → IsLineTo kept a r (between ++ b ∷ first.between)
     by [] r line = (line, first.line)
     by (p ∷ ps) r line = (line.0, by ps p line.1)
-
-leads_on : (a b c : Kept) → LeadsTo a b → LeadsTo b c → LeadsTo a c
-leads_on a b c f g = record { earlier = omega (arith, f.earlier, g.earlier); follows = follows_on f.follows g.follows (omega (arith, f.earlier)) }
 
 -- What the files tell together: the pages of the last record since the one that the first goes on from.
 pub record IsOfLine (kept : List Kept) (cs : List Contents) : Type 0 where

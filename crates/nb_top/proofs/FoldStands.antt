@@ -1,41 +1,10 @@
 -- Where files stand for an account as a fold begins, they stand for one with the file that it makes.
-use Rattle.std.proofs.Common.{true≢false, ◌≡◌, ◌≢◌, ℕ, ◌≤◌, List, [], ◌∷◌, length, inl, inr, true, false, refl, sym, ap, subst, ◌∙◌, arith}
-use Rattle.std.specs.Prelude.{not, is_some, Some, None, Result, Ok}
-use Rattle.std.specs.List.{AllByRecursion}
-use Rattle.std.proofs.lemmas.Bool.{and_parts}
-use Rattle.nb_fields.specs.Free.{is_free_file}
-use Rattle.nb_fields.specs.Header.{is_header}
-use Rattle.nb_host.specs.Files.{File, Files, bytes_of}
-use Rattle.nb_host.specs.Names.{is_delta}
-use Rattle.nb_host.specs.World.{World}
-use Rattle.nb_host.specs.Crash.{LeavesAll}
-use Rattle.nb_host.specs.declared.refusals.Refusal.{Refusal}
-use Rattle.nb_gather.specs.Making.{IsUnfinished}
-use Rattle.nb_model.specs.Account.{Account, Kept, Plain, with_entry}
-use Rattle.nb_model.specs.Causes.{is_free_entry}
-use Rattle.nb_model.specs.Jobs.{account_behind}
-use Rattle.nb_model.specs.Levels.{Contents, file_for, read_level}
-use Rattle.nb_model.specs.Owner.{delta_name, entry_in}
-use Rattle.nb_model.specs.Run.{Event}
-use Rattle.nb_model.proofs.MadeLaws.{IsInMaking, IsWholeFile, is_free, unfinished, span_whole, stands_closed, stands_making}
-use Rattle.nb_model.proofs.MakingLaws.{level_used}
-use Rattle.nb_model.proofs.OpeningLaws.{free_entry, with_kept}
-use Rattle.nb_model.proofs.StandsLaws.{no_main}
-use Rattle.nb_fold.specs.Folding.{bytes_for, folded, last_head}
-use Rattle.nb_fold.specs.Verdict.{chained, fold_turn, made_turn}
-use Rattle.nb_top.specs.OneTurn.{OneTurn, HoldsSpan, TakesFiles, folding, leaves_all}
-use Rattle.nb_top.specs.Standing.{HoldsKept, StandsFor}
+use Rattle.std.proofs.Common.{true≢false, ◌≡◌, ◌≢◌, ℕ, ◌≤◌, List, [], ◌∷◌, length, inl, inr, true, false, refl, sym, ap, subst, ◌∙◌, arith, not, is_some, Some, None, Ok}
+use Rattle.nb_top.proofs.Common.{AllByRecursion, and_parts, is_free_file, is_header, File, Files, bytes_of, is_delta, World, LeavesAll, IsUnfinished, Account, Kept, Plain, with_entry, is_free_entry, account_behind, Contents, file_for, read_level, delta_name, entry_in, Event, IsInMaking, IsWholeFile, is_free, unfinished, span_whole, stands_closed, stands_making, level_used, free_entry, with_kept, no_main, bytes_for, folded, last_head, chained, fold_turn, made_turn, OneTurn, HoldsSpan, TakesFiles, folding, leaves_all, HoldsKept, StandsFor, not_some, ok_same}
 use Rattle.nb_top.proofs.FoldRecords.{IsOfLine, folded_span, is_span, of_line, span_ask}
 use Rattle.nb_top.proofs.FoldTurns.{FoldTurn, made_account, turn_is}
 use Rattle.nb_top.proofs.TargetTurns.{refuses, makes}
 use Rattle.nb_top.proofs.TurnsStand.{IsSoundJob, IsWellDone, sound_named}
-
-same_files : (answer : Result (List Contents) Refusal) (a b : List Contents) → answer ≡ Ok a → answer ≡ Ok b → a ≡ b
-same_files answer a b e f = cc
-
-not_some : (file : File) → not (is_some file) ≡ true → file ≡ None
-not_some None h = refl
-not_some (Some bytes) h = cc
 
 -- an unfinished file is one in the making
 in_making : (kept : List Kept) (file : File) → IsUnfinished file → IsInMaking kept file
@@ -92,7 +61,7 @@ module _ (old : World) (account : Account) (out : List ℕ) (names : List (List 
 
     -- what was done is that file
     there : (files : Files) → sound_job.done files → files out ≡ Some bytes
-    there files done = done.2 ∙ ap (λ (x : List Contents). Some (bytes_for (folded x))) (same_files (chained old.files names) done.0 cs done.1 accepted)
+    there files done = done.2 ∙ ap (λ (x : List Contents). Some (bytes_for (folded x))) (ok_same done.0 cs (chained old.files names) done.1 accepted)
 
     used : is_free_file (Some bytes) ≡ false
     used = level_used (folded cs).version (folded cs).head (folded cs).pages
@@ -111,7 +80,7 @@ module _ (old : World) (account : Account) (out : List ℕ) (names : List (List 
       entries = λ n. ap (λ (a : Account). a.entry n) (sym behind);
       kept = sym (with_kept out (Plain bytes None) account) ∙ ap (λ (a : Account). a.kept) (sym behind);
       gives = λ files done others others_accepted.
-          let all = same_files (chained old.files names) cs others accepted others_accepted in
+          let all = ok_same cs others (chained old.files names) accepted others_accepted in
           subst (λ (x : List Contents). HoldsSpan account.kept (last_head x).guid out files) all (record {
             backup = line.last;
             kept_as = line.kept_as;

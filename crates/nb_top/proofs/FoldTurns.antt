@@ -1,17 +1,6 @@
 -- The one turn of a fold: what it must be, and what stands after it.
-use Rattle.std.proofs.Common.{◌≡◌, ◌≢◌, inl, inr, ℕ, List, true, false, refl, sym, ap, ◌∙◌}
-use Rattle.std.specs.Prelude.{Bool, None, Result, Ok, Err}
-use Rattle.nb_host.specs.Files.{Files}
-use Rattle.nb_host.specs.declared.refusals.Refusal.{Refusal}
-use Rattle.nb_host.specs.declared.refusals.Refusal.TheVariants.{FileExists, Usage}
-use Rattle.nb_page.specs.Free.{is_free_name}
-use Rattle.nb_model.specs.Account.{Account, Plain, with_entry}
-use Rattle.nb_model.specs.Causes.{is_free_entry}
-use Rattle.nb_model.specs.Jobs.{only_refusal, account_behind}
-use Rattle.nb_model.specs.Levels.{Contents}
-use Rattle.nb_model.specs.Run.{with_made}
-use Rattle.nb_fold.specs.Folding.{bytes_for, folded}
-use Rattle.nb_fold.specs.Verdict.{chained, fold_turn, fold_verdict, made_turn}
+use Rattle.std.proofs.Common.{◌≡◌, ◌≢◌, inl, inr, ℕ, List, true, false, refl, sym, ap, ◌∙◌, Bool, None, Result, Ok, Err}
+use Rattle.nb_top.proofs.Common.{Files, Refusal, FileExists, Usage, is_free_name, Account, Plain, with_entry, is_free_entry, only_refusal, account_behind, Contents, with_made, bytes_for, folded, chained, fold_turn, fold_verdict, made_turn, err_ok}
 use Rattle.nb_top.proofs.ChainRefusals.{refused_files}
 use Rattle.nb_top.proofs.TargetTurns.{IsRefused, TargetTurn, target_refused, target_turn, never_usage}
 
@@ -76,10 +65,7 @@ module _ (files : Files) (account : Account) (out : List ℕ) (names : List (Lis
 pub accepted_is : (files : Files) (out : List ℕ) (names : List (List ℕ)) (cs : List Contents) → fold_verdict files out names ≡ Ok cs → (is_free_name files out ≡ true) × (chained files names ≡ Ok cs)
 accepted_is files out names cs is = by (is_free_name files out) refl is
   where
-    err_ok : (refusal : Refusal) → ◌≡◌ {A = Result (List Contents) Refusal} (Err refusal) (Ok cs) → ⊥
-    err_ok refusal h = cc
-
     by : (free : Bool) → is_free_name files out ≡ free → elim free as (λ z. Result (List Contents) Refusal) [ true ↦ chained files names | false ↦ Err (FileExists out) ] ≡ Ok cs
         → (is_free_name files out ≡ true) × (chained files names ≡ Ok cs)
     by true free accepted = (free, accepted)
-    by false free accepted = absurd (err_ok (FileExists out) accepted)
+    by false free accepted = absurd (err_ok (FileExists out) cs accepted)

@@ -1,31 +1,9 @@
 -- The job of a fold: its call serves it.
-use Rattle.std.proofs.Common.{true≢false, ◌≡◌, ◌⊎◌, ⊎_elim, inl, inr, ℕ, ◌≤◌, List, [], ◌∷◌, length, true, refl, sym, ap, subst, ◌∙◌, arith}
-use Rattle.std.specs.Prelude.{nat_le, Some, None, Result, Ok, Err, IfOk}
-use Rattle.std.proofs.lemmas.Bool.{and_parts, leb-true}
-use Rattle.nb_host.specs.Files.{File, Files}
-use Rattle.nb_host.specs.World.{World}
-use Rattle.nb_host.specs.Crash.{Leaves}
-use Rattle.nb_host.specs.declared.faults.Fault.{Fault}
-use Rattle.nb_host.specs.declared.faults.Fault.TheVariants.{Refused, Device, Memory}
-use Rattle.nb_change.specs.Changes.{Only}
-use Rattle.nb_change.proofs.ChangesLaws.{weaker_has}
-use Rattle.nb_page.specs.Free.{is_free_name}
-use Rattle.nb_page.specs.Quiet.{Quiet}
-use Rattle.nb_model.specs.declared.reply.Reply.{Reply}
-use Rattle.nb_model.specs.declared.reply.Reply.TheVariants.{Level}
-use Rattle.nb_model.specs.Account.{Account}
-use Rattle.nb_model.specs.Causes.{is_free_entry}
-use Rattle.nb_model.specs.Levels.{Contents, Head}
-use Rattle.nb_model.specs.Run.{Event}
+use Rattle.std.proofs.Common.{true≢false, ◌≡◌, ◌⊎◌, ⊎_elim, inl, inr, ℕ, ◌≤◌, List, [], ◌∷◌, length, true, refl, sym, ap, subst, ◌∙◌, arith, nat_le, Some, None, Result, Ok, Err, IfOk}
+use Rattle.nb_top.proofs.Common.{and_parts, leb-true, File, Files, World, Leaves, Fault, Refused, Device, Memory, Only, weaker_has, is_free_name, Quiet, Reply, Level, Account, is_free_entry, Contents, Head, Event, first_head, folded, fold_turn, fold_verdict, made_turn, next_files, level_told, OneTurn, folding, leaves_all, ServedAs, Serves}
 use Rattle.nb_level.specs.Heads.{head_of}
 use Rattle.nb_fold.specs.declared.folded.Folded.{Folded}
 use Rattle.nb_fold.specs.Fold.{FoldAnswers, FoldLeft, Folds}
-use Rattle.nb_fold.specs.Folding.{first_head, folded}
-use Rattle.nb_fold.specs.Verdict.{fold_turn, fold_verdict, made_turn}
-use Rattle.nb_fold.proofs.SameLaws.{next_files}
-use Rattle.nb_level.proofs.ToldLaws.{level_told}
-use Rattle.nb_top.specs.OneTurn.{OneTurn, folding, leaves_all}
-use Rattle.nb_top.specs.Served.{ServedAs, Serves}
 use Rattle.nb_top.proofs.FoldTurns.{FoldTurn, WhyRefused, accepted_is, done_turn, refused_fold, refused_turn, turn_is, verdict_refused, why_refused}
 use Rattle.nb_top.proofs.TargetTurns.{refuses, makes}
 use Rattle.nb_top.proofs.Turns.{served_as}

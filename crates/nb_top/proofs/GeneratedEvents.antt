@@ -1,29 +1,8 @@
 -- The events of a run whose script is written first: there are some, and none of them makes a file of the script's name, nor is its database of
 -- that name.
-use Rattle.std.proofs.Common.{◌≡◌, ◌≢◌, ℕ, List, [], true, false, refl, sym, ap, subst, ◌∙◌}
-use Rattle.std.specs.Prelude.{Bool, Option, Some, None, Result, Ok, Err, Contains, codes}
-use Rattle.std.proofs.lemmas.Bool.{true≢false}
-use Rattle.nb_host.specs.declared.refusals.Refusal.{Refusal}
-use Rattle.nb_host.specs.declared.refusals.Refusal.TheVariants.{FileExists}
+use Rattle.std.proofs.Common.{◌≡◌, ◌≢◌, ℕ, List, [], true, false, refl, sym, ap, subst, ◌∙◌, Bool, Option, Some, None, Result, Ok, Err, Contains, codes}
+use Rattle.nb_top.proofs.Common.{true≢false, Refusal, FileExists, Statement, Plain, Account, with_entry, is_free_entry, generated, MadeFile, IsNoneOf, Given, Event, IsRun, files_made, steps_of, not_created, run_ends, entry_same, IsAskable, Plan, script_of, answer_is_askable, generated_first, creates_its_own, generated_text, text_in_use, IsReadRun, IsScriptRun, MayBeGiven, Target, begins_refused, first_event, pages_first, refused_at, refused_job, Sparingly}
 use Rattle.nb_model.specs.declared.reply.Reply.TheVariants.{Refused as RefusedReply}
-use Rattle.nb_model.specs.declared.statement.Statement.{Statement}
-use Rattle.nb_model.specs.Account.{Plain, Account, with_entry}
-use Rattle.nb_model.specs.Causes.{is_free_entry}
-use Rattle.nb_model.specs.Generated.{generated}
-use Rattle.nb_model.specs.Making.{MadeFile, IsNoneOf}
-use Rattle.nb_model.specs.Outcomes.{Given}
-use Rattle.nb_model.specs.Run.{Event, IsRun, files_made}
-use Rattle.nb_model.specs.Steps.{steps_of}
-use Rattle.nb_model.proofs.OpeningLaws.{not_created, run_ends}
-use Rattle.nb_model.proofs.RunLaws.{entry_same}
-use Rattle.nb_script.specs.Asked.{IsAskable}
-use Rattle.nb_script.specs.Scripts.{Plan, script_of}
-use Rattle.nb_script.proofs.AskedLaws.{answer_is_askable}
-use Rattle.nb_gen.specs.Texts.{generated_first}
-use Rattle.nb_gen.proofs.GeneratedScript.{creates_its_own, generated_text}
-use Rattle.nb_gen.proofs.WrittenLaws.{text_in_use}
-use Rattle.nb_top.specs.Performed.{IsReadRun, IsScriptRun, MayBeGiven, Target, begins_refused, first_event, pages_first, refused_at, refused_job}
-use Rattle.nb_top.specs.declared.telling.Telling.TheVariants.{Sparingly}
 use Rattle.nb_top.proofs.FirstEnds.{first_ends}
 use Rattle.nb_top.proofs.FirstLaws.{First, first_created, turns}
 use Rattle.nb_top.proofs.MadeRuns.{no_file}

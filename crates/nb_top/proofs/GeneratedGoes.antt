@@ -1,29 +1,6 @@
 -- The script of a number is written to a file and run: what is done of it, put together.
-use Rattle.std.proofs.Common.{◌≡◌, ℕ, List, [], true, false, sym, ◌∙◌}
-use Rattle.std.specs.Prelude.{Bool, IsTrue, Result, Ok, Err, IsErr}
-use Rattle.nb_host.specs.Names.{is_delta}
-use Rattle.nb_host.specs.World.{World}
-use Rattle.nb_host.specs.Crash.{Leaves}
-use Rattle.nb_host.specs.Moments.{IsTimely}
-use Rattle.nb_host.specs.declared.refusals.Refusal.{Refusal}
-use Rattle.nb_host.specs.declared.faults.RunError.{RunError}
-use Rattle.nb_change.specs.Changes.{Changes, Only, Remade}
-use Rattle.nb_change.specs.Gave.{GaveNothing}
-use Rattle.nb_page.specs.Free.{is_free_name}
-use Rattle.nb_model.specs.Account.{Account}
-use Rattle.nb_model.specs.Causes.{is_free_entry}
-use Rattle.nb_model.specs.Generated.{generated}
-use Rattle.nb_model.specs.Outcomes.{Given}
-use Rattle.nb_gather.specs.Making.{IsKept, IsUnfinishedOr}
-use Rattle.nb_script.specs.Scripts.{Plan, script_of}
-use Rattle.nb_session.proofs.GiftLaws.{grows_none, grows_joined}
-use Rattle.nb_session.proofs.OthersLaws.{leaves_changes}
-use Rattle.nb_top.specs.declared.status.Status.{Status}
-use Rattle.nb_top.specs.declared.telling.Telling.TheVariants.{Sparingly}
-use Rattle.nb_top.specs.ByTurns.{AskedByTurns, EndsEarly, ReadByTurns}
-use Rattle.nb_top.specs.Goes.{Goes}
-use Rattle.nb_top.specs.Performed.{Knows, RunsTo}
-use Rattle.nb_top.specs.Requests.{Runs, ToGenerate}
+use Rattle.std.proofs.Common.{◌≡◌, ℕ, List, [], true, false, sym, ◌∙◌, Bool, IsTrue, Result, Ok, Err, IsErr}
+use Rattle.nb_top.proofs.Common.{is_delta, World, Leaves, IsTimely, Refusal, RunError, Changes, Only, Remade, GaveNothing, is_free_name, Account, is_free_entry, generated, Given, IsKept, IsUnfinishedOr, Plan, script_of, grows_none, grows_joined, leaves_changes, Status, Sparingly, AskedByTurns, EndsEarly, ReadByTurns, Goes, Knows, RunsTo, Runs, ToGenerate}
 use Rattle.nb_top.proofs.ByTurnsLaws.{early_err, number_early, number_then}
 use Rattle.nb_top.proofs.GeneratedEvents.{with_script}
 use Rattle.nb_top.proofs.GeneratedRuns.{knows_script, read_request, writing_fails, written_runs}

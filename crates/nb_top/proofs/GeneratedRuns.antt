@@ -1,61 +1,16 @@
 -- A run whose script is written first: what a crash leaves of both, and what stands at the end.
-use Rattle.std.proofs.Common.{◌≡◌, ◌≢◌, ◌⊎◌, ⊎_elim, inl, inr, ℕ, zero, suc, ◌≤◌, List, [], ◌∷◌, ◌++◌, length, take, true, false, true≢false, refl, sym, ap, subst, ◌∙◌, arith}
-use Rattle.std.specs.Prelude.{Bool, not, Option, Some, None, is_some, Result, Ok, Err, IfOk, OnOk, Contains}
-use Rattle.std.proofs.lemmas.List.{append-nil}
-use Rattle.nb_fields.specs.Free.{is_free_file}
-use Rattle.nb_host.specs.Files.{File, Files, with_file}
-use Rattle.nb_host.specs.Names.{is_delta}
-use Rattle.nb_host.specs.World.{World}
-use Rattle.nb_host.specs.Crash.{Leaves, LeavesAll}
-use Rattle.nb_host.specs.Moments.{IsTimely, AtEachMoment}
-use Rattle.nb_host.specs.declared.refusals.Refusal.{Refusal}
-use Rattle.nb_host.specs.declared.refusals.Refusal.TheVariants.{FileExists, Usage}
-use Rattle.nb_host.specs.declared.faults.RunError.{RunError}
-use Rattle.nb_change.specs.Changes.{Changes, ChangedLeft, Only, Remade}
-use Rattle.nb_change.specs.Gave.{GaveNothing}
-use Rattle.nb_change.proofs.ChangesLaws.{left_with}
-use Rattle.nb_change.proofs.MomentLaws.{joined, left_before, weaker}
-use Rattle.nb_change.proofs.NameLaws.{decide, with_file-same}
+use Rattle.std.proofs.Common.{◌≡◌, ◌≢◌, ◌⊎◌, ⊎_elim, inl, inr, ℕ, zero, suc, ◌≤◌, List, [], ◌∷◌, ◌++◌, length, take, true, false, true≢false, refl, sym, ap, subst, ◌∙◌, arith, Bool, not, Option, Some, None, is_some, Result, Ok, Err, IfOk, OnOk, Contains}
+use Rattle.nb_top.proofs.Common.{append-nil, is_free_file, File, Files, with_file, is_delta, World, Leaves, LeavesAll, IsTimely, AtEachMoment, Refusal, FileExists, RunError, Changes, ChangedLeft, Only, Remade, GaveNothing, left_with, joined, left_before, weaker, decide, with_file-same, is_free_name, Quiet, Plain, Entry, Account, is_free_entry, not_free, generated, line_text, MadeFile, IsNoneOf, Given, output, status_after, status_of, delta_name, guids_in, Event, files_made, replies_of, strokes_of, Step, made, steps_of, after_steps, acked_steps, acked_turns, Stroke, base_in, Trail, StandsIn, settled, output-quiet, entry_same, entry_other, no_main, acked_steps_none, status_refused, IsKept, IsUnfinishedOr, Plan, script_of, SaysLine, creates_its_own, generated_text, text_in_use, Status, Sparingly, number_of, EndsIn, Finished, ReadsAsked, RunReads, HasSmallScn, IsEnded, IsPerformed, IsReadRun, IsUnasked, Knows, KnowsNames, KnowsOpened, MayBeGiven, RunLeft, RunsTo, StandsAsked, Target, begins_refused, refused_at, script_made, seen_after, target_named, target_of, Request, ToGenerate, ToRun, free_same}
 use Rattle.nb_change.proofs.SettledLaws.{durable_is}
-use Rattle.nb_page.specs.Free.{is_free_name}
 use Rattle.nb_page.proofs.FreeLaws.{is_free_name-false}
-use Rattle.nb_page.specs.Quiet.{Quiet}
 use Rattle.nb_model.specs.declared.reply.Reply.TheVariants.{Refused}
-use Rattle.nb_model.specs.Account.{Plain, Entry, Account}
-use Rattle.nb_model.specs.Causes.{is_free_entry, not_free}
-use Rattle.nb_model.specs.Generated.{generated}
-use Rattle.nb_model.specs.Lines.{line_text}
-use Rattle.nb_model.specs.Making.{MadeFile, IsNoneOf}
-use Rattle.nb_model.specs.Outcomes.{Given}
-use Rattle.nb_model.specs.Output.{output, status_after, status_of}
-use Rattle.nb_model.specs.Owner.{delta_name}
-use Rattle.nb_model.specs.NewGuids.{guids_in}
-use Rattle.nb_model.specs.Run.{Event, files_made, replies_of, strokes_of}
-use Rattle.nb_model.specs.Steps.{Step, made, steps_of, after_steps, acked_steps, acked_turns}
-use Rattle.nb_model.specs.Strokes.{Stroke, base_in}
-use Rattle.nb_model.specs.Trail.{Trail, StandsIn, settled}
-use Rattle.nb_model.proofs.OutputLaws.{output-quiet}
-use Rattle.nb_model.proofs.RunLaws.{entry_same}
-use Rattle.nb_model.proofs.StandsLaws.{entry_other, no_main}
-use Rattle.nb_model.proofs.StepsLaws.{acked_steps_none}
-use Rattle.nb_model.proofs.StatusLaws.{status_refused}
-use Rattle.nb_gather.specs.Making.{IsKept, IsUnfinishedOr}
-use Rattle.nb_script.specs.Scripts.{Plan, script_of}
-use Rattle.nb_session.specs.Says.{SaysLine}
-use Rattle.nb_gen.proofs.GeneratedScript.{creates_its_own, generated_text}
-use Rattle.nb_gen.proofs.WrittenLaws.{text_in_use}
-use Rattle.nb_top.specs.declared.status.Status.{Status}
 use Rattle.nb_top.specs.declared.status.Status.TheVariants.{Refused as RefusedStatus}
-use Rattle.nb_top.specs.declared.telling.Telling.TheVariants.{Sparingly}
-use Rattle.nb_top.specs.Numbers.{number_of}
-use Rattle.nb_top.specs.Performed.{EndsIn, Finished, ReadsAsked, RunReads, HasSmallScn, IsEnded, IsPerformed, IsReadRun, IsUnasked, Knows, KnowsNames, KnowsOpened, MayBeGiven, RunLeft, RunsTo, StandsAsked, Target, begins_refused, refused_at, script_made, seen_after, target_named, target_of}
-use Rattle.nb_top.specs.Requests.{Request, ToGenerate, ToRun}
-use Rattle.nb_session.proofs.ReadyLaws.{free_same}
 use Rattle.nb_top.proofs.GeneratedEvents.{IsApart, SomeRun, its_database, its_target, read_run, script_apart, some_run, with_script}
 use Rattle.nb_top.proofs.MadeRuns.{first_or, none_yet}
 use Rattle.nb_top.proofs.QuietRuns.{given_from, left_quietly, runs_quietly}
 use Rattle.nb_top.proofs.ReadsLaws.{reads_quiet}
 use Rattle.nb_top.proofs.RefusedRuns.{refused_runs}
+use Rattle.nb_top.proofs.ChainRefusals.{exists_usage}
 
 -- the file, and what a run does after it
 module _ (name bytes : List ℕ) (es : List Event) where
@@ -313,11 +268,8 @@ module _ (old : World) (number : ℕ) (name : List ℕ) (account : Account) (giv
       finished = tt;
     }
 
-    exists_usage : FileExists name ≡ Usage → ⊥
-    exists_usage e = cc
-
     taken_number : (result : Result Status RunError) → IfOk result (λ status. status ≡ RefusedStatus) → IfOk result (λ status. number_of status ≡ status_after (Refused (FileExists name)))
-    taken_number (Ok status) ended = ap number_of ended ∙ sym (status_refused (FileExists name) exists_usage)
+    taken_number (Ok status) ended = ap number_of ended ∙ sym (status_refused (FileExists name) (exists_usage name))
     taken_number (Err e) ended = tt
 
     pub taken_refused : {S E : Type 0} (told : Result S E) (result : Result Status RunError) (mid new : World) → Quiet old mid → SaysLine told mid new (line_text 1 (Refused (FileExists name))) → IfOk result (λ status. status ≡ RefusedStatus)

@@ -1,31 +1,6 @@
 -- Where the files stand for the account as a run begins whose script is written first, they stand for one at each moment.
-use Rattle.std.proofs.Common.{◌≡◌, ◌≢◌, ◌⊎◌, inr, ⊎_elim, ℕ, ◌≤◌, List, [], ◌∷◌, length, take, true, false, refl, sym, ap, subst, ◌∙◌}
-use Rattle.std.specs.Prelude.{Bool, not, Option, Some, None, Result, Ok, Contains}
-use Rattle.nb_host.specs.Files.{Files}
-use Rattle.nb_host.specs.Names.{is_delta}
-use Rattle.nb_host.specs.World.{World}
-use Rattle.nb_host.specs.Crash.{Leaves}
-use Rattle.nb_host.specs.Moments.{IsTimely, AtEachMoment}
-use Rattle.nb_host.specs.declared.refusals.Refusal.{Refusal}
-use Rattle.nb_host.specs.declared.refusals.Refusal.TheVariants.{FileExists}
-use Rattle.nb_model.specs.Account.{Kept, Entry, Plain, Account, with_entry}
-use Rattle.nb_model.specs.Causes.{Cause, when, is_free_entry, not_free}
-use Rattle.nb_model.specs.Generated.{generated}
-use Rattle.nb_model.specs.Making.{MadeFile, IsNoneOf, IsNoBackup, with_files}
-use Rattle.nb_model.specs.Outcomes.{Given}
-use Rattle.nb_model.specs.Run.{Event, files_made}
-use Rattle.nb_model.specs.Steps.{made, after_steps, steps_of, strokes_in}
-use Rattle.nb_model.specs.Strokes.{base_in, records_after}
-use Rattle.nb_model.specs.Trail.{Trail, StandsIn, settled}
-use Rattle.nb_model.proofs.AccountLaws.{files_none}
-use Rattle.nb_model.proofs.SteadyLaws.{kept_along}
-use Rattle.nb_model.proofs.StandsLaws.{entry_other}
-use Rattle.nb_gen.proofs.GeneratedScript.{generated_text}
-use Rattle.nb_gen.proofs.WrittenLaws.{text_no_backup}
-use Rattle.nb_top.specs.declared.status.Status.{Status}
-use Rattle.nb_top.specs.Performed.{Finished, IsPerformed, IsSure, IsWrittenRun, MayBeGiven, RunLeft, RunReads, Target, begins_refused, kept_after, refused_at, script_made, seen_after, target_of}
-use Rattle.nb_top.specs.Standing.{HoldsKept, StandsFor}
-use Rattle.nb_top.specs.Requests.{Request, ToGenerate}
+use Rattle.std.proofs.Common.{◌≡◌, ◌≢◌, ◌⊎◌, inr, ⊎_elim, ℕ, ◌≤◌, List, [], ◌∷◌, length, take, true, false, refl, sym, ap, subst, ◌∙◌, Bool, not, Option, Some, None, Result, Ok, Contains}
+use Rattle.nb_top.proofs.Common.{Files, is_delta, World, Leaves, IsTimely, AtEachMoment, Refusal, FileExists, Kept, Entry, Plain, Account, with_entry, Cause, when, is_free_entry, not_free, generated, MadeFile, IsNoneOf, IsNoBackup, with_files, Given, Event, files_made, made, after_steps, steps_of, strokes_in, base_in, records_after, Trail, StandsIn, settled, files_none, kept_along, entry_other, generated_text, text_no_backup, Status, Finished, IsPerformed, IsSure, IsWrittenRun, MayBeGiven, RunLeft, RunReads, Target, begins_refused, kept_after, refused_at, script_made, seen_after, target_of, HoldsKept, StandsFor, Request, ToGenerate}
 use Rattle.nb_top.proofs.GeneratedEvents.{IsApart, ReadRun, ends, goes_on, its_database, read_run, script_apart, with_script}
 use Rattle.nb_top.proofs.MadeEnds.{made_after, made_stands}
 use Rattle.nb_top.proofs.MadeRuns.{no_file, first_or}

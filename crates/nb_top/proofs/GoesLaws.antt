@@ -1,37 +1,13 @@
 -- What is done of what is asked for, put together.
-use Rattle.std.proofs.Common.{◌≡◌, List, [], ℕ, sym, subst}
-use Rattle.std.specs.Prelude.{Bool, IsTrue, Result, Ok, Err, IsErr, IfErr, IfOk}
-use Rattle.nb_host.specs.Files.{Files}
-use Rattle.nb_host.specs.World.{World}
-use Rattle.nb_host.specs.Crash.{Leaves, LeavesAll}
-use Rattle.nb_host.specs.Moments.{IsTimely}
-use Rattle.nb_host.specs.declared.faults.Fault.{Fault}
+use Rattle.std.proofs.Common.{◌≡◌, List, [], ℕ, sym, subst, Bool, IsTrue, Result, Ok, Err, IsErr, IfErr, IfOk}
+use Rattle.nb_top.proofs.Common.{Files, World, Leaves, LeavesAll, IsTimely, Fault, Refusal, RunError, GaveNothing, Quiet, Deed, Reply, Account, line_text, Given, status_after, SaysLine, grows_none, grows_joined, Status, Done, AskedByTurns, EndsEarly, Goes, IsDone, number_of, OneTurn, one_turn, GoesTo, KnowsAsked, MayBeGiven, Performs, Request, Asked, Runs, Does, Serves, TurnsTo, reply_told, status_told, quiet_gave}
 use Rattle.nb_host.specs.declared.faults.Fault.TheVariants.{Refused as RefusedFault}
-use Rattle.nb_host.specs.declared.refusals.Refusal.{Refusal}
-use Rattle.nb_host.specs.declared.faults.RunError.{RunError}
-use Rattle.nb_change.specs.Gave.{GaveNothing}
-use Rattle.nb_page.specs.Quiet.{Quiet}
-use Rattle.nb_model.specs.declared.job.Deed.{Deed}
-use Rattle.nb_model.specs.declared.reply.Reply.{Reply}
 use Rattle.nb_model.specs.declared.reply.Reply.TheVariants.{Refused as RefusedReply}
-use Rattle.nb_model.specs.Account.{Account}
-use Rattle.nb_model.specs.Lines.{line_text}
-use Rattle.nb_model.specs.Outcomes.{Given}
-use Rattle.nb_model.specs.Output.{status_after}
-use Rattle.nb_session.specs.Says.{SaysLine}
-use Rattle.nb_session.proofs.GiftLaws.{grows_none, grows_joined}
-use Rattle.nb_top.specs.declared.status.Status.{Status}
-use Rattle.nb_top.specs.declared.status.Status.TheVariants.{Done, Device, Memory}
-use Rattle.nb_top.specs.ByTurns.{AskedByTurns, EndsEarly}
-use Rattle.nb_top.specs.Goes.{Goes, IsDone, IsRun}
-use Rattle.nb_top.specs.Numbers.{number_of}
-use Rattle.nb_top.specs.OneTurn.{OneTurn, one_turn}
-use Rattle.nb_top.specs.Performed.{GoesTo, KnowsAsked, MayBeGiven, Performs}
-use Rattle.nb_top.specs.Requests.{Request, Asked, Runs, Does}
-use Rattle.nb_top.specs.Served.{Serves, TurnsTo, reply_told, status_told}
+use Rattle.nb_top.specs.declared.status.Status.TheVariants.{Device, Memory}
+use Rattle.nb_top.specs.Goes.{IsRun}
 use Rattle.nb_top.proofs.ByTurnsLaws.{early_err, run_quietly, run_undone}
 use Rattle.nb_top.proofs.JobRuns.{job_refused, performs_device, performs_ended, performs_memory, undone_goes}
-use Rattle.nb_top.proofs.QuietRuns.{foretold_from, knows_quietly, quiet_gave, runs_quietly}
+use Rattle.nb_top.proofs.QuietRuns.{foretold_from, knows_quietly, runs_quietly}
 use Rattle.nb_top.proofs.RequestLaws.{CanBeMet}
 use Rattle.nb_top.proofs.ScriptRuns.{runs_err}
 use Rattle.nb_top.proofs.Turns.{turn_done, turn_fails, turn_quietly, turn_refused, turn_unsaid}

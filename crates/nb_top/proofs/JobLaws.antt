@@ -1,21 +1,6 @@
 -- A job is what it asks for: the run of a script, or one turn.
-use Rattle.std.proofs.Common.{◌≡◌, ◌∙◌, ℕ, List, length, refl, sym, subst}
-use Rattle.std.specs.Prelude.{Bool, true, false, Option, Some, None, Ok}
-use Rattle.nb_host.specs.Files.{Files}
-use Rattle.nb_model.specs.declared.job.Ask.{Ask}
-use Rattle.nb_model.specs.declared.job.Deed.{Deed}
-use Rattle.nb_model.specs.declared.job.Deed.TheVariants.{Restore, Fixup, Apply}
-use Rattle.nb_model.specs.declared.job.Job.TheVariants.{Turn}
-use Rattle.nb_model.specs.Account.{Account}
-use Rattle.nb_model.specs.Jobs.{IsAttaching, all_sized, apply_turn, asks_size, fixup_turn, quiet, restore_turn, turn_of}
-use Rattle.nb_model.specs.Outcomes.{Given}
-use Rattle.nb_model.specs.Run.{Event}
-use Rattle.nb_model.specs.Strokes.{base_in}
-use Rattle.nb_top.specs.declared.telling.Telling.{Telling}
-use Rattle.nb_top.specs.declared.telling.Telling.TheVariants.{Quietly, WithSize}
-use Rattle.nb_top.specs.OneTurn.{one_turn}
-use Rattle.nb_top.specs.Performed.{IsPerformed, told}
-use Rattle.nb_top.specs.Requests.{Does, attached, request_of}
+use Rattle.std.proofs.Common.{◌≡◌, ◌∙◌, ℕ, List, length, refl, sym, subst, Bool, true, false, Some, Ok}
+use Rattle.nb_top.proofs.Common.{Files, Ask, Deed, Restore, Fixup, Apply, Turn, Account, IsAttaching, all_sized, apply_turn, asks_size, fixup_turn, quiet, restore_turn, turn_of, Given, Event, base_in, Telling, Quietly, WithSize, one_turn, IsPerformed, told, Does, attached, request_of, none_some, some_same}
 
 -- what is told of a job that attaches is what it says
 told_so : (size : Bool) (pages : ℕ) (whole : List Event) → told (elim size as (λ z. Telling) [ true ↦ WithSize | false ↦ Quietly ]) pages whole ≡ elim size as (λ z. List Event) [ true ↦ all_sized pages (quiet whole) | false ↦ quiet whole ]
@@ -35,18 +20,12 @@ module _ (files : Files) (before last : Account) (given : Given) (events : List 
 abbrev Row : Type 0
 Row = List ℕ × Event
 
-same_row : (a b : Row) → ◌≡◌ {A = Option Row} (Some a) (Some b) → a ≡ b
-same_row a b h = cc
-
-no_row : (b : Row) → ◌≡◌ {A = Option Row} None (Some b) → ⊥
-no_row b h = cc
-
 abbrev IsRow : Files → Account → Deed → Row → Type 0
 IsRow files account deed row = (request_of files (Turn deed) ≡ Does deed) × ((one_turn files deed).name ≡ Some row.0) × ((one_turn files deed).turn account ≡ row.1)
 
 pub turn_done : (files : Files) (deed : Deed) (row : Row) (account : Account) → turn_of files account deed ≡ Some row → IsRow files account deed row
 unfolding turn_of
-turn_done files (Restore db names) row account is = subst (IsRow files account (Restore db names)) (same_row (db, restore_turn files account db names) row is) (refl, refl, refl)
-turn_done files (Apply db file) row account is = subst (IsRow files account (Apply db file)) (same_row (db, apply_turn files db file) row is) (refl, refl, refl)
-turn_done files (Fixup db) row account is = subst (IsRow files account (Fixup db)) (same_row (db, fixup_turn files db) row is) (refl, refl, refl)
-turn_done files other row account is = absurd (no_row row is)
+turn_done files (Restore db names) row account is = subst (IsRow files account (Restore db names)) (some_same {X = Row} (db, restore_turn files account db names) row is) (refl, refl, refl)
+turn_done files (Apply db file) row account is = subst (IsRow files account (Apply db file)) (some_same {X = Row} (db, apply_turn files db file) row is) (refl, refl, refl)
+turn_done files (Fixup db) row account is = subst (IsRow files account (Fixup db)) (some_same {X = Row} (db, fixup_turn files db) row is) (refl, refl, refl)
+turn_done files other row account is = absurd (none_some row is)

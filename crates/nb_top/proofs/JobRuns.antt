@@ -1,34 +1,8 @@
 -- A job is done, from the words to its end.
-use Rattle.std.proofs.Common.{◌≡◌, ◌≢◌, inl, ⊎_elim, ℕ, List, [], ◌++◌, length, take, refl, sym, ap, subst, ◌∙◌, arith}
-use Rattle.std.specs.Prelude.{Result, Ok, Err, IfOk, IfErr, OnOk}
-use Rattle.nb_host.specs.Files.{File, Files}
-use Rattle.nb_host.specs.World.{World}
-use Rattle.nb_host.specs.Crash.{Leaves}
-use Rattle.nb_host.specs.Moments.{IsNow, IsTimely, AtEachMoment}
-use Rattle.nb_host.specs.declared.refusals.Refusal.{Refusal}
-use Rattle.nb_host.specs.declared.refusals.Refusal.TheVariants.{Usage}
-use Rattle.nb_host.specs.declared.faults.RunError.{RunError}
-use Rattle.nb_change.proofs.MomentLaws.{left_before, weaker}
-use Rattle.nb_page.specs.Quiet.{Quiet}
-use Rattle.nb_model.specs.declared.job.Deed.{Deed}
+use Rattle.std.proofs.Common.{◌≡◌, ◌≢◌, inl, ⊎_elim, ℕ, List, [], ◌++◌, length, take, refl, sym, ap, subst, ◌∙◌, arith, Result, Ok, Err, IfOk, IfErr, OnOk}
+use Rattle.nb_top.proofs.Common.{File, Files, World, Leaves, IsNow, IsTimely, AtEachMoment, Refusal, Usage, RunError, left_before, weaker, Quiet, Deed, Account, line_text, Given, status_after, IsNoneOf, Event, files_made, steps_of, status_refused, SaysLine, Status, number_of, HasSmallScn, RunLeft, RunReads, RunStands, RunsTo, GoesTo, KnowsAsked, Performs, PerformsRun, StandsAfter, Finished, IsPerformed, IsSure, IsUndone, Knows, MayBeGiven, kept_after, target_of, first_event, refused_job, HoldsKept, StandsFor, Request, ToRun, ToGenerate, Asked, Runs, Does, script_in, DoesTurn, FitsDeed, TurnEnded, one_turn, TurnsTo}
 use Rattle.nb_model.specs.declared.reply.Reply.TheVariants.{Refused as RefusedReply}
-use Rattle.nb_model.specs.Account.{Account}
-use Rattle.nb_model.specs.Lines.{line_text}
-use Rattle.nb_model.specs.Outcomes.{Given}
-use Rattle.nb_model.specs.Output.{status_after}
-use Rattle.nb_model.specs.Making.{IsNoneOf}
-use Rattle.nb_model.specs.Run.{Event, files_made}
-use Rattle.nb_model.specs.Steps.{steps_of}
-use Rattle.nb_model.proofs.StatusLaws.{status_refused}
-use Rattle.nb_session.specs.Says.{SaysLine}
-use Rattle.nb_top.specs.declared.status.Status.{Status}
 use Rattle.nb_top.specs.declared.status.Status.TheVariants.{Refused as RefusedStatus, Usage as UsageStatus, Device, Memory}
-use Rattle.nb_top.specs.Numbers.{number_of}
-use Rattle.nb_top.specs.Performed.{HasSmallScn, RunLeft, RunReads, RunStands, RunsTo, GoesTo, KnowsAsked, Performs, PerformsRun, StandsAfter, Finished, IsPerformed, IsSure, IsUndone, Knows, MayBeGiven, kept_after, target_of, first_event, refused_job}
-use Rattle.nb_top.specs.Standing.{HoldsKept, StandsFor}
-use Rattle.nb_top.specs.Requests.{Request, ToRun, ToGenerate, Asked, Runs, Does, script_in}
-use Rattle.nb_top.specs.OneTurn.{DoesTurn, FitsDeed, TurnEnded, one_turn}
-use Rattle.nb_top.specs.Served.{TurnsTo}
 use Rattle.nb_top.proofs.Deeds.{sound_deed}
 use Rattle.nb_top.proofs.GeneratedRuns.{generated_unbegun}
 use Rattle.nb_top.proofs.GeneratedSure.{generated_after, generated_left, generated_end}

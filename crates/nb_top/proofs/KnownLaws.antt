@@ -1,33 +1,7 @@
 -- An account that tells what the files hold knows what any words ask of it.
-use Rattle.std.proofs.Common.{◌≡◌, inl, inr, ℕ, ◌<◌, ◌≤◌, ◌+◌, List, [], true, false, refl, sym, ap, ◌∙◌, arith, length-append}
-use Rattle.std.specs.Prelude.{Bool, ◌&&◌, not, nat_le, nat_lt, length, is_some, Option, Some, None, Result, Ok, Err, if◌then◌else◌}
-use Rattle.std.proofs.lemmas.Bool.{and_parts, le-ltb, leb-true, lt-ltb}
-use Rattle.std.proofs.lemmas.Bool.Decides.{leb_tells}
-use Rattle.nb_fields.specs.Free.{is_free_file}
-use Rattle.nb_host.specs.Files.{File, Files}
-use Rattle.nb_host.specs.Names.{delta_suffix, is_delta}
-use Rattle.nb_host.specs.declared.refusals.Refusal.{Refusal}
-use Rattle.nb_host.specs.declared.refusals.Refusal.TheVariants.{Usage}
-use Rattle.nb_page.specs.Free.{has_delta, is_free_name}
-use Rattle.nb_model.specs.declared.job.Job.{Job}
-use Rattle.nb_model.specs.declared.job.Job.TheVariants.{Run, Gen, Attach, Turn, Plan as PlanOf}
-use Rattle.nb_model.specs.declared.statement.Statement.{Statement}
-use Rattle.nb_model.specs.declared.statement.Statement.TheVariants.{OpenDb}
-use Rattle.nb_model.specs.Account.{Account}
-use Rattle.nb_model.specs.Owner.{delta_name, entry_of_files}
-use Rattle.nb_model.specs.Stands.{IsSameImage, Stands}
-use Rattle.nb_model.specs.Words.{is_database, is_file, job_of}
-use Rattle.nb_model.proofs.GoingLaws.{name_short}
-use Rattle.nb_model.proofs.OpeningLaws.{free_entry}
-use Rattle.nb_model.proofs.StandsLaws.{delta_named}
-use Rattle.nb_catalog.specs.Turns.{names_in}
-use Rattle.nb_script.specs.Fits.{FitsFirst}
-use Rattle.nb_script.specs.Asked.{IsAskable}
-use Rattle.nb_script.specs.Scripts.{Plan}
-use Rattle.nb_top.specs.declared.telling.Telling.TheVariants.{All}
-use Rattle.nb_top.specs.Performed.{HoldsUnder, Knows, KnowsAsked, KnowsNames, KnowsOpened}
-use Rattle.nb_top.specs.Requests.{Asked, Runs, ToRun, FitsJob, request_asked, request_of, script_in, to_plan, to_run}
-use Rattle.nb_top.specs.Worlds.{HaveNames, account_of}
+use Rattle.std.proofs.Common.{◌≡◌, inl, inr, ℕ, ◌<◌, ◌≤◌, ◌+◌, List, [], true, false, refl, sym, ap, ◌∙◌, arith, length-append, Bool, ◌&&◌, not, nat_le, nat_lt, length, is_some, Option, Some, None, Result, Ok, Err, if◌then◌else◌}
+use Rattle.nb_top.proofs.Common.{and_parts, le-ltb, leb-true, lt-ltb, leb_tells, is_free_file, File, Files, delta_suffix, is_delta, Refusal, Usage, has_delta, is_free_name, Job, Run, Gen, Attach, Turn, Statement, OpenDb, Account, delta_name, entry_of_files, IsSameImage, Stands, is_database, is_file, job_of, name_short, free_entry, delta_named, names_in, FitsFirst, IsAskable, Plan, All, HoldsUnder, Knows, KnowsAsked, KnowsNames, KnowsOpened, Asked, Runs, ToRun, FitsJob, request_asked, request_of, script_in, to_plan, to_run, HaveNames, account_of}
+use Rattle.nb_model.specs.declared.job.Job.TheVariants.{Plan as PlanOf}
 use Rattle.nb_top.proofs.Deeds.{sound_deed}
 use Rattle.nb_top.proofs.FirstReady.{base_name}
 use Rattle.nb_top.proofs.RequestLaws.{askable_in, attach_askable}

@@ -1,17 +1,6 @@
 -- What a crash leaves at the moments of a run.
-use Rattle.std.proofs.Common.{◌≡◌, inl, inr, ⊎_elim, ℕ, List, [], ◌++◌, length, refl, sym, ap, ◌∙◌, arith}
-use Rattle.std.specs.Prelude.{Option, None, Some}
-use Rattle.std.proofs.lemmas.List.{append-nil}
-use Rattle.nb_host.specs.Files.{Files}
-use Rattle.nb_host.specs.World.{World}
-use Rattle.nb_host.specs.Crash.{Leaves, Untouched}
-use Rattle.nb_host.specs.Moments.{IsNow}
-use Rattle.nb_change.proofs.MomentLaws.{left_before}
-use Rattle.nb_model.specs.Account.{Account}
-use Rattle.nb_model.specs.Owner.{delta_name}
-use Rattle.nb_model.specs.Run.{Event}
-use Rattle.nb_model.proofs.StepsLaws.{acked_steps_none}
-use Rattle.nb_top.specs.Performed.{RunLeft, StandsAsked, Target}
+use Rattle.std.proofs.Common.{◌≡◌, inl, inr, ⊎_elim, ℕ, List, [], ◌++◌, length, refl, sym, ap, ◌∙◌, arith, Option, None, Some}
+use Rattle.nb_top.proofs.Common.{append-nil, Files, World, Leaves, Untouched, IsNow, left_before, Account, delta_name, Event, acked_steps_none, RunLeft, StandsAsked, Target}
 use Rattle.nb_top.proofs.MadeRuns.{none_yet}
 
 -- before anything is done, what a crash leaves is as it was

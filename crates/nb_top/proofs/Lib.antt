@@ -62,3 +62,4 @@ pub mod FoldRecords
 pub mod FoldStands
 pub mod Planned
 pub mod Lists
+mod Common

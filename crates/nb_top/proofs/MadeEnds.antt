@@ -1,19 +1,6 @@
 -- Where a run makes files and no database, what stands at its end is the account with them.
-use Rattle.std.proofs.Common.{◌≡◌, ℕ, List, true, false, sym, subst}
-use Rattle.std.specs.Prelude.{None, Contains}
-use Rattle.nb_fields.specs.Free.{is_free_file}
-use Rattle.nb_host.specs.Files.{File, Files}
-use Rattle.nb_host.specs.Names.{is_delta}
-use Rattle.nb_host.specs.World.{World}
-use Rattle.nb_host.specs.Crash.{Leaves, LeavesAll}
-use Rattle.nb_model.specs.Account.{Account}
-use Rattle.nb_model.specs.Making.{MadeFile, IsNoneOf, with_files}
-use Rattle.nb_model.specs.Owner.{delta_name}
-use Rattle.nb_model.specs.Stands.{Stands}
-use Rattle.nb_model.proofs.AccountLaws.{files_kept}
-use Rattle.nb_model.proofs.MadeLaws.{IsWholeFile}
-use Rattle.nb_session.specs.Acts.{MadeLeft, AreKept}
-use Rattle.nb_top.specs.Standing.{HoldsKept, StandsFor}
+use Rattle.std.proofs.Common.{◌≡◌, ℕ, List, true, false, sym, subst, None, Contains}
+use Rattle.nb_top.proofs.Common.{is_free_file, File, Files, is_delta, World, Leaves, LeavesAll, Account, MadeFile, IsNoneOf, with_files, delta_name, Stands, files_kept, IsWholeFile, MadeLeft, AreKept, HoldsKept, StandsFor}
 use Rattle.nb_top.proofs.MadeStand.{IsNewFile, none_delta, free_name, free_left, made_holds}
 use Rattle.nb_top.proofs.MadeWhole.{stands_with_whole}
 

@@ -1,10 +1,6 @@
 -- The files that events make, and events that make none.
-use Rattle.std.proofs.Common.{◌≡◌, ◌⊎◌, inl, inr, ℕ, zero, suc, List, [], ◌∷◌, take, sym, ap, subst, arith}
-use Rattle.std.specs.Prelude.{Contains, Option, Some, None}
-use Rattle.nb_model.specs.Making.{MadeFile, IsNoneOf}
-use Rattle.nb_model.specs.Run.{Event, files_made}
-use Rattle.nb_model.specs.Steps.{acked_turns}
-use Rattle.nb_model.proofs.StepsLaws.{turns_before}
+use Rattle.std.proofs.Common.{◌≡◌, ◌⊎◌, inl, inr, ℕ, zero, suc, List, [], ◌∷◌, take, sym, ap, subst, arith, Contains, Option, Some, None}
+use Rattle.nb_top.proofs.Common.{MadeFile, IsNoneOf, Event, files_made, acked_turns, turns_before}
 
 pub no_file : (file : MadeFile) → Contains {X = MadeFile} [] file → ⊥
 no_file file there = omega (arith, there.1)

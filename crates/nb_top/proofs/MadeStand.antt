@@ -1,33 +1,6 @@
 -- While files are made beside what stood, what a crash leaves stands for an account.
-use Rattle.std.proofs.Common.{◌≡◌, ◌≢◌, ◌⊎◌, inl, inr, ⊎_elim, ℕ, zero, suc, List, [], ◌∷◌, map, true, false, refl, sym, ap, subst, ◌∙◌, arith}
-use Rattle.std.specs.Prelude.{not, Some, None, is_some, Contains}
-use Rattle.std.proofs.lemmas.Bool.{and_parts, true≢false}
-use Rattle.nb_fields.specs.Free.{is_free_file}
-use Rattle.nb_fields.specs.Header.{is_header}
-use Rattle.nb_host.specs.Files.{File, Files, bytes_of, with_file}
-use Rattle.nb_host.specs.Names.{is_delta}
-use Rattle.nb_host.specs.World.{World}
-use Rattle.nb_host.specs.Crash.{Leaves, LeavesAll}
-use Rattle.nb_change.specs.Changes.{Remade}
-use Rattle.nb_change.proofs.ChangesLaws.{left_with}
-use Rattle.nb_change.proofs.NameLaws.{decide, with_file-same}
-use Rattle.nb_model.specs.Account.{Kept, Account}
-use Rattle.nb_model.specs.Causes.{is_free_entry}
-use Rattle.nb_model.specs.Levels.{read_level}
-use Rattle.nb_model.specs.Making.{MadeFile, AreAmong, IsNoneOf}
-use Rattle.nb_model.specs.NewGuids.{AreNew, guids_in}
-use Rattle.nb_model.specs.Owner.{delta_name}
-use Rattle.nb_model.specs.Stands.{Stands}
-use Rattle.nb_model.specs.Steps.{Step, strokes_in}
-use Rattle.nb_model.specs.Trail.{Trail}
-use Rattle.nb_model.proofs.GrownLaws.{new_unused, stands_along}
-use Rattle.nb_model.proofs.MadeLaws.{IsWholeFile, IsInMaking, is_free, unfinished, whole, with_those, those_kept, stands_those}
-use Rattle.nb_model.proofs.OpeningLaws.{free_entry}
-use Rattle.nb_model.proofs.StandsLaws.{delta_named}
-use Rattle.nb_model.proofs.SteadyLaws.{WellAlong, kept_along}
-use Rattle.nb_gather.specs.Making.{IsUnfinishedOr}
-use Rattle.nb_session.specs.Acts.{MadeLeft}
-use Rattle.nb_top.specs.Standing.{HoldsKept, StandsFor}
+use Rattle.std.proofs.Common.{◌≡◌, ◌≢◌, ◌⊎◌, inl, inr, ⊎_elim, ℕ, zero, suc, List, [], ◌∷◌, map, true, false, refl, sym, ap, subst, ◌∙◌, arith, not, None, is_some, Contains}
+use Rattle.nb_top.proofs.Common.{and_parts, true≢false, is_free_file, is_header, File, Files, bytes_of, with_file, is_delta, World, Leaves, LeavesAll, Remade, left_with, decide, with_file-same, Kept, Account, is_free_entry, read_level, MadeFile, AreAmong, IsNoneOf, AreNew, guids_in, delta_name, Stands, Step, strokes_in, Trail, new_unused, stands_along, IsWholeFile, IsInMaking, is_free, unfinished, whole, with_those, those_kept, stands_those, free_entry, delta_named, WellAlong, kept_along, IsUnfinishedOr, MadeLeft, HoldsKept, StandsFor, not_some}
 use Rattle.nb_top.proofs.MadeRuns.{no_file}
 use Rattle.nb_top.proofs.AsWas.{IsOff, as_was, was_has, was_off}
 
@@ -108,10 +81,6 @@ in_making kept bytes file (inl (inr none)) is = unfinished (λ other there.
     let same : bytes_of file ≡ other = ap bytes_of there in
     record { no_level = λ c reads. none.no_level c (ap read_level same ∙ reads); no_header = ap is_header (sym same) ∙ none.no_header })
 in_making kept bytes file (inr there) is = whole bytes there is
-
-not_some : (file : File) → not (is_some file) ≡ true → file ≡ None
-not_some None h = refl
-not_some (Some bytes) h = cc
 
 module _ (old : World) (account : Account) (stands : StandsFor old account) where
   -- beside a free name no difference file stands, and a crash brings none back

@@ -1,22 +1,6 @@
 -- Files that are made whole beside what stood: the files go on to stand for the account with them.
-use Rattle.std.proofs.Common.{◌≡◌, ℕ, suc, List, [], ◌∷◌, true, false, refl, sym, ap, subst, ◌∙◌, arith}
-use Rattle.std.specs.Prelude.{◌==◌, Some, None, Result, Ok, Err, Contains}
-use Rattle.std.proofs.lemmas.Bool.{true≢false, and_parts}
-use Rattle.nb_fields.specs.Header.{is_header, state_of}
-use Rattle.nb_fields.specs.States.{applying_state}
-use Rattle.nb_host.specs.Files.{File, Files}
-use Rattle.nb_host.specs.Names.{is_delta}
-use Rattle.nb_host.specs.declared.refusals.Refusal.{Refusal}
-use Rattle.nb_model.specs.Account.{Kept, Base, Entry, Plain, IsBase, Account, with_entry}
-use Rattle.nb_model.specs.Making.{MadeFile, IsNoneOf, IsNoBackup, with_files}
-use Rattle.nb_model.specs.Owner.{delta_name, owner, entry_of_files, entry_in}
-use Rattle.nb_model.specs.Stands.{Stands}
-use Rattle.nb_model.proofs.MadeLaws.{IsWholeFile, whole, with_those, stands_those}
-use Rattle.nb_model.proofs.OpenedLaws.{has_main}
-use Rattle.nb_model.proofs.StandsLaws.{delta_named, formed_header}
-
-some_same : (a b : List ℕ) → Some a ≡ Some b → a ≡ b
-some_same a b e = cc
+use Rattle.std.proofs.Common.{◌≡◌, ℕ, suc, List, [], ◌∷◌, true, false, refl, sym, ap, subst, ◌∙◌, arith, ◌==◌, Some, None, Result, Ok, Err, Contains}
+use Rattle.nb_top.proofs.Common.{true≢false, and_parts, is_header, state_of, applying_state, File, Files, is_delta, Refusal, Kept, Base, Entry, Plain, IsBase, Account, with_entry, MadeFile, IsNoneOf, IsNoBackup, with_files, delta_name, owner, entry_of_files, entry_in, Stands, IsWholeFile, whole, with_those, stands_those, has_main, delta_named, formed_header, some_same}
 
 -- bytes that are opened have a header
 opened_header : (name bytes : List ℕ) (b : Base) → owner name (Some bytes) None ≡ Ok b → is_header bytes ≡ true

@@ -1,13 +1,10 @@
 -- Hosts in memory that start from files for good.
-use Rattle.std.proofs.Common.{◌≡◌, ◌≢◌, ◌⊎◌, inl, inr, ⊎_elim, ℕ, List, [], refl, sym, subst, ◌∙◌}
-use Rattle.std.specs.Prelude.{Some}
-use Rattle.nb_host.specs.Files.{File, Files, with_file}
-use Rattle.nb_host.specs.Crash.{Leaves}
+use Rattle.std.proofs.Common.{◌≡◌, ◌≢◌, ◌⊎◌, inl, inr, ⊎_elim, ℕ, List, [], refl, sym, subst, ◌∙◌, Some}
+use Rattle.nb_top.proofs.Common.{File, Files, with_file, Leaves, files_of, Back, world_of, StartsFrom, no_files}
 use Rattle.nb_mem.specs.declared.entry.Entry.{Entry}
-use Rattle.nb_mem.specs.Histories.{files_of, Now, Back, world_of}
+use Rattle.nb_mem.specs.Histories.{Now}
 use Rattle.nb_mem.specs.Outcomes.{IsLeft, placed}
 use Rattle.nb_host.proofs.NameLaws.{decide, at_same, at_other, with_file-same, with_file-other}
-use Rattle.nb_top.specs.Worlds.{StartsFrom, no_files}
 
 -- before the first call
 pub new_starts : StartsFrom (world_of []) no_files

@@ -1,67 +1,25 @@
 -- The one turn of a merge in place: what it must be, and what stands after it.
-use Rattle.std.proofs.Common.{◌≡◌, ◌≢◌, ℕ, List, [], ◌∷◌, length, true, false, refl, sym, ap, subst, ◌∙◌}
-use Rattle.std.specs.Prelude.{Bool, ◌==◌, nat_lt, None, Some, Result, Ok, Err}
-use Rattle.nb_fields.specs.Header.{state_of}
-use Rattle.nb_fields.specs.Page.{stamp_of}
-use Rattle.nb_fields.specs.States.{applying_state}
-use Rattle.nb_host.specs.Files.{File, Files}
-use Rattle.nb_host.specs.declared.refusals.Refusal.{Refusal}
-use Rattle.nb_host.specs.declared.refusals.Refusal.TheVariants.{Usage, NoFile, BadLevel, ChainScn}
-use Rattle.nb_model.specs.declared.reply.Reply.TheVariants.{Pages}
-use Rattle.nb_model.specs.Account.{Account}
-use Rattle.nb_model.specs.Causes.{Cause}
-use Rattle.nb_model.specs.Image.{Page, image_in}
-use Rattle.nb_model.specs.InPlace.{bytes_in, in_place, in_place_of, not_finishing, not_mergeable, not_next, not_standby, other_pages, written_since}
-use Rattle.nb_model.specs.Jobs.{only_turn, only_refusal, apply_turn, account_behind}
-use Rattle.nb_model.specs.Levels.{Contents, read_level}
-use Rattle.nb_model.specs.Run.{Event, account_after, with_made}
-use Rattle.nb_model.specs.Strokes.{merge, merged}
-use Rattle.nb_model.proofs.UsageCauses.{IsOther, other_first, other_when, other_database}
-use Rattle.nb_inplace.specs.Verdict.{IsMergeable}
+use Rattle.std.proofs.Common.{◌≡◌, ◌≢◌, ℕ, List, [], ◌∷◌, length, true, false, refl, sym, ap, subst, ◌∙◌, Bool, ◌==◌, nat_lt, None, Some, Result, Ok, Err}
+use Rattle.nb_top.proofs.Common.{state_of, stamp_of, applying_state, File, Files, Refusal, Usage, NoFile, BadLevel, ChainScn, Pages, Account, Cause, Page, image_in, bytes_in, in_place, in_place_of, not_finishing, not_mergeable, not_next, not_standby, other_pages, written_since, only_turn, only_refusal, apply_turn, account_behind, Contents, read_level, Event, account_after, with_made, merge, merged, IsOther, other_first, other_when, other_database, IsMergeable, none_other, err_ok}
+use Rattle.nb_top.proofs.ChainRefusals.{some_other, IsFine, by_cause}
 
 -- the turn that merges what a level file holds into a standby
 abbrev pub merged_turn : (bytes : List ℕ) → Contents → Event
 merged_turn bytes c = only_turn (Pages (length (merged c.pages (image_in bytes)))) (merge c.pages ∷ [])
 
 -- 1. A merge is never refused as words are that name no job.
-abbrev IsFine : Result Contents Refusal → Type 0
-IsFine (Ok c) = Unit {0}
-IsFine (Err refusal) = refusal ≢ Usage
-
-no_file : (name : List ℕ) → NoFile name ≢ Usage
-no_file name h = cc
-
-bad_level : (name : List ℕ) (at : ℕ) → BadLevel name at ≢ Usage
-bad_level name at h = cc
-
-some_other : (r : Refusal) → r ≢ Usage → IsOther (Some r)
-some_other r h e = h (same e)
-  where
-    same : Some r ≡ Some Usage → r ≡ Usage
-    same k = cc
-
-by_cause : (c : Cause) (found : Contents) → IsOther c → IsFine (elim c as (λ z. Result Contents Refusal) [ Some refusal ↦ Err refusal | None ↦ Ok found ])
-by_cause None found h = tt
-by_cause (Some r) found h = λ e. h (ap (λ (x : Refusal). Some x) e)
-
 standby_other : (name : List ℕ) (file : File) → IsOther (not_standby name file)
 unfolding not_standby
-standby_other name None = some_other (NoFile name) (no_file name)
+standby_other name None = some_other (NoFile name) (λ e. cc)
 standby_other name (Some bytes) = other_first _ (other_database bytes, (other_when _ _ (λ e. cc), tt))
-
-none_other : IsOther None
-none_other e = cc
 
 written_other : (name : List ℕ) (scn : ℕ) (pages : List Page) → IsOther (written_since name scn pages)
 unfolding written_since
 written_other name scn [] = none_other
 written_other name scn (p ∷ ps) = by (nat_lt scn (stamp_of p)) (written_other name scn ps)
   where
-    later : (found : ℕ) → ChainScn name found scn ≢ Usage
-    later found h = cc
-
     by : (t : Bool) → IsOther (written_since name scn ps) → IsOther (elim t as (λ z. Cause) [ true ↦ Some (ChainScn name (stamp_of p) scn) | false ↦ written_since name scn ps ])
-    by true rest = some_other (ChainScn name (stamp_of p) scn) (later (stamp_of p))
+    by true rest = some_other (ChainScn name (stamp_of p) scn) (λ e. cc)
     by false rest = rest
 
 next_other : (name bytes : List ℕ) (c : Contents) → IsOther (not_next name bytes c)
@@ -88,11 +46,11 @@ merge_fine files db name = by (not_standby db (files db)) (standby_other db (fil
       | Err at ↦ Err (BadLevel name at)
       | Ok c ↦ elim (not_mergeable bytes name c) as (λ z. Result Contents Refusal) [ Some refusal ↦ Err refusal | None ↦ Ok c ]
     ])
-    of_level bytes (Err at) = bad_level name at
+    of_level bytes (Err at) = λ e. cc
     of_level bytes (Ok c) = by_cause (not_mergeable bytes name c) c (mergeable_other bytes name c)
 
     of_file : (file : File) → IsFine (elim file as (λ z. Result Contents Refusal) [ None ↦ Err (NoFile name) | Some bytes ↦ in_place_of (bytes_in (files db)) name bytes ])
-    of_file None = no_file name
+    of_file None = λ e. cc
     of_file (Some bytes) = of_level (bytes_in (files db)) (read_level bytes)
 
     by : (cause : Cause) → IsOther cause → IsFine (elim cause as (λ z. Result Contents Refusal) [
@@ -109,10 +67,7 @@ pub data MergeTurn (files : Files) (db name : List ℕ) : Type 0 where
 
 no_standby : (files : Files) (db name : List ℕ) (c : Contents) → files db ≡ None → in_place files db name ≡ Ok c → ⊥
 unfolding in_place not_standby
-no_standby files db name c none accepted = never (sym (rw (none, in_place) refl) ∙ accepted)
-  where
-    never : Err (NoFile db) ≡ Ok c → ⊥
-    never h = cc
+no_standby files db name c none accepted = err_ok {E = Refusal} {T = Contents} (NoFile db) c (sym (rw (none, in_place) refl) ∙ accepted)
 
 module _ (files : Files) (db name : List ℕ) where
   pub refused_turn : (refusal : Refusal) → in_place files db name ≡ Err refusal → apply_turn files db name ≡ only_refusal refusal
@@ -138,7 +93,7 @@ module _ (files : Files) (db name : List ℕ) where
       by (Ok c) accepted = of_file c accepted (files db) refl
 
   pub refused_merge : (refusal : Refusal) → in_place files db name ≡ Err refusal → refusal ≢ Usage
-  refused_merge refusal why = subst IsFine why (merge_fine files db name)
+  refused_merge refusal why = subst (λ (r : Result Contents Refusal). IsFine r) why (merge_fine files db name)
 
   pub merged_account : (account : Account) (bytes : List ℕ) (c : Contents) → account_behind db (merged_turn bytes c) account ≡ account_after db (merge c.pages ∷ []) None account
   unfolding account_behind with_made

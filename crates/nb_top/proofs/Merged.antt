@@ -1,44 +1,12 @@
 -- The job of a merge in place: its call serves it, and it keeps what stands.
-use Rattle.std.proofs.Common.{true≢false, ◌≡◌, ◌≢◌, ◌⊎◌, inl, inr, ℕ, List, [], ◌∷◌, true, false, refl, sym, ap, subst, ◌∙◌}
-use Rattle.std.specs.Prelude.{Some, None, Result, Ok, Err}
-use Rattle.std.proofs.lemmas.List.{append-nil}
-use Rattle.nb_fields.specs.Free.{is_free_file}
-use Rattle.nb_host.specs.Files.{File, Files}
-use Rattle.nb_host.specs.Names.{is_delta}
-use Rattle.nb_host.specs.World.{World}
-use Rattle.nb_host.specs.Crash.{Leaves, LeavesAll}
-use Rattle.nb_host.specs.declared.faults.Fault.{Fault}
-use Rattle.nb_host.specs.declared.faults.Fault.TheVariants.{Refused, Device, Memory}
-use Rattle.nb_host.specs.declared.refusals.Refusal.{Refusal}
-use Rattle.nb_host.specs.declared.refusals.Refusal.TheVariants.{Unfinished}
-use Rattle.nb_change.specs.Changes.{Only}
-use Rattle.nb_change.proofs.ChangesLaws.{weaker_has}
-use Rattle.nb_page.specs.Quiet.{Quiet}
-use Rattle.nb_model.specs.declared.reply.Reply.TheVariants.{Pages}
-use Rattle.nb_model.specs.Account.{Base, base_of, Entry, Plain, IsBase, Account, with_entry}
-use Rattle.nb_model.specs.Image.{Image, image_in}
-use Rattle.nb_model.specs.InPlace.{in_place}
-use Rattle.nb_model.specs.Jobs.{apply_turn, account_behind}
-use Rattle.nb_model.specs.Levels.{Contents}
-use Rattle.nb_model.specs.Main.{HoldsMain}
-use Rattle.nb_model.specs.Owner.{delta_name, entry_of_files, owner_in}
-use Rattle.nb_model.specs.Run.{Event, account_after, with_made}
-use Rattle.nb_model.specs.Strokes.{as_standby, merge, merged, on_base, base_after, base_in, records_after, records_of}
-use Rattle.nb_model.specs.Trail.{ShowsIn}
-use Rattle.nb_model.specs.Well.{IsWellBaseIn}
-use Rattle.nb_model.proofs.MainLaws.{owner-formed, owner_main}
-use Rattle.nb_model.proofs.OpeningLaws.{with_kept}
-use Rattle.nb_model.proofs.StandsLaws.{opened_entry}
+use Rattle.std.proofs.Common.{true≢false, ◌≡◌, ◌≢◌, ◌⊎◌, inl, inr, ℕ, List, [], ◌∷◌, true, false, refl, sym, ap, subst, ◌∙◌, Some, None, Result, Ok, Err}
+use Rattle.nb_top.proofs.Common.{append-nil, is_free_file, File, Files, is_delta, World, Leaves, LeavesAll, Fault, Refused, Device, Memory, Unfinished, Only, weaker_has, Quiet, Pages, Base, base_of, Entry, Plain, IsBase, Account, with_entry, Image, image_in, in_place, apply_turn, account_behind, Contents, HoldsMain, delta_name, entry_of_files, owner_in, Event, account_after, with_made, as_standby, merge, merged, on_base, base_after, base_in, records_after, records_of, ShowsIn, IsWellBaseIn, owner-formed, owner_main, with_kept, owner_applying, opened_entry, IsMergeable, OneTurn, TakesKept, leaves_all, merging, ServedAs, Serves, HoldsKept, StandsFor, ok_same, some_same}
 use Rattle.nb_inplace.specs.Apply.{Applies, ApplyAnswers, ApplyLeft, base_with}
 use Rattle.nb_inplace.specs.Kept.{MergesBackup}
-use Rattle.nb_inplace.specs.Verdict.{IsMergeable}
 use Rattle.nb_inplace.proofs.ClosedLaws.{closed_entry, half_in_use}
 use Rattle.nb_inplace.proofs.KeptWay.{half_stands, kept_gives}
 use Rattle.nb_inplace.proofs.StandbyWell.{merged_well}
 use Rattle.nb_inplace.proofs.VerdictLaws.{IsFor, as_it_stands, begun, IsAccepted, accepted}
-use Rattle.nb_top.specs.OneTurn.{OneTurn, TakesKept, leaves_all, merging}
-use Rattle.nb_top.specs.Served.{ServedAs, Serves}
-use Rattle.nb_top.specs.Standing.{HoldsKept, StandsFor}
 use Rattle.nb_top.proofs.MergeTurns.{MergeTurn, refuses, merges, merged_turn, done_turn, merged_account, refused_merge, refused_turn, turn_is}
 use Rattle.nb_top.proofs.Restored.{pages_said}
 use Rattle.nb_top.proofs.Turns.{served_as}
@@ -96,10 +64,6 @@ merged_kept : (account : Account) (db : List ℕ) (c : Contents) → account.kep
 unfolding account_after records_after records_of
 merged_kept account db c = sym (append-nil account.kept)
 
-applying_closed : (name bytes : List ℕ) (delta : File) → owner_in 3 name bytes delta ≡ Err Unfinished
-unfolding owner_in
-applying_closed name bytes delta = refl
-
 module _ (old : World) (account : Account) (db name : List ℕ) (stands : StandsFor old account) (plain : is_delta db ≡ false) (level_plain : is_delta name ≡ false)
     (takes : (bytes : List ℕ) (c : Contents) → IsMergeable old.files db name bytes c → TakesKept account.kept bytes c) where
   abbrev sound_job : OneTurn
@@ -121,13 +85,7 @@ module _ (old : World) (account : Account) (db name : List ℕ) (stands : Stands
     level : c ≡ d
 
   same_merge : (bytes other : List ℕ) (c d : Contents) → IsMergeable old.files db name bytes c → IsMergeable old.files db name other d → IsSame bytes other c d
-  same_merge bytes other c d m n = record { standby = some_same bytes other (old.files db) m.there n.there; level = ok_same c d (in_place old.files db name) m.accepted n.accepted }
-    where
-      some_same : (a b : List ℕ) (file : File) → file ≡ Some a → file ≡ Some b → a ≡ b
-      some_same a b file e f = cc
-
-      ok_same : (a b : Contents) (answer : Result Contents Refusal) → answer ≡ Ok a → answer ≡ Ok b → a ≡ b
-      ok_same a b answer e f = cc
+  same_merge bytes other c d m n = record { standby = some_same bytes other (sym m.there ∙ n.there); level = ok_same c d (in_place old.files db name) m.accepted n.accepted }
 
   -- the image of what was merged
   shown : (bytes : List ℕ) (c : Contents) (m : IsMergeable old.files db name bytes c) (files : Files) → sound_job.done files → ShowsIn db (base_of (as_standby (takes bytes c m).backup.image)) files
@@ -155,7 +113,7 @@ module _ (old : World) (account : Account) (db name : List ℕ) (stands : Stands
           let main : HoldsMain (image_in bytes) (Some bytes) = record { bytes = bytes; there = refl; formed = its.formed; normal = zero; is = refl } in
           ap (λ (e : Entry). (base_in e).image) (opened_entry db (Some bytes) beside bytes (base_of (image_in bytes)) refl (owner_main db (image_in bytes) (Some bytes) beside main))
       by (begun three same) =
-          ap (λ (e : Entry). (base_in e).image) (closed_entry db bytes beside Unfinished (owner-formed db bytes beside its.formed ∙ ap (λ (n : ℕ). owner_in n db bytes beside) three ∙ applying_closed db bytes beside))
+          ap (λ (e : Entry). (base_in e).image) (closed_entry db bytes beside Unfinished (owner-formed db bytes beside its.formed ∙ ap (λ (n : ℕ). owner_in n db bytes beside) three ∙ owner_applying db bytes beside))
 
   -- it isn't refused
   module _ (bytes : List ℕ) (c : Contents) (m : IsMergeable old.files db name bytes c) (same : apply_turn old.files db name ≡ merged_turn bytes c) where

@@ -1,15 +1,7 @@
 -- What was seen of a database stays well where more records are kept.
 use Rattle.std.proofs.Common.{◌≡◌, ℕ, List, ◌++◌, take, drop, sym, ap, subst, ◌∙◌, take-append-drop}
-use Rattle.nb_model.specs.Account.{Kept, Base}
-use Rattle.nb_model.specs.Image.{image_guid}
-use Rattle.nb_model.specs.Stands.{GoesOn}
-use Rattle.nb_model.specs.Steps.{Step, after_steps, strokes_in}
-use Rattle.nb_model.specs.Strokes.{records_after}
-use Rattle.nb_model.specs.Trail.{Trail}
-use Rattle.nb_model.specs.Well.{IsWellBaseIn}
-use Rattle.nb_model.specs.WellTrail.{AllGoOn, IsWellTrail}
+use Rattle.nb_top.proofs.Common.{Kept, Base, image_guid, GoesOn, Step, after_steps, strokes_in, records_after, Trail, IsWellBaseIn, AllGoOn, IsWellTrail, WellAlong, along_front, along_last, kept_along, kept_append, kept_is}
 use Rattle.nb_model.proofs.PastLaws.{kept_more, past_more}
-use Rattle.nb_model.proofs.SteadyLaws.{WellAlong, along_front, along_last, kept_along, kept_append, kept_is}
 
 module _ (kept more : List Kept) where
   base_more : (b : Base) → IsWellBaseIn kept b → IsWellBaseIn (kept ++ more) b

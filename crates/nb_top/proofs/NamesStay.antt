@@ -1,37 +1,8 @@
 -- Files keep names that a host may give them.
-use Rattle.std.proofs.Common.{◌≡◌, ◌⊎◌, inl, inr, ℕ, ◌+◌, ◌-◌, suc, List, [], ◌∷◌, ◌++◌, length, get_or, refl, sym, ap, subst, ◌∙◌, arith, length-append, true, false}
-use Rattle.std.specs.Prelude.{Bool, ◌&&◌, Option, None, Some, Result, Ok, Err, nat_le, nat_lt}
-use Rattle.std.specs.List.{AllByRecursion, list_all}
-use Rattle.std.proofs.lemmas.Bool.{and_from, and_parts, le-leb, leb-true, lt-ltb, true≢false}
-use Rattle.nb_host.specs.Files.{Files}
-use Rattle.nb_host.specs.Names.{delta_suffix, is_name, is_name_byte}
-use Rattle.nb_host.specs.World.{World}
-use Rattle.nb_host.specs.Crash.{Leaves}
-use Rattle.nb_host.specs.Moments.{AtEachMoment}
-use Rattle.nb_host.specs.declared.refusals.Refusal.{Refusal}
-use Rattle.nb_host.specs.declared.refusals.Refusal.TheVariants.{Usage}
-use Rattle.nb_change.specs.Changes.{Names, Other}
-use Rattle.nb_change.proofs.MomentLaws.{weaker}
-use Rattle.nb_model.specs.declared.job.Job.{Job}
-use Rattle.nb_model.specs.declared.job.Job.TheVariants.{Run, Gen, Attach, Turn, Plan as PlanOf}
-use Rattle.nb_model.specs.declared.statement.Statement.{Statement}
-use Rattle.nb_model.specs.declared.statement.Statement.TheVariants.{Backup as BackupTo, BackupSince as BackupOf, CopyTo}
-use Rattle.nb_model.specs.Generated.{generated}
-use Rattle.nb_model.specs.Owner.{delta_name}
-use Rattle.nb_model.specs.Words.{is_file, job_of}
-use Rattle.nb_base.specs.Open.{OfFiles}
-use Rattle.nb_catalog.specs.Turns.{names_in}
-use Rattle.nb_gen.specs.Texts.{generated_first}
-use Rattle.nb_script.specs.Asked.{IsAskable, IsFurther}
-use Rattle.nb_script.specs.Fits.{FitsFirst}
-use Rattle.nb_script.specs.Scripts.{Plan, script_of}
-use Rattle.nb_script.proofs.AskedLaws.{answer_is_askable}
-use Rattle.nb_session.specs.MadeNames.{AnyAsks, AnySessionAsks, Asks, ScriptMakes}
-use Rattle.nb_top.specs.declared.status.Status.{Status}
-use Rattle.nb_top.specs.Performed.{target_named}
-use Rattle.nb_top.specs.Requests.{Asked, FitsJob, Runs, request_asked, request_of, script_in, to_plan, to_run}
-use Rattle.nb_top.specs.Touched.{OfAsked, OfTarget, ReadMakes, TouchesOnly}
-use Rattle.nb_top.specs.Worlds.{HaveNames, LeaveNames, StartsFrom}
+use Rattle.std.proofs.Common.{◌≡◌, ◌⊎◌, inl, inr, ℕ, ◌+◌, ◌-◌, suc, List, [], ◌∷◌, ◌++◌, length, get_or, refl, sym, ap, subst, ◌∙◌, arith, length-append, true, false, Bool, ◌&&◌, Option, None, Some, Result, Ok, Err, nat_le, nat_lt}
+use Rattle.nb_top.proofs.Common.{AllByRecursion, list_all, and_from, and_parts, le-leb, leb-true, lt-ltb, true≢false, Files, delta_suffix, is_name, is_name_byte, World, Leaves, AtEachMoment, Refusal, Usage, Names, Other, weaker, Job, Run, Gen, Attach, Turn, Statement, CopyTo, generated, delta_name, is_file, job_of, OfFiles, names_in, generated_first, IsAskable, IsFurther, FitsFirst, Plan, script_of, answer_is_askable, AnyAsks, AnySessionAsks, Asks, ScriptMakes, Status, target_named, Asked, FitsJob, Runs, request_asked, request_of, script_in, to_plan, to_run, OfAsked, OfTarget, ReadMakes, TouchesOnly, HaveNames, LeaveNames, StartsFrom}
+use Rattle.nb_model.specs.declared.job.Job.TheVariants.{Plan as PlanOf}
+use Rattle.nb_model.specs.declared.statement.Statement.TheVariants.{Backup as BackupTo, BackupSince as BackupOf}
 use Rattle.nb_top.proofs.Deeds.{sound_deed}
 use Rattle.nb_top.proofs.FirstReady.{base_name, named_further}
 use Rattle.nb_top.proofs.RequestLaws.{askable_in, attach_askable}

@@ -1,18 +1,6 @@
 -- The next run may begin after one, however it ended.
-use Rattle.std.proofs.Common.{◌≡◌, List, take, sym, subst}
-use Rattle.std.specs.Prelude.{Option, None, Some, Result, Contains, false}
-use Rattle.std.proofs.lemmas.List.Elements.{Contains-append_left}
-use Rattle.nb_host.specs.World.{World}
-use Rattle.nb_host.specs.declared.refusals.Refusal.{Refusal}
-use Rattle.nb_model.specs.Account.{Kept, Account}
-use Rattle.nb_model.specs.Outcomes.{Given}
-use Rattle.nb_model.specs.Steps.{Step, steps_of, strokes_in}
-use Rattle.nb_model.specs.Strokes.{base_in, records_after}
-use Rattle.nb_top.specs.declared.status.Status.{Status}
-use Rattle.nb_top.specs.OneTurn.{DoesTurn, OneTurn, leaves_all}
-use Rattle.nb_top.specs.Performed.{IsSure, PerformsRun, Target, kept_after, target_of}
-use Rattle.nb_top.specs.Requests.{Request}
-use Rattle.nb_top.specs.Standing.{NextMayBegin, StandsFor}
+use Rattle.std.proofs.Common.{◌≡◌, List, take, sym, subst, Option, None, Some, Result, Contains, false}
+use Rattle.nb_top.proofs.Common.{Contains-append_left, World, Refusal, Kept, Account, Given, Step, steps_of, strokes_in, base_in, records_after, Status, DoesTurn, OneTurn, leaves_all, IsSure, PerformsRun, Target, kept_after, target_of, Request, NextMayBegin, StandsFor}
 
 -- no record of before is lost
 still_kept : (account : Account) (target : Option Target) (steps : List Step) (r : Kept) → Contains account.kept r → Contains (kept_after account target steps) r

@@ -1,18 +1,7 @@
 -- Why a database isn't opened: what the call tells, and what the run must say.
-use Rattle.std.proofs.Common.{◌≡◌, ◌≢◌, ℕ, zero, suc, List, true, false, refl, sym, ap, ◌∙◌}
-use Rattle.std.specs.Prelude.{Bool, ◌==◌, None, Some, Result, Ok, Err}
-use Rattle.nb_fields.specs.Header.{size_of, state_of}
+use Rattle.std.proofs.Common.{◌≡◌, ◌≢◌, ℕ, zero, suc, List, true, false, refl, sym, ap, ◌∙◌, Bool, ◌==◌, None, Some, Result, Ok, Err}
+use Rattle.nb_top.proofs.Common.{size_of, state_of, File, Files, Refusal, BadDelta, Unfinished, Usage, Base, IsBase, Cause, not_database, delta_name, diverted_base, owner, owner_with, owner_in, entry_of_files, entry_in, not_opened, ShowsIn, owner-formed, owner-refused, opened_entry, other_database}
 use Rattle.nb_fields.specs.Table.{table_of}
-use Rattle.nb_host.specs.Files.{File, Files}
-use Rattle.nb_host.specs.declared.refusals.Refusal.{Refusal}
-use Rattle.nb_host.specs.declared.refusals.Refusal.TheVariants.{BadDelta, Unfinished, Usage}
-use Rattle.nb_model.specs.Account.{Base, IsBase}
-use Rattle.nb_model.specs.Causes.{Cause, not_database}
-use Rattle.nb_model.specs.Owner.{delta_name, diverted_base, owner, owner_with, owner_in, entry_of_files, entry_in, not_opened}
-use Rattle.nb_model.specs.Trail.{ShowsIn}
-use Rattle.nb_model.proofs.MainLaws.{owner-formed, owner-refused}
-use Rattle.nb_model.proofs.StandsLaws.{opened_entry}
-use Rattle.nb_model.proofs.UsageCauses.{other_database}
 
 -- no database is shown where there is no file
 pub none_shown : (name : List ℕ) (d : File) (b : Base) → owner name None d ≡ Ok b → ⊥

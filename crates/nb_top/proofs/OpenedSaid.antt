@@ -1,48 +1,17 @@
 -- The first reply of a run is said, if it says one, and then turns are taken.
-use Rattle.std.proofs.Common.{◌≡◌, ℕ, List, [], ◌∷◌, ◌++◌, Bool, false, length, take, refl, sym, ap, subst, ◌∙◌, arith}
-use Rattle.std.specs.Prelude.{None, Result, Ok, Err, IfOk}
-use Rattle.std.specs.Result.{IsErr}
-use Rattle.std.proofs.lemmas.List.{take_all}
-use Rattle.nb_host.specs.Files.{Files}
-use Rattle.nb_host.specs.World.{World}
+use Rattle.std.proofs.Common.{◌≡◌, ℕ, List, [], ◌∷◌, ◌++◌, Bool, false, length, take, refl, sym, ap, subst, ◌∙◌, arith, None, Result, Ok, Err, IfOk}
+use Rattle.nb_top.proofs.Common.{IsErr, take_all, Files, World, RunError, weaker, untouched_fewer, is_free_name, Base, IsMaking, MadeFile, NamesOnce, output, status_of, guids_in, Event, Now, Played, base_now, begun, replies_of, files_made, rounds, strokes_of, after_steps, steps_in, steps_of, acked_turns, Trail, StandsIn, settled, made_once, steps_one, acked_steps_most, Held, name_of, IsAskable, Plan, IsReady, FrontSaid, SaysLine, StopLeft, PlayedOut, Plays, given_nothing, AreApart, Telling, PlaysOpened, PlaysTold, played_behind, told_turns, take_self, no_err}
 use Rattle.nb_host.specs.Calls.{IsStill}
-use Rattle.nb_host.specs.declared.faults.RunError.{RunError}
-use Rattle.nb_change.proofs.MomentLaws.{weaker, untouched_fewer}
-use Rattle.nb_page.specs.Free.{is_free_name}
-use Rattle.nb_model.specs.Account.{Base}
-use Rattle.nb_model.specs.Going.{IsMaking}
-use Rattle.nb_model.specs.Making.{MadeFile, NamesOnce}
-use Rattle.nb_model.specs.Output.{output, status_of}
-use Rattle.nb_model.specs.NewGuids.{guids_in}
-use Rattle.nb_model.specs.Run.{Event, Now, Played, base_now, begun, replies_of, files_made, rounds, strokes_of}
-use Rattle.nb_model.specs.Steps.{after_steps, steps_in, steps_of, acked_turns}
-use Rattle.nb_model.specs.Trail.{Trail, StandsIn, settled}
-use Rattle.nb_model.proofs.MakingLaws.{made_once}
-use Rattle.nb_model.proofs.StepsLaws.{steps_one, acked_steps_most}
-use Rattle.nb_state.specs.Open.{Held, name_of}
 use Rattle.nb_state.proofs.MakesLaws.{still_open}
-use Rattle.nb_script.specs.Asked.{IsAskable}
-use Rattle.nb_script.specs.Scripts.{Plan}
-use Rattle.nb_session.specs.Ready.{IsReady}
-use Rattle.nb_session.specs.Says.{FrontSaid, SaysLine}
-use Rattle.nb_session.specs.Stops.{StopLeft, PlayedOut, Plays}
-use Rattle.nb_session.proofs.GiftLaws.{given_nothing}
 use Rattle.nb_session.proofs.PlayLaws.{plays_then, plays_failed, plays_cut, plays_wider}
-use Rattle.nb_session.proofs.StopLaws.{AreApart}
 use Rattle.nb_session.proofs.EndLaws.{HasEnd, turns_end}
-use Rattle.nb_top.specs.declared.telling.Telling.{Telling}
-use Rattle.nb_top.specs.Performed.{PlaysOpened, PlaysTold, played_behind, told_turns}
 use Rattle.nb_top.proofs.FirstLaws.{turns}
 use Rattle.nb_top.proofs.FirstReady.{apart_play}
 use Rattle.nb_top.proofs.MadeRuns.{no_file, none_front, none_made}
-use Rattle.nb_top.proofs.RefusedRuns.{take_self}
 
 -- a result that is a failure
 pub opened_err : (result : Result Bool RunError) (P : Result Bool RunError → Type 0) → IsErr result → ((e : RunError) → P (Err e)) → P result
-opened_err (Ok x) P is plays = absurd (no_err is)
-  where
-    no_err : IsErr {T = Bool} {E = RunError} (Ok x) → ⊥
-    no_err h = cc
+opened_err (Ok x) P is plays = absurd (no_err Bool RunError x is)
 opened_err (Err e) P is plays = plays e
 
 -- what stands ready stays so while something is said

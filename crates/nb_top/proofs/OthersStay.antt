@@ -1,49 +1,15 @@
 -- A run leaves other files alone, whatever stands in the files, and says what it refuses.
-use Rattle.std.proofs.Common.{◌≡◌, ◌≢◌, inl, inr, ℕ, List, [], ◌∷◌, ◌++◌, max, refl, sym, ap, subst, ◌∙◌, append_assoc}
-use Rattle.std.specs.Prelude.{Bool, true, false, IsTrue, Option, None, Some, Result, Ok, Err, Contains}
-use Rattle.std.proofs.lemmas.Bool.{true≢false}
-use Rattle.nb_host.specs.Files.{File, Files, with_file}
-use Rattle.nb_host.specs.World.{World}
-use Rattle.nb_host.specs.Crash.{Leaves, LeavesAll}
-use Rattle.nb_host.specs.Moments.{AtEachMoment, IsTimely}
-use Rattle.nb_host.specs.declared.refusals.Refusal.{Refusal}
-use Rattle.nb_change.specs.Changes.{Names, Other}
-use Rattle.nb_change.proofs.MomentLaws.{weaker}
-use Rattle.nb_change.proofs.NameLaws.{decide, with_file-other, with_file-same}
-use Rattle.nb_model.specs.declared.job.Deed.{Deed}
-use Rattle.nb_model.specs.declared.reply.Reply.{Reply}
+use Rattle.std.proofs.Common.{◌≡◌, ◌≢◌, inl, inr, ℕ, List, [], ◌∷◌, ◌++◌, max, refl, sym, ap, subst, ◌∙◌, append_assoc, Bool, true, false, IsTrue, Option, None, Some, Result, Ok, Err, Contains}
+use Rattle.nb_top.proofs.Common.{true≢false, File, Files, with_file, World, Leaves, LeavesAll, AtEachMoment, IsTimely, Refusal, Names, Other, weaker, decide, with_file-other, with_file-same, Deed, Reply, Statement, CreateDb, OpenDb, Account, Plain, with_entry, Cause, not_free, generated, Foretells, line_text, MadeFile, IsNoneOf, Given, output, status_after, status_of, text_of, not_opened, Event, IsRest, Now, Opening, Played, begun, done_opening, files_made, opening, opening_unless, replies_of, rounds, Stroke, Plan, script_of, ScriptMakes, OthersLeft, foretold_itself, begun_asked, made_named, Status, Telling, Sparingly, number_of, DoesTurn, OfName, one_turn, IsPerformed, IsReadRun, IsScriptRun, IsUnasked, IsWrittenRun, Performs, PerformsRun, Target, begins_refused, first_event, refused_at, run_in, script_made, target_asked, target_of, Asked, Does, Request, Runs, ToGenerate, ToRun, request_asked, AsksToMake, MayTouch, OfAsked, OfTarget, ReadMakes, SaysRefusal, TouchesOnly, ends_refused}
 use Rattle.nb_model.specs.declared.reply.Reply.TheVariants.{Refused as RefusedReply}
-use Rattle.nb_model.specs.declared.statement.Statement.{Statement}
-use Rattle.nb_model.specs.declared.statement.Statement.TheVariants.{CreateDb, OpenDb}
-use Rattle.nb_model.specs.Account.{Account, Plain, with_entry}
-use Rattle.nb_model.specs.Causes.{Cause, not_free}
-use Rattle.nb_model.specs.Generated.{generated}
-use Rattle.nb_model.specs.Gifts.{Foretells}
-use Rattle.nb_model.specs.Lines.{line_text}
-use Rattle.nb_model.specs.Making.{MadeFile, IsNoneOf}
-use Rattle.nb_model.specs.Outcomes.{Given, Turn}
-use Rattle.nb_model.specs.Output.{output, status_after, status_of, text_of}
-use Rattle.nb_model.specs.Owner.{not_opened}
-use Rattle.nb_model.specs.Run.{Event, IsRest, IsRun as IsWholeRun, Now, Opening, Played, begun, done_opening, files_made, opening, opening_unless, replies_of, rounds}
-use Rattle.nb_model.specs.Strokes.{Stroke}
-use Rattle.nb_script.specs.Scripts.{Plan, script_of}
-use Rattle.nb_session.specs.MadeNames.{ScriptMakes}
-use Rattle.nb_session.specs.Others.{OthersLeft}
-use Rattle.nb_session.proofs.GiftLaws.{foretold_itself}
-use Rattle.nb_session.proofs.NameLaws.{begun_asked, made_named}
-use Rattle.nb_top.specs.declared.status.Status.{Status}
+use Rattle.nb_model.specs.Outcomes.{Turn}
+use Rattle.nb_model.specs.Run.{IsRun as IsWholeRun}
 use Rattle.nb_top.specs.declared.status.Status.TheVariants.{Refused as RefusedStatus, Usage as UsageStatus, Device, Memory}
-use Rattle.nb_top.specs.declared.telling.Telling.{Telling}
-use Rattle.nb_top.specs.declared.telling.Telling.TheVariants.{Sparingly}
 use Rattle.nb_top.specs.Goes.{IsRun}
-use Rattle.nb_top.specs.Numbers.{number_of}
-use Rattle.nb_top.specs.OneTurn.{DoesTurn, OfName, one_turn}
-use Rattle.nb_top.specs.Performed.{IsPerformed, IsReadRun, IsScriptRun, IsUnasked, IsWrittenRun, Performs, PerformsRun, Target, begins_refused, first_event, refused_at, run_in, script_made, target_asked, target_of}
-use Rattle.nb_top.specs.Requests.{Asked, Does, Request, Runs, ToGenerate, ToRun, request_asked}
-use Rattle.nb_top.specs.Touched.{AsksToMake, MayTouch, OfAsked, OfTarget, ReadMakes, SaysRefusal, TouchesOnly, ends_refused}
 use Rattle.nb_top.proofs.KnownLaws.{account_told, told_known}
-use Rattle.nb_top.proofs.MadeRuns.{first_or, made_behind, no_file, none_made}
+use Rattle.nb_top.proofs.MadeRuns.{first_or, made_behind, none_made}
 use Rattle.nb_top.proofs.ToldLaws.{told_files}
+use Rattle.nb_session.proofs.EventLaws.{made_none}
 
 -- ---- the files that a run makes
 
@@ -68,17 +34,13 @@ module _ (account : Account) (given : Given) (sessions : List (List Statement)) 
   opening_so (OpenDb name cache) = unless_so name cache _ _ (not_opened name (account.entry name))
   opening_so other = record { none = refl; todo = λ now is. ap (todo_or sessions) (sym is) }
 
-none_in : (f : MadeFile) → Contains (files_made []) f → ⊥
-unfolding files_made
-none_in f there = no_file f there
-
 module _ (plan : Plan) (account : Account) (given : Given) (last : Account) (left : Given) where
   -- after it turns make the files that statements ask for
   rest_makes : (o : Opening) → BeginsSo plan.sessions o → (rest : List Event) → IsRest plan.schedule o given rest last left → (f : MadeFile) → Contains (files_made rest) f → ScriptMakes plan f.0
   rest_makes o so rest goes f there = by o.now refl goes
     where
       by : (n : Option Now) → o.now ≡ n → IsRest plan.schedule (record { event = o.event; account = o.account; now = n }) given rest last left → ScriptMakes plan f.0
-      by None is on = absurd (none_in f (subst (λ (es : List Event). Contains (files_made es) f) on.0 there))
+      by None is on = absurd (made_none f (subst (λ (es : List Event). Contains (files_made es) f) on.0 there))
       by (Some now) is on =
           made_named (ScriptMakes plan) (plan.schedule ++ rounds on.1.how_often) now (begun_asked plan now (so.todo now is)) f
           (subst (λ (es : List Event). Contains (files_made es) f) (sym (ap (λ (p : Played). p.0) on.1.is)) there)

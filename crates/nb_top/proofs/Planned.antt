@@ -1,24 +1,6 @@
 -- The job of a plan: its call serves it, and it leaves all as it stands.
-use Rattle.std.proofs.Common.{true≢false, ◌≡◌, inl, ℕ, List, [], true, refl, sym, ap, subst, ◌∙◌}
-use Rattle.std.specs.Prelude.{Option, Some, None, Result, Ok, Err}
-use Rattle.nb_host.specs.Files.{Files}
-use Rattle.nb_host.specs.World.{World}
-use Rattle.nb_host.specs.declared.faults.Fault.{Fault}
-use Rattle.nb_host.specs.declared.faults.Fault.TheVariants.{Refused, Device, Memory}
-use Rattle.nb_host.specs.declared.refusals.Refusal.{Refusal}
-use Rattle.nb_change.specs.Changes.{NoNames}
-use Rattle.nb_change.proofs.ChangesLaws.{rested}
-use Rattle.nb_page.specs.Quiet.{Quiet}
-use Rattle.nb_model.specs.declared.reply.Reply.{Reply}
-use Rattle.nb_model.specs.Account.{Account}
-use Rattle.nb_model.specs.Jobs.{only_refusal, only_turn}
-use Rattle.nb_model.specs.Output.{status_after}
-use Rattle.nb_model.specs.Run.{Event}
-use Rattle.nb_catalog.specs.Answers.{Says}
-use Rattle.nb_catalog.specs.Plans.{Retention}
-use Rattle.nb_catalog.specs.Turns.{plan_reply, plan_turn, planned}
-use Rattle.nb_top.specs.OneTurn.{OneTurn, leaves_all, planning}
-use Rattle.nb_top.specs.Served.{ServedAs, Serves}
+use Rattle.std.proofs.Common.{true≢false, ◌≡◌, inl, ℕ, List, [], true, refl, sym, ap, subst, ◌∙◌, Some, Result, Ok, Err}
+use Rattle.nb_top.proofs.Common.{Files, World, Fault, Refused, Device, Memory, Refusal, NoNames, rested, Quiet, Reply, Account, only_refusal, only_turn, status_after, Event, Says, Retention, plan_reply, plan_turn, planned, OneTurn, leaves_all, planning, ServedAs, Serves, none_some}
 use Rattle.nb_top.proofs.ChainRefusals.{refused_plan}
 use Rattle.nb_top.proofs.Turns.{served_as}
 use Rattle.nb_top.proofs.TurnsStand.{IsSoundJob}
@@ -83,9 +65,6 @@ module _ (old mid : World) (keep : ℕ) (names : List (List ℕ)) (quiet : Quiet
 -- There is no file that it could change.
 pub plan_sound : (old : World) (account : Account) (keep : ℕ) (names : List (List ℕ)) → IsSoundJob old account (planning old.files keep names)
 plan_sound old account keep names = record {
-  plain = λ name is. absurd (none_named name is);
+  plain = λ name is. absurd (none_some name is);
   done = λ some. absurd (true≢false (sym (plan_idle old.files keep names) ∙ some));
 }
-  where
-    none_named : (name : List ℕ) → ◌≡◌ {A = Option (List ℕ)} None (Some name) → ⊥
-    none_named name h = cc

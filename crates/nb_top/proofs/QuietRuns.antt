@@ -1,35 +1,12 @@
 -- A run that begins with calls that change nothing.
-use Rattle.std.proofs.Common.{inl, inr, ⊎_elim, ℕ, List, [], ◌++◌, sym, ap, subst, ◌∙◌, refl}
-use Rattle.std.specs.Prelude.{Result, Ok, Err, IfOk, Option}
-use Rattle.nb_host.specs.Files.{Files}
-use Rattle.nb_host.specs.World.{World}
-use Rattle.nb_host.specs.Moments.{AtEachMoment}
-use Rattle.nb_host.specs.declared.refusals.Refusal.{Refusal}
-use Rattle.nb_host.specs.declared.faults.RunError.{RunError}
-use Rattle.nb_change.specs.Gave.{GaveNothing}
-use Rattle.nb_change.proofs.MomentLaws.{joined, weaker}
-use Rattle.nb_page.specs.Quiet.{Quiet}
-use Rattle.nb_page.proofs.QuietLaws.{quiet_joined}
-use Rattle.nb_model.specs.Account.{Account}
-use Rattle.nb_model.specs.Gifts.{Foretells, WasGiven}
-use Rattle.nb_model.specs.NewGuids.{guids_in}
-use Rattle.nb_model.specs.Outcomes.{Given}
-use Rattle.nb_model.specs.Output.{output}
-use Rattle.nb_model.specs.Run.{Event, strokes_of}
-use Rattle.nb_session.proofs.GiftLaws.{given_nothing, given_joined}
-use Rattle.nb_top.specs.declared.status.Status.{Status}
-use Rattle.nb_top.specs.Performed.{RunLeft, RunsTo, Finished, IsPerformed, IsUndone, Knows, Target, target_of}
-use Rattle.nb_top.specs.Requests.{Request}
+use Rattle.std.proofs.Common.{inl, inr, ⊎_elim, ℕ, List, [], ◌++◌, sym, ap, subst, ◌∙◌, refl, Result, Ok, Err, IfOk, Option}
+use Rattle.nb_top.proofs.Common.{Files, World, AtEachMoment, Refusal, RunError, GaveNothing, joined, weaker, Quiet, quiet_joined, Account, Foretells, WasGiven, guids_in, Given, output, Event, strokes_of, given_nothing, given_joined, Status, RunLeft, RunsTo, Finished, IsPerformed, IsUndone, Knows, Target, target_of, Request, quiet_gave}
 use Rattle.nb_top.proofs.LeftLaws.{left_first, left_before_all}
 use Rattle.nb_top.proofs.ReadsLaws.{reads_quietly}
 
 -- nothing may be given
 abbrev pub no_given : Given
 no_given = record { guids = []; times = []; holds = [] }
-
--- nothing was given
-pub quiet_gave : (old mid : World) → Quiet old mid → GaveNothing old mid
-quiet_gave old mid quiet = record { guids = quiet.guids; times = quiet.times }
 
 -- what is foretold is foretold after calls that ask for nothing
 pub foretold_from : (old mid new : World) (given : Given) (shown : List ℕ) → GaveNothing old mid → Foretells given shown old new → Foretells given shown mid new

@@ -1,13 +1,6 @@
 -- What reads after a run.
-use Rattle.std.proofs.Common.{◌≡◌, inl, inr, ⊎_elim, ℕ, List, ap, ◌∙◌}
-use Rattle.std.specs.Prelude.{Option, None, Some}
-use Rattle.nb_host.specs.Files.{Files}
-use Rattle.nb_host.specs.World.{World}
-use Rattle.nb_page.specs.Quiet.{Quiet}
-use Rattle.nb_model.specs.Account.{Account}
-use Rattle.nb_model.specs.Owner.{delta_name}
-use Rattle.nb_model.specs.Run.{Event}
-use Rattle.nb_top.specs.Performed.{ReadsAsked, RunReads, Target}
+use Rattle.std.proofs.Common.{◌≡◌, inl, inr, ⊎_elim, ℕ, List, ap, ◌∙◌, Option, None, Some}
+use Rattle.nb_top.proofs.Common.{Files, World, Quiet, Account, delta_name, Event, ReadsAsked, RunReads, Target}
 
 -- Nothing happened, whatever the run must have been.
 module _ (old new : World) (quiet : Quiet old new) (account : Account) (target : Option Target) (events : List Event) where

@@ -1,36 +1,8 @@
 -- A run that is refused at once.
-use Rattle.std.proofs.Common.{◌≡◌, inl, ℕ, zero, suc, List, [], ◌∷◌, ◌++◌, length, take, refl, sym, ap, subst, ◌∙◌, arith}
-use Rattle.std.specs.Prelude.{Result, Ok, Err, IfOk, OnOk, Option, None}
-use Rattle.std.proofs.lemmas.List.{append-nil}
-use Rattle.nb_host.specs.Files.{Files}
-use Rattle.nb_host.specs.World.{World}
-use Rattle.nb_host.specs.Moments.{AtEachMoment}
-use Rattle.nb_host.specs.declared.refusals.Refusal.{Refusal}
-use Rattle.nb_host.specs.declared.faults.RunError.{RunError}
-use Rattle.nb_change.proofs.MomentLaws.{weaker}
+use Rattle.std.proofs.Common.{◌≡◌, inl, ℕ, List, [], ◌∷◌, ◌++◌, length, take, refl, sym, ap, subst, ◌∙◌, arith, Result, Ok, Err, IfOk, OnOk, Option, None}
+use Rattle.nb_top.proofs.Common.{append-nil, Files, World, AtEachMoment, Refusal, RunError, weaker, Account, line_text, Given, guids_in, Event, strokes_of, steps_of, acked_turns, status_after, output_one, status_one, acked_steps_most, FrontSaid, SaysLine, given_nothing, Status, number_of, RunLeft, RunReads, RunsTo, Finished, HasSmallScn, IsPerformed, Target, first_event, target_of, Request, ToRun, ToGenerate, take_self}
 use Rattle.nb_model.specs.declared.reply.Reply.TheVariants.{Refused}
-use Rattle.nb_model.specs.Account.{Account}
-use Rattle.nb_model.specs.Lines.{line_text}
-use Rattle.nb_model.specs.Outcomes.{Given}
-use Rattle.nb_model.specs.NewGuids.{guids_in}
-use Rattle.nb_model.specs.Run.{Event, strokes_of}
-use Rattle.nb_model.specs.Steps.{steps_of, acked_turns}
-use Rattle.nb_model.specs.Output.{status_after}
-use Rattle.nb_model.proofs.OutputLaws.{output_one, status_one}
-use Rattle.nb_model.proofs.StepsLaws.{acked_steps_most}
-use Rattle.nb_session.specs.Says.{FrontSaid, SaysLine}
-use Rattle.nb_session.proofs.GiftLaws.{given_nothing}
-use Rattle.nb_top.specs.declared.status.Status.{Status}
-use Rattle.nb_top.specs.Numbers.{number_of}
-use Rattle.nb_top.specs.Performed.{RunLeft, RunReads, RunsTo, Finished, HasSmallScn, IsPerformed, Target, first_event, target_of}
-use Rattle.nb_top.specs.Requests.{Request, ToRun, ToGenerate}
 use Rattle.nb_top.proofs.MadeRuns.{none_front, none_made}
-
--- what is taken of a list is a front of it
-pub take_self : (n : ℕ) (l : List ℕ) → take n l ≡ take (length (take n l)) l
-take_self zero l = refl
-take_self (suc n) [] = refl
-take_self (suc n) (x ∷ l) = ap (λ (k : List ℕ). x ∷ k) (take_self n l)
 
 module _ (old new : World) (session : ℕ) (refusal : Refusal) (account : Account) (given : Given) (asked : Result Request Refusal) where
   abbrev event : Event

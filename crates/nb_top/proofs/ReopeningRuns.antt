@@ -1,39 +1,8 @@
 -- A run whose first statement opens its database.
-use Rattle.std.proofs.Common.{◌≡◌, inl, inr, ℕ, ◌<◌, List, length, refl, sym, ap, subst, ◌∙◌}
-use Rattle.std.specs.Prelude.{false, None, Result, Ok, Err, IfOk}
-use Rattle.nb_host.specs.Files.{Files}
-use Rattle.nb_host.specs.Names.{is_delta}
-use Rattle.nb_host.specs.World.{World}
-use Rattle.nb_host.specs.declared.faults.Fault.{Fault}
-use Rattle.nb_host.specs.declared.faults.Fault.TheVariants.{Refused}
-use Rattle.nb_host.specs.declared.refusals.Refusal.{Refusal}
-use Rattle.nb_host.specs.declared.faults.RunError.{RunError}
-use Rattle.nb_change.specs.Changes.{Other}
-use Rattle.nb_change.proofs.MomentLaws.{untouched_fewer}
-use Rattle.nb_page.specs.Quiet.{Quiet}
+use Rattle.std.proofs.Common.{◌≡◌, inl, inr, ℕ, ◌<◌, List, length, refl, sym, ap, subst, ◌∙◌, false, None, Result, Ok, Err, IfOk}
+use Rattle.nb_top.proofs.Common.{Files, is_delta, World, Fault, Refused, Refusal, RunError, Other, untouched_fewer, Quiet, Statement, OpenDb, image_state, image_scn, Base, IsBase, Account, Given, delta_name, owner, not_opened, IsRun, Opening, base_now, opening, base_in, settled, run_ends, not_reopened, reopened, base_in_base, OfFiles, Attaches, IsAttached, Held, IsOpen, IsAskable, FitsFirst, Plan, cache_asked, KnowsNames, MayBeGiven, RunsTo, HoldsUnder, opened_reply, pages_first, refused_at, Telling, ToRun, quiet_gave}
 use Rattle.nb_model.specs.declared.reply.Reply.TheVariants.{Opened as OpenedReply, Refused as RefusedReply}
-use Rattle.nb_model.specs.declared.statement.Statement.{Statement}
-use Rattle.nb_model.specs.declared.statement.Statement.TheVariants.{OpenDb}
-use Rattle.nb_model.specs.Image.{image_state, image_scn}
-use Rattle.nb_model.specs.Account.{Base, IsBase, Account}
-use Rattle.nb_model.specs.Outcomes.{Given}
-use Rattle.nb_model.specs.Owner.{delta_name, owner, not_opened}
-use Rattle.nb_model.specs.Run.{IsRun, Opening, base_now, opening}
-use Rattle.nb_model.specs.Strokes.{base_in}
-use Rattle.nb_model.specs.Trail.{settled}
-use Rattle.nb_model.proofs.OpeningLaws.{run_ends}
-use Rattle.nb_model.proofs.ReopenLaws.{not_reopened, reopened}
-use Rattle.nb_model.proofs.RunLaws.{base_in_base}
-use Rattle.nb_base.specs.Open.{OfFiles}
-use Rattle.nb_state.specs.Beginnings.{Attaches, IsAttached}
-use Rattle.nb_state.specs.Open.{Held, IsOpen}
-use Rattle.nb_script.specs.Asked.{IsAskable}
-use Rattle.nb_script.specs.Fits.{FitsFirst}
-use Rattle.nb_script.specs.Scripts.{Plan}
-use Rattle.nb_top.specs.Performed.{cache_asked, KnowsNames, MayBeGiven, RunsTo, HoldsUnder, opened_reply, pages_first, refused_at}
-use Rattle.nb_top.specs.declared.telling.Telling.{Telling}
-use Rattle.nb_top.specs.Requests.{ToRun}
-use Rattle.nb_top.proofs.QuietRuns.{left_quietly, quiet_gave}
+use Rattle.nb_top.proofs.QuietRuns.{left_quietly}
 use Rattle.nb_top.proofs.ReadsLaws.{reads_quiet}
 use Rattle.nb_top.proofs.FirstLaws.{First, first_opened, opened_base}
 use Rattle.nb_top.proofs.FirstReady.{IsBehind, base_name, first_ready, opened_making}

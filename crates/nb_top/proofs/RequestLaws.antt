@@ -1,32 +1,8 @@
 -- What the words ask for can be asked.
-use Rattle.std.proofs.Common.{◌≡◌, ◌⊎◌, ⊎_elim, ℕ, zero, suc, ◌-◌, ◌≤◌, List, [], ◌∷◌, ◌++◌, length, get_or, true, false, refl, sym, ap, subst, arith}
-use Rattle.std.specs.Prelude.{Bool, ◌&&◌, not, nat_le, nat_lt, Option, Some, None, Result, Ok, Err, IfOk, IfErr, replicate, if◌then◌else◌}
-use Rattle.std.specs.List.{AllByRecursion}
-use Rattle.std.proofs.lemmas.Bool.{and_parts, le-leb}
-use Rattle.nb_host.specs.Files.{File, Files}
-use Rattle.nb_host.specs.Names.{is_name, is_delta}
-use Rattle.nb_host.specs.declared.faults.Fault.{Fault}
-use Rattle.nb_host.specs.declared.faults.Fault.TheVariants.{Refused, Device, Memory}
-use Rattle.nb_host.specs.declared.refusals.Refusal.{Refusal}
-use Rattle.nb_host.specs.declared.refusals.Refusal.TheVariants.{BadScript, ScriptLong, Usage}
-use Rattle.nb_model.specs.declared.job.Ask.{Ask}
-use Rattle.nb_model.specs.declared.job.Ask.TheVariants.{Stat, Backup, BackupSince}
-use Rattle.nb_model.specs.declared.job.Job.{Job}
-use Rattle.nb_model.specs.declared.job.Job.TheVariants.{Run, Gen, Attach, Turn, Plan as PlanOf}
-use Rattle.nb_model.specs.declared.statement.Statement.{Statement}
-use Rattle.nb_model.specs.Jobs.{asks_of}
-use Rattle.nb_model.proofs.GoingLaws.{name_short}
-use Rattle.nb_model.specs.Words.{Word, is_database, is_file, job_of}
-use Rattle.nb_catalog.specs.Answers.{with_first}
-use Rattle.nb_catalog.specs.NameLists.{is_next, list_of, names_on, some_names_on}
-use Rattle.nb_catalog.specs.Turns.{names_in}
-use Rattle.nb_script.specs.Asked.{IsFurther, IsAskable}
-use Rattle.nb_script.specs.Fits.{IsBase, IsFile}
-use Rattle.nb_script.specs.Lines.{left, lines_of}
-use Rattle.nb_script.specs.Scripts.{Plan, Numbered, script_of}
-use Rattle.nb_script.proofs.AskedLaws.{answer_is_askable}
-use Rattle.nb_top.specs.OneTurn.{FitsDeed}
-use Rattle.nb_top.specs.Requests.{IsAskedBy, IsReadJob, Request, ToRun, ToGenerate, Asked, Runs, Does, FitsAsk, FitsJob, script_in, to_plan, to_run, plan_of, request_of, request_asked}
+use Rattle.std.proofs.Common.{◌≡◌, ◌⊎◌, ⊎_elim, ℕ, zero, suc, ◌-◌, ◌≤◌, List, [], ◌∷◌, ◌++◌, length, get_or, true, false, refl, sym, ap, subst, arith, Bool, ◌&&◌, not, nat_le, nat_lt, Option, Some, None, Result, Ok, Err, IfOk, IfErr, replicate, if◌then◌else◌}
+use Rattle.nb_top.proofs.Common.{AllByRecursion, and_parts, le-leb, File, Files, is_name, is_delta, Fault, Refused, Device, Memory, Refusal, BadScript, ScriptLong, Usage, Ask, Stat, Backup, BackupSince, Job, Run, Gen, Attach, Turn, Statement, asks_of, name_short, Word, is_database, is_file, job_of, with_first, is_next, list_of, names_on, some_names_on, names_in, IsFurther, IsAskable, IsFile, left, lines_of, Plan, Numbered, script_of, answer_is_askable, FitsDeed, IsAskedBy, IsReadJob, Request, ToRun, ToGenerate, Asked, Runs, Does, FitsAsk, FitsJob, script_in, to_plan, to_run, plan_of, request_of, request_asked, device_memory, err_ok}
+use Rattle.nb_model.specs.declared.job.Job.TheVariants.{Plan as PlanOf}
+use Rattle.nb_script.specs.Fits.{IsBase}
 use Rattle.nb_top.proofs.WordNames.{plain_file}
 use Rattle.nb_top.proofs.WordsFit.{fits_words}
 
@@ -105,11 +81,8 @@ pub attach_askable : (db : List ℕ) (ask : Ask) → is_database db ≡ true →
 attach_askable db ask is fits = plan_askable db (asks_of ask) is (further_asked ask fits) (few_asked ask)
 
 -- A script that a file spells can be asked.
-err_ok : (refusal : Refusal) (plan : Plan) → Err refusal ≡ Ok plan → ⊥
-err_ok refusal plan h = cc
-
 pub askable_in : (name : List ℕ) (file : File) (plan : Plan) → script_in name file ≡ Ok plan → IsAskable plan
-askable_in name None plan is = absurd (err_ok _ plan is)
+askable_in name None plan is = absurd (err_ok {E = Refusal} _ plan is)
 askable_in name (Some bytes) plan is = answer_is_askable bytes (Ok plan) is
 
 -- and so can one that some bytes spell
@@ -202,11 +175,8 @@ pub read_fits : (words : List Word) (read : Result Job Fault) → IfOk read (λ 
 read_fits words (Ok job) is none = fits_words words job is
 read_fits words (Err (Refused refusal)) is none = tt
 read_fits words (Err Memory) is none = tt
-read_fits words (Err Device) is none = ⊎_elim (λ memory. other memory) (λ usage. refused usage.0) none
+read_fits words (Err Device) is none = ⊎_elim (λ memory. device_memory memory) (λ usage. refused usage.0) none
   where
-    other : Device ≡ Memory → ⊥
-    other h = cc
-
     refused : Device ≡ Refused Usage → ⊥
     refused h = cc
 

@@ -1,16 +1,6 @@
 -- The one turn of a restore: what it must be, and what stands after it.
-use Rattle.std.proofs.Common.{◌≡◌, ◌≢◌, ℕ, List, [], ◌∷◌, length, true, false, refl}
-use Rattle.std.specs.Prelude.{None, Ok, Err}
-use Rattle.nb_host.specs.Files.{Files}
-use Rattle.nb_host.specs.declared.refusals.Refusal.{Refusal}
-use Rattle.nb_host.specs.declared.refusals.Refusal.TheVariants.{FileExists, Usage}
-use Rattle.nb_model.specs.declared.reply.Reply.TheVariants.{Pages}
-use Rattle.nb_model.specs.Account.{Account}
-use Rattle.nb_model.specs.Causes.{is_free_entry}
-use Rattle.nb_model.specs.Jobs.{only_turn, only_refusal, restore_turn, account_behind}
-use Rattle.nb_model.specs.Restoring.{Link, verdict, applied}
-use Rattle.nb_model.specs.Run.{Event, account_after, with_made}
-use Rattle.nb_model.specs.Strokes.{make, fixed}
+use Rattle.std.proofs.Common.{◌≡◌, ◌≢◌, ℕ, List, [], ◌∷◌, length, true, false, refl, None, Ok, Err}
+use Rattle.nb_top.proofs.Common.{Files, Refusal, FileExists, Usage, Pages, Account, is_free_entry, only_turn, only_refusal, restore_turn, account_behind, Link, verdict, applied, Event, account_after, with_made, make, fixed}
 use Rattle.nb_top.proofs.ChainRefusals.{refused_chain}
 use Rattle.nb_top.proofs.TargetTurns.{IsRefused, TargetTurn, target_refused, target_turn, never_usage}
 

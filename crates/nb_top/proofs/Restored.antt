@@ -1,43 +1,9 @@
 -- The job of a restore: its call serves it, and it keeps what stands.
-use Rattle.std.proofs.Common.{true≢false, ◌≡◌, ◌≢◌, ◌⊎◌, inl, inr, ⊎_elim, ℕ, ◌≤◌, List, [], ◌∷◌, length, true, false, refl, sym, ap, subst, ◌∙◌, arith}
-use Rattle.std.specs.Prelude.{not, is_some, Some, None, Result, Ok, Err}
-use Rattle.std.specs.List.{AllByRecursion}
-use Rattle.std.proofs.lemmas.Bool.{and_parts}
-use Rattle.std.proofs.lemmas.List.{append-nil}
-use Rattle.nb_fields.specs.Free.{is_free_file}
-use Rattle.nb_host.specs.Files.{File, Files}
-use Rattle.nb_host.specs.Names.{is_delta}
-use Rattle.nb_host.specs.World.{World}
-use Rattle.nb_host.specs.Crash.{Leaves, LeavesAll}
-use Rattle.nb_host.specs.declared.faults.Fault.{Fault}
-use Rattle.nb_host.specs.declared.faults.Fault.TheVariants.{Refused, Device, Memory}
-use Rattle.nb_host.specs.declared.refusals.Refusal.{Refusal}
-use Rattle.nb_change.specs.Changes.{Only}
-use Rattle.nb_change.proofs.ChangesLaws.{weaker_has}
-use Rattle.nb_page.specs.Free.{is_free_name}
-use Rattle.nb_page.specs.Quiet.{Quiet}
-use Rattle.nb_model.specs.declared.reply.Reply.{Reply}
-use Rattle.nb_model.specs.declared.reply.Reply.TheVariants.{Pages}
-use Rattle.nb_model.specs.Account.{base_of, IsBase, Account, with_entry}
-use Rattle.nb_model.specs.Causes.{is_free_entry}
-use Rattle.nb_model.specs.Image.{Image}
-use Rattle.nb_model.specs.Jobs.{restore_turn, account_behind}
-use Rattle.nb_model.specs.Owner.{delta_name, entry_in}
-use Rattle.nb_model.specs.Restoring.{Link, verdict, applied}
-use Rattle.nb_model.specs.Run.{Event, account_after, with_made}
-use Rattle.nb_model.specs.Strokes.{make, fixed, on_base, base_after, records_after, records_of}
-use Rattle.nb_model.specs.Trail.{ShowsIn}
-use Rattle.nb_model.specs.Well.{IsWellBaseIn}
-use Rattle.nb_model.proofs.FreeLaws.{stands_free}
-use Rattle.nb_model.proofs.OpeningLaws.{free_entry, with_kept}
-use Rattle.nb_model.proofs.StandsLaws.{no_main}
+use Rattle.std.proofs.Common.{true≢false, ◌≡◌, ◌≢◌, ◌⊎◌, inl, inr, ⊎_elim, ℕ, ◌≤◌, List, [], ◌∷◌, length, true, false, refl, sym, ap, subst, ◌∙◌, arith, not, is_some, Some, None, Result, Ok, Err}
+use Rattle.nb_top.proofs.Common.{AllByRecursion, and_parts, append-nil, is_free_file, File, Files, is_delta, World, Leaves, LeavesAll, Fault, Refused, Device, Memory, Refusal, Only, weaker_has, is_free_name, Quiet, Reply, Pages, base_of, IsBase, Account, with_entry, is_free_entry, Image, restore_turn, account_behind, delta_name, entry_in, Link, verdict, applied, Event, account_after, with_made, make, fixed, on_base, base_after, records_after, records_of, ShowsIn, IsWellBaseIn, stands_free, free_entry, with_kept, no_main, chain_kept, restored_well, OneTurn, leaves_all, restoring, ServedAs, Serves, HoldsKept, StandsFor, not_some, ok_same}
 use Rattle.nb_restore.specs.Kept.{AreKept, GivesKept}
 use Rattle.nb_restore.specs.Restore.{RestoreAnswers, RestoreLeft, Restores, base_from}
 use Rattle.nb_restore.proofs.ChainLaws.{split_chain}
-use Rattle.nb_restore.proofs.KeptLaws.{chain_kept, restored_well}
-use Rattle.nb_top.specs.OneTurn.{OneTurn, leaves_all, restoring}
-use Rattle.nb_top.specs.Served.{ServedAs, Serves}
-use Rattle.nb_top.specs.Standing.{HoldsKept, StandsFor}
 use Rattle.nb_top.proofs.RestoreTurns.{RestoreTurn, WhyRefused, made_turn, made_account, turn_is, refused_turn, done_turn, refused_restore}
 use Rattle.nb_top.proofs.TargetTurns.{refuses, makes}
 use Rattle.nb_top.proofs.Turns.{served_as}
@@ -47,9 +13,6 @@ use Rattle.nb_top.proofs.TurnsStand.{IsSoundJob, IsWellBased, sound_on}
 abbrev pub pages_said : Result ℕ Fault → Result Reply Fault
 pages_said (Ok count) = Ok (Pages count)
 pages_said (Err fault) = Err fault
-
-same_links : (answer : Result (List Link) Refusal) (a b : List Link) → answer ≡ Ok a → answer ≡ Ok b → a ≡ b
-same_links answer a b e f = cc
 
 module _ (old mid : World) (account : Account) (db : List ℕ) (names : List (List ℕ)) (knows : is_free_name old.files db ≡ is_free_entry (account.entry db)) (result : Result ℕ Fault) (does : Restores result old mid db names) where
   abbrev job : OneTurn
@@ -112,10 +75,6 @@ made_kept : (account : Account) (db : List ℕ) (image : Image) → account.kept
 unfolding account_after records_after records_of
 made_kept account db image = sym (append-nil account.kept)
 
-not_some : (file : File) → not (is_some file) ≡ true → file ≡ None
-not_some None h = refl
-not_some (Some bytes) h = cc
-
 module _ (old : World) (account : Account) (db : List ℕ) (names : List (List ℕ)) (stands : StandsFor old account) (plain : is_delta db ≡ false) (plain_names : AllByRecursion (λ (name : List ℕ). is_delta name ≡ false) names) (some : 1 ≤ length names)
     (takes : (links : List Link) → verdict old.files names ≡ Ok links → AreKept account.kept links) where
   abbrev sound_job : OneTurn
@@ -131,7 +90,7 @@ module _ (old : World) (account : Account) (db : List ℕ) (names : List (List �
         backup = kept.backup;
         kept_as = kept.kept_as;
         shows = subst (λ (image : Image). ShowsIn db (base_of (fixed image)) files) kept.image
-            (subst (λ (ls : List Link). ShowsIn db (base_from ls) files) (same_links (verdict old.files names) done.0 links done.1 accepted) done.2);
+            (subst (λ (ls : List Link). ShowsIn db (base_from ls) files) (ok_same done.0 links (verdict old.files names) done.1 accepted) done.2);
       }
 
   -- it isn't refused: the name was free, and the files are a chain
@@ -162,7 +121,7 @@ module _ (old : World) (account : Account) (db : List ℕ) (names : List (List �
       free = λ files half_way now_free. was_free.0;
       base = base_from links;
       well = subst (λ (image : Image). IsWellBaseIn account.kept (base_of (fixed image))) (sym kept.image) (restored_well old.files account kept.backup stands.now kept.kept_as.there).base;
-      shows = λ files made. subst (λ (ls : List Link). ShowsIn db (base_from ls) files) (same_links (verdict old.files names) made.0 links made.1 accepted) made.2;
+      shows = λ files made. subst (λ (ls : List Link). ShowsIn db (base_from ls) files) (ok_same made.0 links (verdict old.files names) made.1 accepted) made.2;
       entries = λ n. made_entries account db (fixed (applied links)) n ∙ ap (λ (a : Account). a.entry n) (sym behind);
       kept = made_kept account db (fixed (applied links)) ∙ ap (λ (a : Account). a.kept) (sym behind);
       gives = gives;

@@ -1,18 +1,9 @@
 -- A script that can't be read is refused, and never as words that name no job.
-use Rattle.std.proofs.Common.{◌≡◌, ◌≢◌, ℕ, ◌+◌, ◌<◌, List, [], ◌∷◌, Bool, true, false, length, refl, sym, ap, subst, ◌∙◌}
-use Rattle.std.specs.Prelude.{Result, Ok, Err, Option, Some, None, nat_lt, if◌then◌else◌}
+use Rattle.std.proofs.Common.{◌≡◌, ◌≢◌, ℕ, ◌+◌, ◌<◌, List, [], ◌∷◌, Bool, true, false, length, refl, sym, ap, subst, ◌∙◌, Result, Ok, Err, Option, Some, None, nat_lt, if◌then◌else◌}
+use Rattle.nb_top.proofs.Common.{lt-ltb, File, Refusal, Usage, BadScript, ScriptLong, Statement, Bytes, lines_of, left, Plan, Numbered, started, with_statement, or_bad, with_lines, order_in, with_order, of_lines, script_of, script_in, some_none, some_same}
 use Rattle.std.specs.Option.{option_map}
-use Rattle.std.proofs.lemmas.Bool.{lt-ltb}
-use Rattle.nb_host.specs.Files.{File}
-use Rattle.nb_host.specs.declared.refusals.Refusal.{Refusal}
-use Rattle.nb_host.specs.declared.refusals.Refusal.TheVariants.{Usage, NoFile, BadScript, ScriptLong}
-use Rattle.nb_model.specs.declared.statement.Statement.{Statement}
-use Rattle.nb_script.specs.Words.{Bytes}
-use Rattle.nb_script.specs.Lines.{lines_of, left}
 use Rattle.nb_script.specs.FirstLine.{first_at}
 use Rattle.nb_script.specs.Statements.{statement_at}
-use Rattle.nb_script.specs.Scripts.{Plan, Numbered, started, with_statement, or_bad, with_lines, order_in, with_order, of_lines, script_of}
-use Rattle.nb_top.specs.Requests.{script_in}
 
 -- a script is broken at a line, or spelled
 abbrev pub IsBroken : Result Plan Refusal → Type 0
@@ -49,18 +40,12 @@ script_read : (bytes : Bytes) → IsForScript (script_of bytes)
 unfolding script_of
 script_read bytes = by (nat_lt 1048576 (length bytes))
   where
-    long : (n : ℕ) → ScriptLong n ≢ Usage
-    long n h = cc
-
     by : (b : Bool) → IsForScript (if b then Err (ScriptLong (length bytes)) else of_lines (length (lines_of bytes)) (left 0 bytes))
-    by true = long (length bytes)
+    by true = λ e. cc
     by false = broken_for (of_lines (length (lines_of bytes)) (left 0 bytes)) (all_broken (length (lines_of bytes)) (left 0 bytes))
 
 pub file_read : (name : List ℕ) (file : File) → IsForScript (script_in name file)
-file_read name None = missing
-  where
-    missing : NoFile name ≢ Usage
-    missing h = cc
+file_read name None = λ e. cc
 file_read name (Some bytes) = script_read bytes
 
 pub refused_script : (name : List ℕ) (file : File) (refusal : Refusal) → script_in name file ≡ Err refusal → refusal ≢ Usage
@@ -78,11 +63,5 @@ pub record SomeFile (file : File) (size : ℕ) : Type 0 where
   pub long : size ≡ length bytes
 
 pub some_file : (file : File) (size : ℕ) → Some size ≡ option_map length file → SomeFile file size
-some_file None size is = absurd (some_none is)
-  where
-    some_none : Some size ≡ None → ⊥
-    some_none h = cc
-some_file (Some bytes) size is = record { bytes = bytes; is = refl; long = some_same is }
-  where
-    some_same : Some size ≡ Some (length bytes) → size ≡ length bytes
-    some_same h = cc
+some_file None size is = absurd (some_none size is)
+some_file (Some bytes) size is = record { bytes = bytes; is = refl; long = some_same size (length bytes) is }

@@ -1,37 +1,13 @@
 -- A script is run, from its first statement on.
-use Rattle.std.proofs.Common.{◌≡◌, ℕ, ◌<◌, List, true, false, refl, subst}
-use Rattle.std.specs.Prelude.{Result, Ok, Err, IfOk, IfErr}
-use Rattle.std.specs.Result.{IsErr}
-use Rattle.nb_fields.specs.Fresh.{fresh}
-use Rattle.nb_host.specs.World.{World}
-use Rattle.nb_host.specs.declared.faults.Fault.{Fault}
-use Rattle.nb_host.specs.declared.refusals.Refusal.{Refusal}
-use Rattle.nb_host.specs.declared.faults.RunError.{RunError}
-use Rattle.nb_change.specs.Gave.{GaveNothing}
-use Rattle.nb_page.specs.Quiet.{Quiet}
-use Rattle.nb_model.specs.declared.statement.Statement.{Statement}
-use Rattle.nb_model.specs.declared.statement.Statement.TheVariants.{CreateDb, OpenDb}
-use Rattle.nb_model.specs.Account.{Account}
-use Rattle.nb_model.specs.Outcomes.{Given}
-use Rattle.nb_state.specs.Beginnings.{Attaches, Creates}
-use Rattle.nb_state.specs.Open.{Held}
-use Rattle.nb_script.specs.Asked.{IsFirst, IsAskable}
-use Rattle.nb_script.specs.Scripts.{Plan}
-use Rattle.nb_top.specs.declared.status.Status.{Status}
-use Rattle.nb_top.specs.Performed.{cache_asked, RunsTo, Knows, KnowsOpened, MayBeGiven}
-use Rattle.nb_top.specs.declared.telling.Telling.{Telling}
-use Rattle.nb_top.specs.Requests.{ToRun}
+use Rattle.std.proofs.Common.{◌≡◌, ℕ, ◌<◌, List, refl, subst, Result, Ok, Err, IfOk, IfErr}
+use Rattle.nb_top.proofs.Common.{IsErr, fresh, World, Fault, Refusal, RunError, GaveNothing, Quiet, Statement, CreateDb, OpenDb, Account, Given, Attaches, Creates, Held, IsFirst, IsAskable, Plan, Status, cache_asked, RunsTo, Knows, KnowsOpened, MayBeGiven, Telling, ToRun, quiet_gave, false_true, no_err}
 use Rattle.nb_top.proofs.Beginnings.{Beginning}
-use Rattle.nb_top.proofs.QuietRuns.{quiet_gave}
 use Rattle.nb_top.proofs.CreatingRuns.{creates_begins, creating_unbegun}
 use Rattle.nb_top.proofs.ReopeningRuns.{attaches_begins, open_fails}
 
 -- a result that is a failure
 pub runs_err : (result : Result Status RunError) → IsErr result → (P : Result Status RunError → Type 0) → ((e : RunError) → P (Err e)) → P result
-runs_err (Ok x) is P runs = absurd (no_err is)
-  where
-    no_err : IsErr {T = Status} {E = RunError} (Ok x) → ⊥
-    no_err h = cc
+runs_err (Ok x) is P runs = absurd (no_err Status RunError x is)
 runs_err (Err e) is P runs = runs e
 
 -- what was settled
@@ -40,9 +16,6 @@ settled_value {T} s v P is holds = subst (λ (x : Result T Refusal). IfOk x P) i
 
 pub settled_refusal : {T : Type 0} (s : Result T Refusal) (r : Refusal) (P : Refusal → Type 0) → s ≡ Err r → IfErr s P → P r
 settled_refusal {T} s r P is holds = subst (λ (x : Result T Refusal). IfErr x P) is holds
-
-false_true : false ≡ true → ⊥
-false_true h = cc
 
 -- A first statement that can be asked today creates a database or opens one.
 pub data Opens (statement : Statement) : Type 0 where

@@ -1,18 +1,8 @@
 -- The line that is shown of a script which breaks its form.
-use Rattle.std.proofs.Common.{◌≡◌, ◌≢◌, ℕ, List, sym, ap, subst}
-use Rattle.std.specs.Prelude.{Bool, Option, Some, None, Result, Ok, Err, IsErr}
-use Rattle.nb_host.specs.declared.refusals.Refusal.{Refusal}
-use Rattle.nb_host.specs.declared.refusals.Refusal.TheVariants.{BadScript, Usage}
-use Rattle.nb_host.specs.declared.faults.RunError.{RunError}
-use Rattle.nb_host.specs.Files.{Files}
-use Rattle.nb_host.specs.World.{World}
-use Rattle.nb_model.specs.declared.job.Deed.{Deed}
-use Rattle.nb_model.specs.declared.job.Job.{Job}
+use Rattle.std.proofs.Common.{◌≡◌, ◌≢◌, ℕ, List, sym, ap, subst, Bool, Option, Some, None, Result, Ok, Err, IsErr}
+use Rattle.nb_top.proofs.Common.{Refusal, BadScript, Usage, RunError, Files, World, Deed, Job, Status, Goes, Request, Asked, Runs, Does, request_of, to_plan, BreaksAt, IfShown, IsShownOf}
 use Rattle.nb_top.specs.declared.broken.Broken.{Broken}
-use Rattle.nb_top.specs.declared.status.Status.{Status}
-use Rattle.nb_top.specs.Goes.{Goes}
-use Rattle.nb_top.specs.Requests.{Request, Asked, Runs, Does, request_of, to_plan}
-use Rattle.nb_top.specs.Shown.{Names, BreaksAt, IfShown, IsShownOf}
+use Rattle.nb_top.specs.Shown.{Names}
 
 -- it isn't refused for a line
 abbrev pub IsUnbroken : Asked → Type 0

@@ -1,40 +1,6 @@
 -- What is sure of the files of a run, where they stand for the account as it begins and the GUIDs that it takes are new.
-use Rattle.std.proofs.Common.{◌≡◌, ◌≢◌, inl, inr, ⊎_elim, ℕ, ◌-◌, ◌≤◌, List, [], ◌++◌, length, take, true, false, refl, sym, ap, subst, ◌∙◌, arith}
-use Rattle.std.specs.Prelude.{Ok, Option, Some, None, Contains}
-use Rattle.std.proofs.lemmas.Bool.{true≢false}
-use Rattle.std.proofs.lemmas.List.{append-nil, take-take}
-use Rattle.nb_fields.specs.Free.{is_free_file}
-use Rattle.nb_host.specs.Files.{File, Files}
-use Rattle.nb_host.specs.Names.{is_delta}
-use Rattle.nb_host.specs.World.{World}
-use Rattle.nb_host.specs.Crash.{Leaves, LeavesAll}
-use Rattle.nb_change.specs.Changes.{Other}
-use Rattle.nb_change.proofs.NameLaws.{decide}
-use Rattle.nb_model.specs.Account.{Kept, Base, IsBase, Account, with_entry}
-use Rattle.nb_model.specs.Causes.{is_free_entry}
-use Rattle.nb_model.specs.Making.{MadeFile, IsNoneOf, with_files}
-use Rattle.nb_model.specs.NewGuids.{AreNew, guids_in}
-use Rattle.nb_model.specs.Owner.{delta_name, owner}
-use Rattle.nb_model.specs.Run.{Event, strokes_of, files_made}
-use Rattle.nb_model.specs.Stands.{Stands}
-use Rattle.nb_model.specs.Steps.{Step, after_steps, steps_of, strokes_in}
-use Rattle.nb_model.specs.Strokes.{base_in, records_after}
-use Rattle.nb_model.specs.Trail.{Trail, StandsIn, ShowsIn, settled}
-use Rattle.nb_model.specs.Well.{IsWellBaseIn}
-use Rattle.nb_model.specs.WellTrail.{IsWellTrail}
-use Rattle.nb_model.proofs.AccountLaws.{stands_grown, files_kept}
-use Rattle.nb_model.proofs.FreeLaws.{stands_files}
-use Rattle.nb_model.proofs.GrownLaws.{new_unused, stands_along}
-use Rattle.nb_model.proofs.GuidLaws.{strokes_in_steps, last_steps_new, front_new}
-use Rattle.nb_model.proofs.MadeLaws.{IsWholeFile, whole_among}
-use Rattle.nb_model.proofs.OpenedLaws.{stands_with_well_in}
-use Rattle.nb_model.proofs.OpeningLaws.{opened_in_use}
-use Rattle.nb_model.proofs.SteadyLaws.{WellAlong, along_front, along_last, kept_along, kept_is}
-use Rattle.nb_model.proofs.StandsLaws.{delta_same, no_main}
-use Rattle.nb_base.specs.Open.{OfFiles}
-use Rattle.nb_session.specs.Acts.{MadeLeft, AreKept}
-use Rattle.nb_top.specs.Performed.{IsEnded, IsUnbegun, Target, kept_after, seen_after}
-use Rattle.nb_top.specs.Standing.{HoldsKept, StandsFor}
+use Rattle.std.proofs.Common.{◌≡◌, ◌≢◌, inl, inr, ⊎_elim, ℕ, ◌-◌, ◌≤◌, List, [], ◌++◌, length, take, true, false, refl, sym, ap, subst, ◌∙◌, arith, Ok, Option, Some, None, Contains}
+use Rattle.nb_top.proofs.Common.{true≢false, append-nil, take-take, is_free_file, File, Files, is_delta, World, Leaves, LeavesAll, Other, decide, Kept, Base, IsBase, Account, with_entry, is_free_entry, MadeFile, IsNoneOf, with_files, AreNew, guids_in, delta_name, owner, Event, strokes_of, files_made, Stands, Step, after_steps, steps_of, strokes_in, base_in, records_after, Trail, StandsIn, ShowsIn, settled, IsWellBaseIn, IsWellTrail, stands_grown, files_kept, stands_files, new_unused, stands_along, strokes_in_steps, last_steps_new, front_new, IsWholeFile, whole_among, stands_with_well_in, opened_in_use, WellAlong, along_front, along_last, kept_along, kept_is, delta_same, no_main, OfFiles, MadeLeft, AreKept, IsEnded, IsUnbegun, Target, kept_after, seen_after, HoldsKept, StandsFor}
 use Rattle.nb_top.proofs.AsWas.{as_was, was_has}
 use Rattle.nb_top.proofs.MadeStand.{IsNewFile, none_delta, free_name, free_left, made_along}
 use Rattle.nb_top.proofs.MadeRuns.{no_file}

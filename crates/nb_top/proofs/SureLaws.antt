@@ -1,30 +1,7 @@
 -- What a crash leaves while one database is changed, and files are made beside it, stands for an account with the records of the backups
 -- that have begun.
-use Rattle.std.proofs.Common.{◌≡◌, ◌≢◌, ◌⊎◌, ⊎_elim, ℕ, List, [], ◌∷◌, true, false, sym, subst, ◌∙◌}
-use Rattle.std.specs.Prelude.{None, Contains}
-use Rattle.nb_fields.specs.Free.{is_free_file}
-use Rattle.nb_host.specs.Files.{File, Files}
-use Rattle.nb_host.specs.Names.{is_delta}
-use Rattle.nb_host.specs.World.{World}
-use Rattle.nb_host.specs.Crash.{Leaves}
-use Rattle.nb_change.specs.Changes.{Other}
-use Rattle.nb_model.specs.Account.{Kept, IsBase, Account, with_entry}
-use Rattle.nb_model.specs.Making.{MadeFile, IsNoneOf}
-use Rattle.nb_model.specs.NewGuids.{AreNew, guids_in}
-use Rattle.nb_model.specs.Owner.{delta_name, entry_in}
-use Rattle.nb_model.specs.Steps.{Step, after_steps, strokes_in}
-use Rattle.nb_model.specs.Trail.{Trail, StandsIn}
-use Rattle.nb_model.specs.WellTrail.{IsWellTrail}
-use Rattle.nb_model.proofs.FreeLaws.{stands_free}
-use Rattle.nb_model.proofs.MadeLaws.{IsWholeFile}
-use Rattle.nb_model.proofs.OpenedLaws.{stood_stands}
-use Rattle.nb_model.proofs.OpeningLaws.{with_kept}
-use Rattle.nb_model.proofs.StandsLaws.{no_main}
-use Rattle.nb_model.proofs.SteadyLaws.{WellAlong, kept_along, along_last}
-use Rattle.nb_base.specs.Open.{OfFiles}
-use Rattle.nb_gather.specs.Making.{IsUnfinishedOr}
-use Rattle.nb_session.specs.Acts.{MadeLeft}
-use Rattle.nb_top.specs.Standing.{HoldsKept, StandsFor}
+use Rattle.std.proofs.Common.{◌≡◌, ◌≢◌, ◌⊎◌, ⊎_elim, ℕ, List, [], ◌∷◌, true, false, sym, subst, ◌∙◌, None, Contains}
+use Rattle.nb_top.proofs.Common.{is_free_file, File, Files, is_delta, World, Leaves, Other, Kept, IsBase, Account, with_entry, MadeFile, IsNoneOf, AreNew, guids_in, delta_name, entry_in, Step, after_steps, strokes_in, Trail, StandsIn, IsWellTrail, stands_free, IsWholeFile, stood_stands, with_kept, no_main, WellAlong, kept_along, along_last, OfFiles, IsUnfinishedOr, MadeLeft, HoldsKept, StandsFor}
 use Rattle.nb_top.proofs.AsWas.{as_was, was_has, was_off}
 use Rattle.nb_top.proofs.MadeStand.{IsNewFile, made_along}
 

@@ -1,44 +1,9 @@
 -- Where the files stand for the account as a run begins, and the GUIDs that it takes are new, they stand for one at each moment.
-use Rattle.std.proofs.Common.{◌≡◌, ℕ, zero, suc, ◌<◌, ◌≤◌, List, [], ◌∷◌, ◌++◌, length, take, true, false, refl, sym, ap, subst, ◌∙◌, arith}
-use Rattle.std.specs.Prelude.{Bool, Result, Ok, Err, Option, Some, None, Contains}
-use Rattle.nb_fields.specs.Fresh.{fresh}
-use Rattle.nb_host.specs.Files.{Files}
-use Rattle.nb_host.specs.Names.{is_delta}
-use Rattle.nb_host.specs.World.{World}
-use Rattle.nb_host.specs.Crash.{Leaves}
-use Rattle.nb_host.specs.Moments.{IsTimely, AtEachMoment}
-use Rattle.nb_host.specs.declared.refusals.Refusal.{Refusal}
-use Rattle.nb_host.specs.declared.refusals.Refusal.TheVariants.{FileExists}
-use Rattle.nb_model.specs.declared.reply.Reply.{Reply}
+use Rattle.std.proofs.Common.{◌≡◌, ℕ, zero, suc, ◌<◌, ◌≤◌, List, [], ◌∷◌, ◌++◌, length, take, true, false, refl, sym, ap, subst, ◌∙◌, arith, Bool, Result, Ok, Err, Option, Some, None, Contains}
+use Rattle.nb_top.proofs.Common.{fresh, Files, is_delta, World, Leaves, IsTimely, AtEachMoment, Refusal, FileExists, Reply, Statement, CreateDb, OpenDb, Base, base_of, IsBase, Account, is_free_entry, Image, image_scn, MadeFile, IsNoneOf, Given, delta_name, owner, not_opened, Event, Opening, IsRun, IsRest, opening, refused_opening, files_made, Step, makes, settles, after_step, after_steps, made, steps_of, strokes_in, make, base_in, on_base, records_of, records_after, Trail, StandsIn, settled, settles_at, after_stroke, IsGrown, opened_trail, IsCreated, created, not_created, IsReopened, reopened, not_reopened, base_in_base, settled_shows, IsAskable, FitsFirst, Plan, Status, RunLeft, RunReads, Finished, HasSmallScn, IsScriptRun, IsSure, MayBeGiven, Target, begins_refused, kept_after, pages_first, seen_after, target_named, target_of, HoldsKept, StandsFor, Telling, Request, ToRun, false_true, after_no_step, none_some, some_none, some_same}
 use Rattle.nb_model.specs.declared.reply.Reply.TheVariants.{Refused}
-use Rattle.nb_model.specs.declared.statement.Statement.{Statement}
-use Rattle.nb_model.specs.declared.statement.Statement.TheVariants.{CreateDb, OpenDb}
-use Rattle.nb_model.specs.Account.{Base, base_of, IsBase, Account}
-use Rattle.nb_model.specs.Causes.{is_free_entry}
-use Rattle.nb_model.specs.Image.{Image, image_scn}
-use Rattle.nb_model.specs.Making.{MadeFile, IsNoneOf}
-use Rattle.nb_model.specs.Outcomes.{Given}
-use Rattle.nb_model.specs.Owner.{delta_name, owner, not_opened}
-use Rattle.nb_model.specs.Run.{Event, Opening, IsRun, IsRest, opening, refused_opening, files_made}
-use Rattle.nb_model.specs.Steps.{Step, makes, settles, after_step, after_steps, made, steps_of, strokes_in}
-use Rattle.nb_model.specs.Strokes.{make, base_in, on_base, records_of, records_after}
-use Rattle.nb_model.specs.Trail.{Trail, StandsIn, settled, settles_at, after_stroke}
-use Rattle.nb_model.proofs.AccountLaws.{IsGrown}
-use Rattle.nb_model.proofs.OpenedLaws.{opened_trail}
-use Rattle.nb_model.proofs.OpeningLaws.{IsCreated, created, not_created}
-use Rattle.nb_model.proofs.ReopenLaws.{IsReopened, reopened, not_reopened}
-use Rattle.nb_model.proofs.RunLaws.{base_in_base}
-use Rattle.nb_model.proofs.TrailLaws.{settled_shows}
 use Rattle.nb_model.proofs.UnseenLaws.{unseen}
 use Rattle.nb_model.proofs.WellTrailLaws.{fresh_trail}
-use Rattle.nb_script.specs.Asked.{IsAskable}
-use Rattle.nb_script.specs.Fits.{FitsFirst}
-use Rattle.nb_script.specs.Scripts.{Plan}
-use Rattle.nb_top.specs.declared.status.Status.{Status}
-use Rattle.nb_top.specs.Performed.{RunLeft, RunReads, Finished, HasSmallScn, IsScriptRun, IsSure, MayBeGiven, Target, begins_refused, kept_after, pages_first, seen_after, target_named, target_of}
-use Rattle.nb_top.specs.Standing.{HoldsKept, StandsFor}
-use Rattle.nb_top.specs.declared.telling.Telling.{Telling}
-use Rattle.nb_top.specs.Requests.{Request, ToRun}
 use Rattle.nb_top.proofs.FirstReady.{base_name}
 use Rattle.nb_top.proofs.MadeRuns.{no_file, made_behind}
 use Rattle.nb_top.proofs.OpenLaws.{shown_entry, refused_entry}
@@ -47,9 +12,6 @@ use Rattle.nb_top.proofs.SureFiles.{still_stands}
 use Rattle.nb_top.proofs.SureTargets.{IsSureRun, target_after, target_left, target_end}
 use Rattle.nb_top.proofs.ToldLaws.{told_files, told_steps, told_begins}
 use Rattle.nb_top.proofs.WellRuns.{IsWellRun, IsWellBehind, rest_well}
-
-false_true : false ≡ true → ⊥
-false_true h = cc
 
 -- an event with a refusal begins no run
 refused_begins : (o : Opening) (session : ℕ) (refusal : Refusal) (account : Account) (events rest : List Event) → events ≡ o.event ∷ rest → o ≡ refused_opening session (Refused refusal) account → begins_refused events ≡ true
@@ -76,10 +38,6 @@ made_seen b image = refl
 made_keeps : (b : Base) (image : Image) → records_after b (strokes_in (makes (make image) ∷ [])) ≡ []
 unfolding strokes_in records_after records_of
 made_keeps b image = refl
-
-none_seen : (t : Trail) → after_steps t [] ≡ t
-unfolding after_steps
-none_seen t = refl
 
 none_keeps : (b : Base) → records_after b (strokes_in []) ≡ []
 unfolding strokes_in records_after
@@ -136,7 +94,7 @@ module _ (account : Account) (given : Given) (plan : Plan) (askable : IsAskable 
     begun : (count : ℕ) (files : Files) → StandsIn name (seen_after account name (take count (steps_of events))) files → 1 ≤ count
     begun zero files s =
         absurd (unseen name (account.entry name) (files name) (files (delta_name name)) was_free
-        (settled_shows name (base_in (account.entry name)) (files name) (files (delta_name name)) (subst (λ (t : Trail). StandsIn name t files) (none_seen (settled (base_in (account.entry name)))) s)))
+        (settled_shows name (base_in (account.entry name)) (files name) (files (delta_name name)) (subst (λ (t : Trail). StandsIn name t files) (after_no_step (settled (base_in (account.entry name)))) s)))
     begun (suc n) files s = omega arith
 
     pub creating_sure : IsSureRun account (record { name = name; creates = true }) events last
@@ -195,7 +153,7 @@ module _ (old : World) (account : Account) (given : Given) (plan : Plan) (askabl
       further = settles ∷ steps_of runs.rest;
       steps = ap steps_of runs.is ∙ ap (λ (e : Event). steps_of (e ∷ runs.rest)) again.event ∙ opened_steps plan.first_session _ runs.rest;
       base = b;
-      seen = none_seen (settled (base_in (account.entry name))) ∙ ap settled base_is;
+      seen = after_no_step (settled (base_in (account.entry name))) ∙ ap settled base_is;
       none = none_keeps (base_in (account.entry name));
       along = opened_behind.along;
       made = λ file there. opened_behind.made file (subst (λ (fs : List MadeFile). Contains fs file) opened_files there);
@@ -213,15 +171,12 @@ module _ (old : World) (account : Account) (given : Given) (plan : Plan) (askabl
       Runs : Statement → Type 0
       Runs first = IsRun account given plan.first_session first plan.schedule plan.sessions events last left
 
-      same : (a c : Target) → Some a ≡ Some c → a ≡ c
-      same a c e = cc
-
       by : Opens plan.first → IsSureRun account target events last
       by (creates name size raw cache is) =
-          subst (λ (d : Target). IsSureRun account d events last) (same (record { name = name; creates = true }) target (ap target_named (sym is) ∙ named))
+          subst (λ (d : Target). IsSureRun account d events last) (some_same {X = Target} (record { name = name; creates = true }) target (ap target_named (sym is) ∙ named))
           (creating_sure account given plan askable events last left sixteen not_refused name size raw cache is (subst Runs is runs))
       by (opens name cache is) =
-          let its : record { name = name; creates = false } ≡ target = same (record { name = name; creates = false }) target (ap target_named (sym is) ∙ named) in
+          let its : record { name = name; creates = false } ≡ target = some_same {X = Target} (record { name = name; creates = false }) target (ap target_named (sym is) ∙ named) in
           subst (λ (d : Target). IsSureRun account d events last) its (opening_sure name cache is (subst Runs is runs) (subst (λ (d : Target). HasSmallScn account (Some d)) (sym its) small refl))
 
 -- A run whose first statement is refused leaves the account, and makes no file.
@@ -295,9 +250,6 @@ module _ (old : World) (plan : Plan) (telling : Telling) (askable : IsAskable pl
   abbrev asked : Result Request Refusal
   asked = Ok (ToRun plan telling)
 
-  none_some : (target : Target) → None ≡ Some target → ⊥
-  none_some target h = cc
-
   whole_steps : steps_of performed.whole ≡ steps_of events
   whole_steps = sym (ap steps_of performed.said ∙ told_steps telling (pages_first account plan.first) performed.whole)
 
@@ -319,16 +271,13 @@ module _ (old : World) (plan : Plan) (telling : Telling) (askable : IsAskable pl
   refused_run : target_of asked events ≡ None → (files_made events ≡ []) × (last ≡ account)
   refused_run is = by (begins_refused events) refl is
     where
-      some_none : (target : Target) → Some target ≡ None → ⊥
-      some_none target h = cc
-
       by : (t : Bool) → begins_refused events ≡ t → elim t as (λ z. Option Target) [ true ↦ None | false ↦ target_named plan.first ] ≡ None → (files_made events ≡ []) × (last ≡ account)
       by true refused h =
           let leaves = refused_leaves old account given plan askable performed.whole last left sure.stands (whole_begins ∙ refused) performed.run in
           (sym whole_files ∙ leaves.0, leaves.1)
       by false allowed h = elim (first_opens plan.first askable.first) [
-        | creates name size raw cache first ↦ absurd (some_none (record { name = name; creates = true }) (sym (ap target_named first) ∙ h))
-        | opens name cache first ↦ absurd (some_none (record { name = name; creates = false }) (sym (ap target_named first) ∙ h))
+        | creates name size raw cache first ↦ absurd (some_none {X = Target} (record { name = name; creates = true }) (sym (ap target_named first) ∙ h))
+        | opens name cache first ↦ absurd (some_none {X = Target} (record { name = name; creates = false }) (sym (ap target_named first) ∙ h))
       ]
 
   none_made : target_of asked events ≡ None → (m : List ℕ) → IsNoneOf (files_made events) m

@@ -1,26 +1,6 @@
 -- What is sure of a run with a database: what a crash leaves stands for an account at each moment, and so does what stands at its end.
-use Rattle.std.proofs.Common.{◌≡◌, inl, inr, ⊎_elim, ℕ, ◌≤◌, List, [], length, take, true, false, refl, sym, ap, subst, ◌∙◌, arith, length-append}
-use Rattle.std.specs.Prelude.{None, Some}
-use Rattle.nb_fields.specs.Free.{is_free_file}
-use Rattle.nb_host.specs.Files.{File, Files, with_file}
-use Rattle.nb_host.specs.Names.{is_delta}
-use Rattle.nb_host.specs.World.{World}
-use Rattle.nb_host.specs.Crash.{Leaves, LeavesAll}
-use Rattle.nb_host.specs.Moments.{IsTimely, AtEachMoment}
-use Rattle.nb_change.proofs.ChangesLaws.{left_with}
-use Rattle.nb_change.proofs.NameLaws.{decide, with_file-same, with_file-other}
-use Rattle.nb_model.specs.Account.{Account}
-use Rattle.nb_model.specs.Causes.{is_free_entry}
-use Rattle.nb_model.specs.NewGuids.{AreNew, guids_in}
-use Rattle.nb_model.specs.Outcomes.{Given}
-use Rattle.nb_model.specs.Owner.{delta_name}
-use Rattle.nb_model.specs.Run.{Event, strokes_of}
-use Rattle.nb_model.specs.Steps.{steps_of}
-use Rattle.nb_model.specs.Trail.{StandsIn}
-use Rattle.nb_top.specs.declared.status.Status.{Status}
-use Rattle.nb_top.specs.Performed.{RunLeft, RunReads, Finished, Target, kept_after, seen_after}
-use Rattle.nb_top.specs.Standing.{HoldsKept, StandsFor}
-use Rattle.nb_model.proofs.StandsLaws.{no_main}
+use Rattle.std.proofs.Common.{◌≡◌, inl, inr, ⊎_elim, ℕ, ◌≤◌, List, [], length, take, true, false, refl, sym, ap, subst, ◌∙◌, arith, length-append, None, Some}
+use Rattle.nb_top.proofs.Common.{is_free_file, File, Files, with_file, is_delta, World, Leaves, LeavesAll, IsTimely, AtEachMoment, left_with, decide, with_file-same, with_file-other, Account, is_free_entry, AreNew, guids_in, Given, delta_name, Event, strokes_of, steps_of, StandsIn, Status, RunLeft, RunReads, Finished, Target, kept_after, seen_after, HoldsKept, StandsFor, no_main}
 use Rattle.nb_top.proofs.MadeStand.{free_name}
 use Rattle.nb_top.proofs.SureFiles.{kept_none, stood_holds, stood_within, unbegun_holds, unbegun_within, ended_stands, free_beside, opens_in_use}
 use Rattle.nb_top.proofs.WellRuns.{IsWellRun}

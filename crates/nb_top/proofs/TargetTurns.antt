@@ -1,12 +1,7 @@
 -- The one turn that makes a file: it is refused by the file's name or by what other files give, or it makes what they give.
-use Rattle.std.proofs.Common.{◌≡◌, ◌≢◌, ◌⊎◌, inl, inr, ℕ, List, true, false, refl, sym, ap, ◌∙◌}
-use Rattle.std.specs.Prelude.{Bool, Result, Ok, Err}
-use Rattle.nb_host.specs.declared.refusals.Refusal.{Refusal}
-use Rattle.nb_host.specs.declared.refusals.Refusal.TheVariants.{FileExists, Usage}
-use Rattle.nb_model.specs.Account.{Account}
-use Rattle.nb_model.specs.Causes.{is_free_entry}
-use Rattle.nb_model.specs.Jobs.{only_refusal}
-use Rattle.nb_model.specs.Run.{Event}
+use Rattle.std.proofs.Common.{◌≡◌, ◌≢◌, ◌⊎◌, inl, inr, ℕ, List, true, false, refl, sym, ap, ◌∙◌, Bool, Result, Ok, Err}
+use Rattle.nb_top.proofs.Common.{Refusal, FileExists, Usage, Account, is_free_entry, only_refusal, Event}
+use Rattle.nb_top.proofs.ChainRefusals.{exists_usage}
 
 -- the name isn't free, or what they give is a refusal
 abbrev pub IsRefused : {T : Type 0} → Account → (name : List ℕ) → (given : Result T Refusal) → Refusal → Type 0
@@ -35,10 +30,7 @@ module _ {T : Type 0} (account : Account) (name : List ℕ) (given : Result T Re
         by true free (Ok value) is = makes value free is (done value free is)
         by true free (Err refusal) is = refuses refusal (inr (free, is)) (broken refusal free is)
 
-  exists_usage : FileExists name ≡ Usage → ⊥
-  exists_usage e = cc
-
   -- as words are that name no job it never is, where what they give isn't
   pub never_usage : ((refusal : Refusal) → given ≡ Err refusal → refusal ≢ Usage) → (refusal : Refusal) → IsRefused account name given refusal → refusal ≢ Usage
-  never_usage other refusal (inl taken) e = exists_usage (sym taken.1 ∙ e)
+  never_usage other refusal (inl taken) e = exists_usage name (sym taken.1 ∙ e)
   never_usage other refusal (inr broken) e = other refusal broken.1 e

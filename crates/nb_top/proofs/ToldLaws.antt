@@ -1,30 +1,9 @@
 -- What is told of a run: the same events, a quiet one with no reply of the first but a refusal, and with the number of pages where a begin tells it.
-use Rattle.std.proofs.Common.{◌≡◌, ℕ, List, [], ◌∷◌, ◌++◌, false, refl, sym, ap, ◌∙◌}
-use Rattle.std.specs.Prelude.{Bool, Option, Some, None, if◌then◌else◌}
-use Rattle.nb_fields.specs.States.{normal_state}
-use Rattle.nb_host.specs.declared.refusals.Refusal.{Refusal}
-use Rattle.nb_model.specs.declared.reply.Reply.{Reply}
-use Rattle.nb_model.specs.declared.reply.Reply.TheVariants.{PagesShown, Refused}
-use Rattle.nb_model.specs.declared.statement.Statement.{Statement}
-use Rattle.nb_model.specs.declared.statement.Statement.TheVariants.{OpenDb}
-use Rattle.nb_model.specs.Account.{Account}
-use Rattle.nb_model.specs.Generated.{last_or_refusal, said_by_generated}
-use Rattle.nb_model.specs.Jobs.{all_sized, quiet, refusal_in, sized}
-use Rattle.nb_model.specs.Making.{MadeFile}
-use Rattle.nb_model.specs.Lines.{line_text}
-use Rattle.nb_model.specs.Outcomes.{Given}
-use Rattle.nb_model.specs.Output.{output, text_of, status_of, status_after}
-use Rattle.nb_model.specs.Run.{Event, IsRun, files_made, replies_of}
-use Rattle.nb_model.specs.Steps.{Step, steps_in, steps_of}
-use Rattle.nb_model.specs.Strokes.{Stroke}
-use Rattle.nb_model.proofs.OutputLaws.{output_one, status_one, output-quiet}
-use Rattle.nb_script.specs.Scripts.{Plan}
-use Rattle.nb_session.specs.Replies.{is_refusal}
+use Rattle.std.proofs.Common.{◌≡◌, ℕ, List, [], ◌∷◌, false, refl, sym, ap, ◌∙◌, Bool, Option, Some, None, if◌then◌else◌}
+use Rattle.nb_top.proofs.Common.{normal_state, Refusal, Reply, PagesShown, Statement, OpenDb, Account, last_or_refusal, said_by_generated, all_sized, quiet, refusal_in, sized, line_text, Given, output, status_of, status_after, Event, IsRun, files_made, replies_of, steps_in, steps_of, Stroke, output_one, status_one, output-quiet, output_no_event, Plan, is_refusal, Telling, All, Quietly, WithSize, Sparingly, IsScriptRun, begins_refused, first_event, is_all, opened_reply, pages_first, refused_at, told, told_first, told_later, status_unsaid}
+use Rattle.nb_model.specs.declared.reply.Reply.TheVariants.{Refused}
 use Rattle.nb_session.specs.declared.told.Told.TheVariants.{Sparingly as SparinglyTold}
-use Rattle.nb_session.proofs.ToldLaws.{told_steps as later_steps, told_files as files_as}
-use Rattle.nb_top.specs.declared.telling.Telling.{Telling}
-use Rattle.nb_top.specs.declared.telling.Telling.TheVariants.{All, Quietly, WithSize, Sparingly}
-use Rattle.nb_top.specs.Performed.{IsScriptRun, begins_refused, first_event, is_all, opened_reply, pages_first, refused_at, told, told_first, told_later}
+use Rattle.nb_session.proofs.ToldLaws.{told_steps as later_steps, told_files as files_as, sized_files, sized_steps}
 
 -- the run of a script to these events
 abbrev pub Ran : Account → Given → Plan → List Event → (last : Account) → (left : Given) → Type 0
@@ -38,16 +17,6 @@ sized_refusal pages (Some reply) = by reply
     by : (reply : Reply) → refusal_in (Some reply) ≡ sized pages (refusal_in (Some reply))
     by (Refused refusal) = refl
     by other = refl
-
-sized_steps : (pages : ℕ) (es : List Event) → steps_of (all_sized pages es) ≡ steps_of es
-unfolding steps_of all_sized
-sized_steps pages [] = refl
-sized_steps pages (e ∷ es) = ap (λ (ss : List Step). steps_in e ++ ss) (sized_steps pages es)
-
-sized_files : (pages : ℕ) (es : List Event) → files_made (all_sized pages es) ≡ files_made es
-unfolding files_made all_sized
-sized_files pages [] = refl
-sized_files pages (e ∷ es) = ap (λ (files : List MadeFile). elim e.made as (λ z. List MadeFile) [ Some file ↦ file ∷ files | None ↦ files ]) (sized_files pages es)
 
 pub told_cons : (telling : Telling) (pages : ℕ) (e : Event) (es : List Event) → told_first telling e ∷ told_later telling pages es ≡ told telling pages (e ∷ es)
 unfolding all_sized said_by_generated
@@ -158,22 +127,6 @@ unshown : (first : Statement) (pages state : ℕ) → last_or_refusal (Some (ope
 unshown (OpenDb name cache) pages state = refl
 unshown other pages state = refl
 
-none_said : output [] ≡ []
-unfolding text_of replies_of
-none_said = refl
-
-none_status : (session : ℕ) (reply : Option Reply) → reply ≡ None → status_of (elim reply as (λ z. List (ℕ × Reply)) [ Some r ↦ (session, r) ∷ [] | None ↦ [] ]) ≡ 0
-unfolding status_of
-none_status session None is = refl
-none_status session (Some r) is = absurd (some_none is)
-  where
-    some_none : Some r ≡ None → ⊥
-    some_none h = cc
-
-quiet_status : (e : Event) → e.reply ≡ None → status_of (replies_of (e ∷ [])) ≡ 0
-unfolding replies_of
-quiet_status e none = none_status e.session e.reply none
-
 -- the line of a first reply, where it is told
 module _ (session : ℕ) (strokes : List Stroke) (first : Statement) (pages state : ℕ) where
   abbrev reply : Reply
@@ -181,12 +134,12 @@ module _ (session : ℕ) (strokes : List Stroke) (first : Statement) (pages stat
 
   pub told_output : (telling : Telling) → output (told_first telling (first_event session strokes reply) ∷ []) ≡ (if is_all telling then line_text session reply else [])
   told_output All = output_one (first_event session strokes reply) reply refl
-  told_output Quietly = output-quiet (told_first Quietly (first_event session strokes reply)) [] (untold first pages state) ∙ none_said
-  told_output WithSize = output-quiet (told_first WithSize (first_event session strokes reply)) [] (untold first pages state) ∙ none_said
-  told_output Sparingly = output-quiet (told_first Sparingly (first_event session strokes reply)) [] (unshown first pages state) ∙ none_said
+  told_output Quietly = output-quiet (told_first Quietly (first_event session strokes reply)) [] (untold first pages state) ∙ output_no_event
+  told_output WithSize = output-quiet (told_first WithSize (first_event session strokes reply)) [] (untold first pages state) ∙ output_no_event
+  told_output Sparingly = output-quiet (told_first Sparingly (first_event session strokes reply)) [] (unshown first pages state) ∙ output_no_event
 
   pub told_status : (telling : Telling) → status_of (replies_of (told_first telling (first_event session strokes reply) ∷ [])) ≡ 0
   told_status All = status_one (first_event session strokes reply) reply refl ∙ opened_fine first pages state
-  told_status Quietly = quiet_status (told_first Quietly (first_event session strokes reply)) (untold first pages state)
-  told_status WithSize = quiet_status (told_first WithSize (first_event session strokes reply)) (untold first pages state)
-  told_status Sparingly = quiet_status (told_first Sparingly (first_event session strokes reply)) (unshown first pages state)
+  told_status Quietly = status_unsaid (told_first Quietly (first_event session strokes reply)) (untold first pages state)
+  told_status WithSize = status_unsaid (told_first WithSize (first_event session strokes reply)) (untold first pages state)
+  told_status Sparingly = status_unsaid (told_first Sparingly (first_event session strokes reply)) (unshown first pages state)

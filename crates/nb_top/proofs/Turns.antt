@@ -1,37 +1,9 @@
 -- A run of a job of one turn: what stands of its file at each moment, and its end.
-use Rattle.std.proofs.Common.{true≢false, ◌≡◌, ◌⊎◌, inl, inr, ⊎_elim, ℕ, List, [], ◌∷◌, ◌++◌, length, take, true, false, refl, sym, ap, subst, ◌∙◌}
-use Rattle.std.specs.Prelude.{Bool, Option, Some, None, Result, Ok, Err, IfOk, OnOk}
-use Rattle.std.proofs.lemmas.List.{append-nil}
-use Rattle.nb_host.specs.Files.{File, Files}
-use Rattle.nb_host.specs.World.{World}
-use Rattle.nb_host.specs.Crash.{Leaves, LeavesAll}
-use Rattle.nb_host.specs.Moments.{IsTimely, AtEachMoment}
-use Rattle.nb_host.specs.declared.faults.Fault.{Fault}
+use Rattle.std.proofs.Common.{true≢false, ◌≡◌, ◌⊎◌, inl, inr, ⊎_elim, ℕ, List, [], ◌∷◌, ◌++◌, length, take, true, false, refl, sym, ap, subst, ◌∙◌, Bool, Option, Some, None, Result, Ok, Err, IfOk, OnOk}
+use Rattle.nb_top.proofs.Common.{append-nil, File, Files, World, Leaves, LeavesAll, IsTimely, AtEachMoment, Fault, Refusal, RunError, Other, GaveNothing, joined, left_before, weaker, Quiet, Reply, Account, only_refusal, line_text, output, status_after, status_of, Event, replies_of, output_one, status_one, status_refused, FrontSaid, SaysLine, IsSaid, now_left, Status, Done, number_of, OneTurn, OfName, Was, IsAsWas, IsDoneFor, Read, FileLeft, IsOnItsWay, TurnEnded, TurnLeft, leaves_all, IsRefusedWith, IsServed, ServedAs, Serves, TurnsTo, take_self}
 use Rattle.nb_host.specs.declared.faults.Fault.TheVariants.{Refused as RefusedFault}
-use Rattle.nb_host.specs.declared.refusals.Refusal.{Refusal}
-use Rattle.nb_host.specs.declared.faults.RunError.{RunError}
-use Rattle.nb_change.specs.Changes.{Other}
-use Rattle.nb_change.specs.Gave.{GaveNothing}
-use Rattle.nb_change.proofs.MomentLaws.{joined, left_before, weaker}
-use Rattle.nb_page.specs.Quiet.{Quiet}
-use Rattle.nb_model.specs.declared.reply.Reply.{Reply}
 use Rattle.nb_model.specs.declared.reply.Reply.TheVariants.{Refused as RefusedReply}
-use Rattle.nb_model.specs.Account.{Account}
-use Rattle.nb_model.specs.Jobs.{only_refusal}
-use Rattle.nb_model.specs.Lines.{line_text}
-use Rattle.nb_model.specs.Output.{output, status_after, status_of}
-use Rattle.nb_model.specs.Run.{Event, replies_of}
-use Rattle.nb_model.proofs.OutputLaws.{output_one, status_one}
-use Rattle.nb_model.proofs.StatusLaws.{status_refused}
-use Rattle.nb_session.specs.Says.{FrontSaid, SaysLine}
-use Rattle.nb_session.specs.Stops.{IsSaid}
-use Rattle.nb_session.proofs.OthersLaws.{now_left}
-use Rattle.nb_top.specs.declared.status.Status.{Status}
-use Rattle.nb_top.specs.declared.status.Status.TheVariants.{Done, Refused}
-use Rattle.nb_top.specs.Numbers.{number_of}
-use Rattle.nb_top.specs.OneTurn.{OneTurn, OfName, Was, IsAsWas, IsDoneFor, Read, FileLeft, IsOnItsWay, TurnEnded, TurnLeft, leaves_all}
-use Rattle.nb_top.specs.Served.{IsRefusedWith, IsServed, ServedAs, Serves, TurnsTo}
-use Rattle.nb_top.proofs.RefusedRuns.{take_self}
+use Rattle.nb_top.specs.declared.status.Status.TheVariants.{Refused}
 
 -- all are as they were, and so is that one
 as_was : (was : Was) (name : Option (List ℕ)) (files : Files) → ((m : List ℕ) → was m (files m)) → IsAsWas was name files

@@ -1,32 +1,7 @@
 -- Where the files stand for an account as a job of one turn begins, they stand for one at each moment of it, and after it, however it ended.
-use Rattle.std.proofs.Common.{true≢false, ◌≡◌, ◌≢◌, ◌⊎◌, inl, inr, ℕ, List, [], ◌∷◌, true, false, refl, sym, ap, subst, ◌∙◌}
-use Rattle.std.specs.Prelude.{Bool, Ok, Option, Some, None}
-use Rattle.nb_fields.specs.Free.{is_free_file}
-use Rattle.nb_host.specs.Files.{File, Files, with_file}
-use Rattle.nb_host.specs.Names.{is_delta}
-use Rattle.nb_host.specs.World.{World}
-use Rattle.nb_host.specs.Crash.{Leaves, LeavesAll}
-use Rattle.nb_host.specs.Moments.{IsTimely, AtEachMoment}
-use Rattle.nb_change.specs.Changes.{Other}
-use Rattle.nb_change.proofs.ChangesLaws.{left_with}
-use Rattle.nb_change.proofs.MomentLaws.{weaker}
-use Rattle.nb_change.proofs.NameLaws.{decide, with_file-same, with_file-other}
-use Rattle.nb_model.specs.Account.{Kept, Base, Entry, IsBase, Account, with_entry}
-use Rattle.nb_model.specs.Jobs.{account_behind}
-use Rattle.nb_model.specs.Owner.{delta_name, owner}
-use Rattle.nb_model.specs.Run.{Event, account_after, with_made}
-use Rattle.nb_model.specs.Stands.{Stands}
-use Rattle.nb_model.specs.Strokes.{Stroke}
-use Rattle.nb_model.specs.Trail.{ShowsIn}
-use Rattle.nb_model.specs.Well.{IsWellBaseIn}
-use Rattle.nb_model.proofs.FreeLaws.{stands_files}
-use Rattle.nb_model.proofs.OpenedLaws.{stands_with_well_in}
-use Rattle.nb_model.proofs.OpeningLaws.{opened_in_use, with_kept}
-use Rattle.nb_model.proofs.StandsLaws.{no_main, stands_same}
-use Rattle.nb_top.specs.declared.status.Status.{Status}
+use Rattle.std.proofs.Common.{true≢false, ◌≡◌, ◌≢◌, ◌⊎◌, inl, inr, ℕ, List, [], ◌∷◌, true, false, refl, sym, ap, subst, ◌∙◌, Bool, Ok, Option, Some, None}
+use Rattle.nb_top.proofs.Common.{is_free_file, File, Files, with_file, is_delta, World, Leaves, LeavesAll, IsTimely, AtEachMoment, Other, left_with, weaker, decide, with_file-same, with_file-other, Kept, Base, Entry, IsBase, Account, with_entry, account_behind, delta_name, owner, Event, account_after, with_made, Stands, Stroke, ShowsIn, IsWellBaseIn, stands_files, stands_with_well_in, opened_in_use, with_kept, no_main, stands_same, Status, OneTurn, OfName, Was, IsAsWas, Read, IsOnItsWay, behind, TurnEnded, TurnLeft, TurnStands, leaves_all, HoldsKept, StandsFor, some_same}
 use Rattle.nb_top.specs.declared.status.Status.TheVariants.{Device, Memory}
-use Rattle.nb_top.specs.OneTurn.{OneTurn, OfName, Was, IsAsWas, Read, IsOnItsWay, behind, TurnEnded, TurnLeft, TurnStands, leaves_all}
-use Rattle.nb_top.specs.Standing.{HoldsKept, StandsFor}
 use Rattle.nb_top.proofs.OpenLaws.{none_shown}
 
 -- What a job that isn't refused leaves of the file of that name, half way and once it is done, and the entry that it has in the account after the
@@ -95,13 +70,10 @@ well_based old account job name plain w = record {
   gives = w.gives;
 }
 
-some_name : (a b : List ℕ) → Some a ≡ Some b → a ≡ b
-some_name a b e = cc
-
 -- a job on the file of that name
 pub sound_named : (old : World) (account : Account) (name : List ℕ) (job : OneTurn) → is_delta name ≡ false → job.name ≡ Some name → (leaves_all (job.turn account) ≡ false → IsWellDone old account job name) → IsSoundJob old account job
 sound_named old account name job plain named done = record {
-  plain = λ n is. subst (λ (m : List ℕ). is_delta m ≡ false) (some_name name n (sym named ∙ is)) plain;
+  plain = λ n is. subst (λ (m : List ℕ). is_delta m ≡ false) (some_same name n (sym named ∙ is)) plain;
   done = λ some. (name, named, done some);
 }
 

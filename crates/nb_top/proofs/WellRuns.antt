@@ -1,36 +1,11 @@
 -- A run is well after its first strokes: what was seen of its database is well along all further steps.
-use Rattle.std.proofs.Common.{◌≡◌, ◌≢◌, ◌⊎◌, inl, ℕ, ◌-◌, ◌+◌, ◌≤◌, List, [], ◌∷◌, ◌++◌, length, take, drop, true, sym, ap, subst, ◌∙◌, arith, take-append-drop}
-use Rattle.std.specs.Prelude.{Option, Some, Contains, true}
+use Rattle.std.proofs.Common.{◌≡◌, ◌≢◌, ◌⊎◌, inl, ℕ, ◌-◌, ◌+◌, ◌≤◌, List, [], ◌∷◌, ◌++◌, length, take, drop, true, sym, ap, subst, ◌∙◌, arith, take-append-drop, Option, Some, Contains}
+use Rattle.nb_top.proofs.Common.{Contains-append_left, is_header, stalled_state, Kept, Base, IsBase, Account, is_free_entry, IsGoing, IsMaking, first_page, image_state, MadeFile, IsOfKept, IsNoBackup, under_way, Given, Now, Event, Played, Opening, IsRest, base_now, begun, play, rounds, strokes_of, files_made, HasHeader, IsSoundImage, Step, settles, after_step, after_steps, steps_of, strokes_in, base_in, base_after, records_after, Trail, settled, IsWellTrail, IsGrown, begun_grown, own_in_use, seen_strokes, strokes_in_append, strokes_in_steps, free_play, play_is, WellAlong, kept_along, kept_append, kept_is, after_steps_append, steps_seen, IsAskable, Plan, MayBeGiven, seen_after}
 use Rattle.std.proofs.Math.Seq.{take-append-add}
-use Rattle.std.proofs.lemmas.List.Elements.{Contains-append_left}
-use Rattle.nb_fields.specs.Header.{is_header}
-use Rattle.nb_fields.specs.States.{stalled_state}
-use Rattle.nb_model.specs.Account.{Kept, Base, IsBase, Account}
-use Rattle.nb_model.specs.Causes.{is_free_entry}
-use Rattle.nb_model.specs.Going.{IsGoing, IsMaking}
-use Rattle.nb_model.specs.Image.{first_page, image_state}
-use Rattle.nb_model.specs.Making.{MadeFile, IsOfKept, IsNoBackup, under_way}
-use Rattle.nb_model.specs.Outcomes.{Given}
-use Rattle.nb_model.specs.Run.{Now, Event, Played, Opening, IsRest, base_now, begun, play, rounds, strokes_of, files_made}
-use Rattle.nb_model.specs.Sound.{HasHeader, IsSoundImage}
-use Rattle.nb_model.specs.Steps.{Step, settles, after_step, after_steps, steps_of, strokes_in}
-use Rattle.nb_model.specs.Strokes.{base_in, base_after, records_after}
-use Rattle.nb_model.specs.Trail.{Trail, settled}
-use Rattle.nb_model.specs.WellTrail.{IsWellTrail}
-use Rattle.nb_model.proofs.AccountLaws.{IsGrown, begun_grown}
-use Rattle.nb_model.proofs.GoingLaws.{own_in_use}
-use Rattle.nb_model.proofs.GuidLaws.{seen_strokes, strokes_in_append, strokes_in_steps}
 use Rattle.nb_model.proofs.HeaderLaws.{same-header, same-number}
 use Rattle.nb_model.proofs.MadeTurns.{first_recorded, play_of_kept}
-use Rattle.nb_model.proofs.MakingLaws.{free_play}
-use Rattle.nb_model.proofs.RunLaws.{play_is}
-use Rattle.nb_model.proofs.SteadyLaws.{WellAlong, kept_along, kept_append, kept_is}
 use Rattle.nb_model.proofs.SteadyTurns.{AllRecorded, play_along}
-use Rattle.nb_model.proofs.StepsLaws.{after_steps_append, steps_seen}
 use Rattle.nb_model.proofs.StrokeLaws.{records_after-append}
-use Rattle.nb_script.specs.Asked.{IsAskable}
-use Rattle.nb_script.specs.Scripts.{Plan}
-use Rattle.nb_top.specs.Performed.{MayBeGiven, seen_after}
 use Rattle.nb_top.proofs.FirstReady.{begins_going, begins_making, plain_play}
 use Rattle.nb_top.proofs.MadeStand.{IsNewFile}
 

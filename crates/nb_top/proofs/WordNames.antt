@@ -1,14 +1,6 @@
 -- The names that words may give.
-use Rattle.std.proofs.Common.{◌≡◌, ℕ, List, [], ◌∷◌, length, true, false, refl}
-use Rattle.std.specs.Prelude.{Bool, not, nat_le}
-use Rattle.std.specs.List.{AllByRecursion, list_all}
-use Rattle.std.proofs.lemmas.Bool.{and_parts}
-use Rattle.nb_host.specs.Names.{is_name, is_delta}
-use Rattle.nb_model.specs.Words.{is_database, is_file}
-
-not_true : (b : Bool) → not b ≡ true → b ≡ false
-not_true true h = cc
-not_true false h = refl
+use Rattle.std.proofs.Common.{◌≡◌, ℕ, List, [], ◌∷◌, length, true, false, not, nat_le}
+use Rattle.nb_top.proofs.Common.{AllByRecursion, list_all, and_parts, is_name, is_delta, is_database, is_file, not_true}
 
 -- no file that words name is a difference file
 pub plain_file : (name : List ℕ) → is_file name ≡ true → is_delta name ≡ false

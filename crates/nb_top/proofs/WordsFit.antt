@@ -1,16 +1,8 @@
 -- What words name fits: its names are those that words may give, by the rows of the grammar.
-use Rattle.std.proofs.Common.{◌≡◌, ℕ, ◌-◌, List, [], ◌∷◌, length, true, false, refl, subst, arith}
-use Rattle.std.specs.Prelude.{Bool, ◌&&◌, ◌==◌, nat_le, slice_index, codes, Option, Some, None}
-use Rattle.std.specs.List.{AllByRecursion, list_all}
-use Rattle.std.proofs.lemmas.Bool.{and_parts, leb-true}
-use Rattle.nb_host.specs.Names.{same_name}
-use Rattle.nb_model.specs.declared.job.Ask.{Ask}
-use Rattle.nb_model.specs.declared.job.Ask.TheVariants.{Stat, Check, Reclaim, Backup, BackupSince, Lock, LockWithSize, Unlock}
-use Rattle.nb_model.specs.declared.job.Deed.TheVariants.{Restore, Fixup, Apply, Fold}
-use Rattle.nb_model.specs.declared.job.Job.{Job}
-use Rattle.nb_model.specs.declared.job.Job.TheVariants.{Run, Gen, Attach, Turn, Plan as PlanOf}
-use Rattle.nb_model.specs.Words.{Word, Read, are_flags, is_database, is_file, job_if, number_in_word, count_in_word, asks_one, named_job, gen_job, plan_job, gen_or_plan, fold_job, plain_job, backup_job, restore_job, apply_job, ask_job, fixup_job, read_words, job_of_flags, job_read, job_of}
-use Rattle.nb_top.specs.Requests.{FitsAsk, FitsJob}
+use Rattle.std.proofs.Common.{◌≡◌, ℕ, ◌-◌, List, [], ◌∷◌, length, true, false, refl, subst, arith, Bool, ◌&&◌, ◌==◌, nat_le, slice_index, codes, Option, Some, None}
+use Rattle.nb_top.proofs.Common.{AllByRecursion, list_all, and_parts, leb-true, same_name, Ask, Stat, Check, Reclaim, Backup, BackupSince, Lock, LockWithSize, Unlock, Restore, Fixup, Apply, Fold, Job, Run, Gen, Attach, Turn, Word, are_flags, is_database, is_file, job_if, number_in_word, count_in_word, asks_one, named_job, gen_job, plan_job, gen_or_plan, fold_job, plain_job, backup_job, restore_job, apply_job, ask_job, fixup_job, read_words, job_of_flags, job_read, job_of, FitsAsk, FitsJob}
+use Rattle.nb_model.specs.declared.job.Job.TheVariants.{Plan as PlanOf}
+use Rattle.nb_model.specs.Words.{Read}
 
 -- The names of a job that words give.
 abbrev IfJob : Option Job → Type 0

@@ -1,23 +1,6 @@
 -- Worlds in which the files stand for an account as a run begins.
-use Rattle.std.proofs.Common.{◌≡◌, ◌≢◌, ℕ, List, [], refl, sym, ap, ◌∙◌, arith}
-use Rattle.std.specs.Prelude.{Some, None, Result, Ok, Err, IsTrue, is_some, false, Contains}
-use Rattle.std.proofs.lemmas.Bool.{true≢false}
-use Rattle.nb_fields.specs.Header.{is_header}
-use Rattle.nb_host.specs.Files.{File, Files}
-use Rattle.nb_host.specs.Names.{is_delta}
-use Rattle.nb_host.specs.World.{World}
-use Rattle.nb_host.specs.declared.refusals.Refusal.{Refusal}
-use Rattle.nb_model.specs.Account.{Kept, Base, Missing, IsBase, Account}
-use Rattle.nb_model.specs.Causes.{Cause, not_database}
-use Rattle.nb_model.specs.Image.{Image}
-use Rattle.nb_model.specs.Owner.{delta_name, owner, entry_of_files, entry_in}
-use Rattle.nb_model.specs.Stands.{Stands, Belongs, to_base, to_record}
-use Rattle.nb_model.proofs.FreeLaws.{stands_files}
-use Rattle.nb_model.proofs.FrontLaws.{owner_of_entry}
-use Rattle.nb_model.proofs.MainLaws.{owner-refused}
-use Rattle.nb_model.proofs.StandsLaws.{delta_named, formed_header, stands_same}
-use Rattle.nb_top.specs.Standing.{HoldsKept, StandsFor}
-use Rattle.nb_top.specs.Worlds.{StartsFrom, ArePlain, no_files, account_of, empty}
+use Rattle.std.proofs.Common.{◌≡◌, ◌≢◌, ℕ, List, [], refl, sym, ap, ◌∙◌, arith, Some, None, Ok, IsTrue, is_some, false, Contains}
+use Rattle.nb_top.proofs.Common.{true≢false, is_header, File, Files, is_delta, World, Kept, Base, Missing, IsBase, Account, Cause, not_database, Image, delta_name, owner, entry_of_files, entry_in, Stands, Belongs, to_base, to_record, stands_files, owner_of_entry, owner-refused, delta_named, formed_header, stands_same, HoldsKept, StandsFor, StartsFrom, ArePlain, no_files, account_of, empty, err_not_ok, none_some}
 use Rattle.nb_top.proofs.OpenLaws.{none_shown}
 
 -- A world that starts from files stands for each account for which they stand.
@@ -52,12 +35,9 @@ module _ (files : Files) (plain : ArePlain files) where
   not_opens : (name bytes : List ℕ) (b : Base) → is_header bytes ≡ false → owner name (Some bytes) (files (delta_name name)) ≢ Ok b
   not_opens name bytes b none opens = by (not_database bytes) refl
     where
-      err_ok : (answer : Result Base Refusal) (r : Refusal) → answer ≡ Err r → answer ≡ Ok b → ⊥
-      err_ok answer r e f = cc
-
       by : (c : Cause) → not_database bytes ≡ c → ⊥
       by None formed = true≢false (sym (formed_header bytes formed) ∙ none)
-      by (Some r) broken = err_ok (owner name (Some bytes) (files (delta_name name))) r (owner-refused name bytes (files (delta_name name)) r broken) opens
+      by (Some r) broken = err_not_ok r b (owner name (Some bytes) (files (delta_name name))) (owner-refused name bytes (files (delta_name name)) r broken) opens
 
   no_database : (name : List ℕ) (b : Base) → entry_in files name ≢ IsBase b
   no_database name b is = by (files name) refl (owner_of_entry name (files name) (files (delta_name name)) b is)
@@ -94,10 +74,7 @@ begins_plain w files plain starts = stands_from w files (account_of files []) st
 
 -- No files stand for the account without entries.
 none_plain : ArePlain no_files
-none_plain name bytes there = absurd (never there)
-  where
-    never : ◌≡◌ {A = File} None (Some bytes) → ⊥
-    never h = cc
+none_plain name bytes there = absurd (none_some bytes there)
 
 none_missing : (name : List ℕ) → entry_in no_files name ≡ Missing None
 unfolding entry_of_files

@@ -4,3 +4,4 @@ pub mod SpotLaws
 pub mod LinkLaws
 pub mod WalkLaws
 pub mod SpotPages
+mod Common

@@ -1,29 +1,14 @@
 -- Whether a page is one of a chain, by the tests of it in their order.
-use Rattle.std.proofs.Common.{◌≡◌, ℕ, length, refl, ap, ◌∙◌}
-use Rattle.std.specs.Prelude.{Bool, true, false, not, ◌&&◌, ◌==◌, nat_lt, Some, None}
-use Rattle.std.specs.List.{list_all}
+use Rattle.std.proofs.Common.{◌≡◌, ℕ, length, refl, ap, ◌∙◌, Bool, true, false, not, ◌&&◌, ◌==◌, nat_lt, Some, None}
+use Rattle.nb_walk.proofs.Common.{list_all, data_kind, Refusal, NotDatabase, Page, Image, page_at, when, Chain, owner_of, is_slot, slots_in, is_in_chain, owner_in, is_data, not_data, not_linked, is_so, and_right}
 use Rattle.nb_fields.specs.Page.{kind_of}
-use Rattle.nb_fields.specs.Kinds.{data_kind}
-use Rattle.nb_host.specs.declared.refusals.Refusal.{Refusal}
-use Rattle.nb_host.specs.declared.refusals.Refusal.TheVariants.{NotDatabase}
-use Rattle.nb_model.specs.Image.{Page, Image, page_at}
 use Rattle.nb_model.specs.Forms.{is_kind}
-use Rattle.nb_model.specs.Causes.{when}
-use Rattle.nb_model.specs.Chains.{Chain, owner_of, is_slot, slots_in, is_in_chain, owner_in}
-use Rattle.nb_model.proofs.ReadLaws.{and_no_right}
-use Rattle.nb_alloc.specs.Data.{is_data, not_data}
-use Rattle.nb_alloc.proofs.PutLaws.{none_of}
-use Rattle.nb_walk.specs.Walks.{not_linked}
+use Rattle.nb_alloc.proofs.DataLaws.{by_kind}
 
 and_groups : (a b c d : Bool) → (a && (b && (c && d))) ≡ (((a && b) && c) && d)
 and_groups true true c d = refl
 and_groups true false c d = refl
 and_groups false b c d = refl
-
--- what refuses the first of two tests refuses both
-first_refused : (one two : Bool) (q r : Refusal) → when (not one) q ≡ Some r → when (not (one && two)) q ≡ Some r
-first_refused false two q r e = e
-first_refused true two q r e = cc
 
 module _ (chain : Chain) (image : Image) (p : ℕ) where
   abbrev page : Page
@@ -41,13 +26,13 @@ module _ (chain : Chain) (image : Image) (p : ℕ) where
 
   -- it is no data page of that owner
   pub data_not : (r : Refusal) → not_data image (owner_of chain) p ≡ Some r → not_linked chain image p ≡ Some r
-  data_not r some = by_tests ∙ first_refused is_its all (NotDatabase p) r some
+  data_not r some = by_tests ∙ by_kind is_its all (NotDatabase p) r some
 
   -- a slot is of no form
   pub slots_not : all ≡ false → not_linked chain image p ≡ Some (NotDatabase p)
-  slots_not bad = by_tests ∙ ap (λ (t : Bool). when (not t) (NotDatabase p)) (and_no_right is_its all bad)
+  slots_not bad = by_tests ∙ ap (λ (t : Bool). when (not t) (NotDatabase p)) (and_right is_its all bad)
 
   -- it is one
   pub linked_yes : not_data image (owner_of chain) p ≡ None → all ≡ true → not_linked chain image p ≡ None
   linked_yes none good =
-      by_tests ∙ ap (λ (t : Bool). when (not (t && all)) (NotDatabase p)) (none_of is_its (NotDatabase p) none) ∙ ap (λ (t : Bool). when (not t) (NotDatabase p)) good
+      by_tests ∙ ap (λ (t : Bool). when (not (t && all)) (NotDatabase p)) (is_so is_its (NotDatabase p) none) ∙ ap (λ (t : Bool). when (not t) (NotDatabase p)) good

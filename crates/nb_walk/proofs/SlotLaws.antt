@@ -1,12 +1,7 @@
 -- The slots of a page, one by one.
-use Rattle.std.proofs.Common.{◌≡◌, ◌≢◌, ℕ, zero, suc, ◌+◌, ◌-◌, ◌*◌, ◌/◌, ◌<◌, ◌≤◌, List, [], ◌∷◌, ◌++◌, length, get_or, refl, sym, ap, ◌∙◌, arith, append_assoc}
-use Rattle.std.specs.Prelude.{Bool, true, false, ◌&&◌, ◌||◌, slice_index}
-use Rattle.std.specs.List.{list_all}
+use Rattle.std.proofs.Common.{◌≡◌, ◌≢◌, ℕ, zero, suc, ◌+◌, ◌-◌, ◌*◌, ◌/◌, ◌<◌, ◌≤◌, List, [], ◌∷◌, length, get_or, refl, sym, ap, ◌∙◌, arith, Bool, true, false, ◌&&◌, ◌||◌, slice_index}
+use Rattle.nb_walk.proofs.Common.{list_all, number_of, number_in, part, Page, Chain, Slot, is_used, is_filled, is_slot, slots_from, slots_in, eq_no, eq_yes}
 use Rattle.std.proofs.lemmas.Bool.{and_parts}
-use Rattle.nb_fields.specs.Bytes.{number_of, number_in, part}
-use Rattle.nb_model.specs.Image.{Page, Image, page_at}
-use Rattle.nb_model.specs.Chains.{Chain, Slot, Spot, is_used, is_filled, is_slot, slots_from, slots_in, spots_on, spots_of}
-use Rattle.nb_model.proofs.ReadLaws.{eq_no, eq_yes}
 
 -- a number of one byte is that byte
 pub byte_at : (at : ℕ) (bytes : List ℕ) → number_in at 1 bytes ≡ get_or bytes at 0
@@ -94,11 +89,3 @@ module _ (chain : Chain) (slot : Slot) where
 
   pub filled_of : is_slot chain slot ≡ true → first ≢ 0 → is_filled chain slot ≡ true
   filled_of form e = (and_parts (is_used slot) (is_filled chain slot) (sym (by_use e) ∙ form)).1
-
--- the slots of pages, and of pages after them
-pub spots_both : (image : Image) (ps qs : List ℕ) → spots_of image (ps ++ qs) ≡ spots_of image ps ++ spots_of image qs
-unfolding spots_of
-spots_both image [] qs = refl
-spots_both image (p ∷ ps) qs =
-    ap (λ (xs : List Spot). spots_on p 0 (slots_in (page_at image p)) ++ xs) (spots_both image ps qs)
-    ∙ sym (append_assoc (spots_on p 0 (slots_in (page_at image p))) (spots_of image ps) (spots_of image qs))

@@ -1,10 +1,9 @@
 -- Slots are come by one after the other, with their places. What was gathered of them, P says of the slots so far.
 use Rattle.std.proofs.Common.{◌≡◌, ℕ, ◌+◌, ◌-◌, ◌*◌, ◌/◌, ◌<◌, ◌≤◌, List, [], ◌∷◌, ◌++◌, length, refl, sym, ap, subst, ◌∙◌, arith, append_assoc}
+use Rattle.nb_walk.proofs.Common.{part, Page, Image, page_at, Chain, Slot, Spot, slots_from, slots_in, spots_on, spots_of, spots, found_pages}
 use Rattle.std.proofs.lemmas.List.{append-nil}
-use Rattle.nb_fields.specs.Bytes.{part}
-use Rattle.nb_model.specs.Image.{Page, Image, page_at}
-use Rattle.nb_model.specs.Chains.{Chain, Slot, Spot, slots_from, slots_in, spots_on, spots_of, spots, found_pages}
-use Rattle.nb_walk.proofs.SlotLaws.{slots_step, spots_both}
+use Rattle.nb_walk.proofs.SlotLaws.{slots_step}
+use Rattle.nb_model.proofs.GrowthTurns.{spots_both}
 
 -- What was gathered on a page, up to one slot.
 pub record Comes (P : List Spot → Type 0) (ss : List Spot) (page : Page) (number count slot : ℕ) : Type 0 where

@@ -1,10 +1,6 @@
 -- The pages of a chain that is of the form are data pages: those of its slots, and the last.
-use Rattle.std.proofs.Common.{◌≡◌, ℕ, List}
-use Rattle.std.specs.Prelude.{true, Bool, Some, None}
-use Rattle.nb_fields.specs.Kinds.{data_kind}
-use Rattle.nb_model.specs.Image.{Image}
-use Rattle.nb_model.specs.Causes.{not_kind, broken_at}
-use Rattle.nb_model.specs.Chains.{Chain, Spot, is_in_chain, pages_of, found_pages, spots, spots_of, first_such, free_spot, row_spot, last_of}
+use Rattle.std.proofs.Common.{◌≡◌, ℕ, List, true, Bool, Some, None}
+use Rattle.nb_walk.proofs.Common.{data_kind, Image, not_kind, broken_at, Chain, Spot, is_in_chain, pages_of, found_pages, spots, spots_of, first_such, free_spot, row_spot, last_of}
 use Rattle.nb_model.proofs.RoomLaws.{in_chain, pages_found, first_passes, last_of_all}
 use Rattle.nb_model.proofs.SpotLaws.{IsSpotOn, all_on}
 use Rattle.nb_alloc.proofs.TestLaws.{kind_is}

@@ -1,19 +1,9 @@
 -- A walk over a chain, page by page along the links. What came of it on the way, P says of the pages so far.
-use Rattle.std.proofs.Common.{◌≡◌, ◌≢◌, inl, inr, ℕ, suc, ◌+◌, ◌-◌, ◌<◌, List, [], ◌∷◌, ◌++◌, length, refl, sym, ap, subst, ◌∙◌, arith, append_assoc, length-append}
-use Rattle.std.specs.Prelude.{Bool, true, false, not, ◌==◌, Some, None, Result, Ok, Err}
+use Rattle.std.proofs.Common.{◌≡◌, ◌≢◌, inl, inr, ℕ, suc, ◌+◌, ◌-◌, ◌<◌, List, [], ◌∷◌, ◌++◌, length, refl, sym, ap, subst, ◌∙◌, arith, append_assoc, length-append, Bool, true, false, not, ◌==◌, Some, None, Result, Ok, Err}
+use Rattle.nb_walk.proofs.Common.{Refusal, NotDatabase, Image, page_at, when, broken_at, Chain, first_of, is_in_chain, next_in, linked, walk, pages_of, found_pages, last_of, eq_no, eq_yes, not_linked, is_so}
 use Rattle.std.proofs.lemmas.Bool.Decides.{eqb_tells}
-use Rattle.nb_host.specs.declared.refusals.Refusal.{Refusal}
-use Rattle.nb_host.specs.declared.refusals.Refusal.TheVariants.{NotDatabase}
-use Rattle.nb_model.specs.Image.{Image, page_at}
-use Rattle.nb_model.specs.Causes.{when, broken_at}
-use Rattle.nb_model.specs.Chains.{Chain, first_of, is_in_chain, next_in, linked, walk, pages_of, found_pages, last_of}
 use Rattle.nb_model.proofs.ChainWalks.{onward, walk_on_is, walk_zero, found_is}
-use Rattle.nb_model.proofs.ReadLaws.{eq_no, eq_yes}
-use Rattle.nb_alloc.proofs.PutLaws.{none_of}
-use Rattle.nb_walk.specs.Walks.{not_linked}
-
-none_some : (r : Refusal) → None ≡ Some r → ⊥
-none_some r e = cc
+use Rattle.nb_host.proofs.PlainLaws.{none_some}
 
 -- a test that is refused fails
 refused : (t : Bool) (q r : Refusal) → when (not t) q ≡ Some r → (t ≡ false) × (Some q ≡ Some r)
@@ -86,7 +76,7 @@ module _ (chain : Chain) (image : Image) (P : List ℕ → Type 0) (all number :
     next_page = next_in (page_at image number)
 
     is_linked : is_in_chain chain image number ≡ true
-    is_linked = none_of (is_in_chain chain image number) (NotDatabase number) none
+    is_linked = is_so (is_in_chain chain image number) (NotDatabase number) none
 
     ended : next_page ≡ 0 → pages_of chain image ≡ Ok (so.seen ++ number ∷ [])
     ended end = so.are ∙ ap (behind so.seen) (walk_ended chain image left number is_linked end)

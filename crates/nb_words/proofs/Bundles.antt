@@ -1,14 +1,7 @@
 -- A word of flags: each letter is counted, and the first that is no flag is refused.
 use Rattle.std.proofs.Common.{◌++◌, arith, ◌≡◌, ◌∙◌, ℕ, suc, ◌<◌, ◌≤◌, Bool, true, false, List, [], ◌∷◌, length, drop, Option, Some, None, unwrap_or, refl, ap, ap₂, sym, inl, inr, encode_utf8, slice_get, IsUtf8, nat_lt}
-use Rattle.std.specs.Str.{chars, chars_after, continuation_len, lead_bits}
-use Rattle.std.specs.List.{list_all}
-use Rattle.std.proofs.lemmas.Bool.{cases_Bool, cond-true, lt-ltb, and_parts, and_cases, both_ways}
-use Rattle.std.proofs.lemmas.Str.{encode_ascii, chars-encodes, byte_from_char, IsUtf8-past_char}
-use Rattle.clap.specs.Lexer.{usize_max}
-use Rattle.clap.specs.Words.{Rule, Text, Kinds}
-use Rattle.clap.specs.Kinds.{or_else}
-use Rattle.clap.specs.Walk.{bundle_met, bundle_step, short_met, Held, Outcome, done, plain}
-use Rattle.clap.specs.Faults.{flags_fault, bundle_step_fault, short_fault}
+use Rattle.nb_words.proofs.Common.{chars, chars_after, continuation_len, lead_bits, list_all, cases_Bool, cond-true, lt-ltb, and_parts, and_cases, both_ways, encode_ascii, chars-encodes, byte_from_char, IsUtf8-past_char, usize_max, Rule, Text, Kinds, or_else, bundle_met, bundle_step, short_met, Held, Outcome, done, flags_fault, bundle_step_fault, short_fault}
+use Rattle.clap.specs.Walk.{plain}
 use Rattle.clap.specs.declared.error.kind.ErrorKind.TheVariants as kind
 use Rattle.nb_words.proofs.Rules.{rules_for, is_in, short_found, short_missing}
 use Rattle.nb_words.proofs.UseLaws.{held, after_waiting, after_bundle, reacted_is, react_passes}

@@ -1,9 +1,6 @@
 -- The definition, word by word.
-use Rattle.std.proofs.lemmas.Bool.{cases_Bool, and_parts, and_from}
-use Rattle.std.proofs.Common.{ℕ, suc, ◌≤◌, ◌++◌, length, Option, None, IfSome, inl, inr, subst, sym, arith, ◌≡◌, true, false, List, [], ◌∷◌, drop, Some, None, refl, codes}
-use Rattle.std.specs.List.{list_all}
-use Rattle.nb_host.specs.Names.{same_name}
-use Rattle.nb_model.specs.Words.{Read, Word, read_words, with_word, with_flags, is_flags, is_flag}
+use Rattle.std.proofs.Common.{ℕ, suc, ◌≤◌, ◌++◌, length, Option, None, IfSome, inl, inr, subst, sym, arith, ◌≡◌, true, false, List, [], ◌∷◌, drop, Some, refl, codes}
+use Rattle.nb_words.proofs.Common.{cases_Bool, and_parts, and_from, list_all, same_name, Read, Word, read_words, with_word, with_flags, is_flags, is_flag}
 
 pub read_dashes : (w : Word) (ws : List Word) → same_name w (codes "--") ≡ true → read_words (w ∷ ws) ≡ Some (record { flags = []; plain = ws })
 unfolding read_words

@@ -1,17 +1,8 @@
 -- What comes after the walk: the waiting words are used, flags that weren't given count 0, and nothing more is refused.
 use Rattle.std.proofs.Common.{◌≡◌, ◌∙◌, ℕ, ◌==◌, ◌&&◌, ◌||◌, Bool, true, false, not, List, [], ◌∷◌, fold, None, unwrap_or, option_map, refl, ap, sym, subst, inl, inr, cond, codes}
-use Rattle.std.specs.List.{list_any}
-use Rattle.std.specs.Str.{bytes_eq}
-use Rattle.std.proofs.lemmas.Bool.{cases_Bool, cond-true, cond-false, and_left, and_right, or_parts, eqb-true, or_right}
-use Rattle.clap.specs.Words.{Row, Rule, Text, Kinds}
-use Rattle.clap.specs.Kinds.{check_kinds}
-use Rattle.clap.specs.Simple.{Shape}
+use Rattle.nb_words.proofs.Common.{list_any, bytes_eq, cases_Bool, cond-true, cond-false, and_left, and_right, or_parts, eqb-true, or_right, Row, Rule, Text, Kinds, check_kinds, Shape, has_row, with_default, with_values, reading_by, count_of, default_fault, given_default_fault, defaults_fault, check_fault, DefaultValue, words_id, words_in}
 use Rattle.clap.specs.Takes.{is_given}
-use Rattle.clap.specs.Walk.{has_row, with_default, with_values, reading_by, count_of}
 use Rattle.clap.specs.Facts.{explicit_source}
-use Rattle.clap.specs.Faults.{default_fault, given_default_fault, defaults_fault, check_fault}
-use Rattle.clap.specs.declared.parser.matches.ValueSource.TheVariants.{DefaultValue}
-use Rattle.nb_words.specs.Line.{words_id, words_in}
 use Rattle.nb_words.proofs.Rules.{rules_for, letter_rule, plain_rule, letter_is_not_words}
 use Rattle.nb_words.proofs.RowLaws.{first_row, count_at, first_later, other_values, values_alone}
 use Rattle.nb_words.proofs.UseLaws.{no_else}

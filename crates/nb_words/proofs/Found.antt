@@ -1,15 +1,8 @@
 -- From what `clap` found, by the table, to the job of the definition.
 use Rattle.std.proofs.Common.{MatchOption, ◌≡◌, ◌∙◌, ℕ, min, List, [], ◌∷◌, length, map, Option, Some, None, refl, ap, ap₂, sym, subst, codes, true, Bor}
-use Rattle.std.specs.List.{list_all}
-use Rattle.std.proofs.lemmas.List.{length-map}
-use Rattle.clap.specs.Words.{Row, count_of, rows_of, found_of}
-use Rattle.clap.specs.declared.parser.matches.ArgMatches.{ArgMatches}
+use Rattle.nb_words.proofs.Common.{list_all, length-map, Row, rows_of, found_of, ArgMatches, Word, Read, read_words, job_of, job_read, is_flag, Job, words_in, Holds, Shows, IsJobOf, counts_of, words_of, IsTheChoice, column_of, job_in, row_at, row_of}
+use Rattle.clap.specs.Words.{count_of}
 use Rattle.nb_fields.specs.Cases.{cell}
-use Rattle.nb_model.specs.Words.{Word, Read, read_words, job_of, job_read, is_flag}
-use Rattle.nb_model.specs.declared.job.Job.{Job}
-use Rattle.nb_words.specs.Line.{words_in}
-use Rattle.nb_words.specs.Read.{Holds, Shows, IsJobOf, counts_of, words_of}
-use Rattle.nb_words.specs.Choice.{IsTheChoice, column_of, job_in, row_at, row_of}
 use Rattle.nb_words.proofs.Defined.{AreFlags, all_flags}
 use Rattle.nb_words.proofs.Sets.{row_is}
 

@@ -1,18 +1,6 @@
 -- The jobs of the cells, by the words that they ask for.
-use Rattle.uuid.specs.Text.{parsed_hyphenated}
-use Rattle.nb_model.specs.declared.job.Ask.TheVariants.{Backup, BackupSince}
-use Rattle.nb_model.specs.declared.job.Deed.TheVariants.{Fold, Restore}
-use Rattle.nb_model.specs.declared.job.Job.TheVariants.{Run, Attach, Turn}
-use Rattle.std.proofs.lemmas.List.{take_more, take_all, map-append, get_or_default, length-map}
 use Rattle.std.proofs.Common.{drop, nat_le, take, ◌++◌, ◌-◌, ap₂, slice_index, ◌≡◌, ◌∙◌, ◌+◌, ◌<◌, ◌≤◌, ℕ, zero, suc, ◌&&◌, Bool, true, false, List, [], ◌∷◌, length, get_or, Option, Some, None, refl, ap, sym, subst, cond, arith, Bor, codes}
-use Rattle.std.specs.List.{list_all}
-use Rattle.std.specs.Prelude.{not}
-use Rattle.std.proofs.lemmas.Bool.{and_left, and_right, and_from, le-leb, true≢false}
-use Rattle.nb_host.specs.Names.{same_name}
-use Rattle.nb_model.specs.Words.{Word, is_database, is_file, job_if, asks_one, named_job, backup_job, fold_job, restore_job}
-use Rattle.nb_model.specs.declared.job.Job.{Job}
-use Rattle.nb_words.specs.Parts.{is_level, named}
-use Rattle.nb_words.specs.Read.{words_of}
+use Rattle.nb_words.proofs.Common.{parsed_hyphenated, Backup, BackupSince, Fold, Restore, Run, Attach, Turn, take_more, take_all, map-append, get_or_default, length-map, list_all, and_left, and_right, and_from, le-leb, same_name, Word, is_database, is_file, job_if, asks_one, named_job, backup_job, fold_job, restore_job, Job, is_level, named, words_of, some_same}
 
 refused : (b : Bool) (w : Word) → cond b (Some w) None ≡ None → b ≡ false
 refused true w e = absurd (cc)
@@ -24,11 +12,8 @@ pub asked_by_name : (verb name db : Word) (asked : Option Job) → same_name ver
 asked_by_name verb name db asked other is asks =
     subst (λ (b : Bool). asked ≡ elim b [ true ↦ job_if (is_file name) (Run name) | false ↦ elim (is_database name) [ true ↦ asks_one verb name | false ↦ None ] ]) (sym other) (by (is_database name) is)
   where
-    inner : (a b : Word) → Some a ≡ Some b → a ≡ b
-    inner a b e = cc
-
     by : (b : Bool) → cond b (Some name) None ≡ Some db → asked ≡ elim b [ true ↦ asks_one verb name | false ↦ None ]
-    by true e = asks ∙ ap (λ (n : Word). asks_one verb n) (sym (inner name db e))
+    by true e = asks ∙ ap (λ (n : Word). asks_one verb n) (sym (some_same name db e))
     by false e = absurd (cc e)
 
 -- ---- files
@@ -63,12 +48,7 @@ backup_unnamed since db file e =
     no_job (parsed_hyphenated since) (is_level since) (is_database db) (is_file file) (λ guid. Attach db (BackupSince guid file)) (Attach db (Backup (slice_index since 0 - 48) file)) (unnamed (is_database db) (is_file file) (db, file) e)
 
 levelled : (v d f : Bool) (db file : Word) (n l : ℕ) (p : Word × Word) → pair_if (d && f) (db, file) ≡ Some p → cond v (Some n) None ≡ Some l → Some (Attach p.0 (Backup l p.1)) ≡ job_if (v && d && f) (Attach db (Backup n file))
-levelled true true true db file n l p e h = ap₂ (λ (k : ℕ) (q : Word × Word). Some (Attach q.0 (Backup k q.1))) (sym (inner_number n l h)) (sym (inner_names (db, file) p e)) where
-  inner_number : (a b : ℕ) → Some a ≡ Some b → a ≡ b
-  inner_number a b e = cc
-
-  inner_names : (a b : Word × Word) → Some a ≡ Some b → a ≡ b
-  inner_names a b e = cc
+levelled true true true db file n l p e h = ap₂ (λ (k : ℕ) (q : Word × Word). Some (Attach q.0 (Backup k q.1))) (sym (some_same n l h)) (sym (some_same {X = Word × Word} (db, file) p e))
 levelled true true false db file n l p e h = absurd (cc)
 levelled true false f db file n l p e h = absurd (cc)
 levelled false d f db file n l p e h = absurd (cc)
@@ -159,10 +139,6 @@ restored (w ∷ ws) d db files least most named all =
 
 all_five : (a b c d e : Bool) → a ≡ true → b ≡ true → c ≡ true → d ≡ true → e ≡ true → (a && b && c && d && e) ≡ true
 all_five a b c d e f g h i j = and_from (a && b && c && d) e (all_four a b c d f g h i) j
-
-pub not_other : (b : Bool) → not b ≡ false → b ≡ true
-not_other true is = refl
-not_other false is = absurd (true≢false is)
 
 pub folded : (verb word : Word) (words : List (Bor Word)) (out : Word) (files : List Word) → same_name verb (codes "fold") ≡ true → 2 ≤ length words → length words ≤ 9
     → cond (is_file word) (Some word) None ≡ Some out

@@ -14,3 +14,4 @@ pub mod Table
 pub mod JobLaws
 pub mod Sets
 pub mod Found
+mod Common

@@ -1,11 +1,6 @@
 use Rattle.std.proofs.Common.{◌≡◌, refl, subst, true, List, Result, Ok, Err, IfOk, IfErr, OnOk, []}
-use Rattle.std.proofs.lemmas.Result.{IfOk-weaker}
-use Rattle.clap.specs.Words.{App, Text, HasMatchesOf, is_simple, is_simple_and_free, matches_of, rows_of, found_of, fault_of}
-use Rattle.clap.specs.Kinds.{FailsBy, HasKind, Kinds}
-use Rattle.clap.specs.declared.error.Error.{Error}
-use Rattle.clap.specs.declared.parser.matches.ArgMatches.{ArgMatches}
-use Rattle.clap.proofs.OnLiterals.{clap_on_literals}
-use Rattle.nb_words.specs.Line.{line}
+use Rattle.nb_words.proofs.Common.{IfOk-weaker, App, Text, HasMatchesOf, is_simple, is_simple_and_free, matches_of, rows_of, found_of, fault_of, FailsBy, HasKind, Error, ArgMatches, clap_on_literals, line}
+use Rattle.clap.specs.Kinds.{Kinds}
 
 pub line_is_simple : is_simple line ≡ true
 unfolding clap_on_literals line

@@ -1,11 +1,6 @@
 -- What a word looks like, to `clap` and to the definition.
 use Rattle.std.proofs.Common.{◌≡◌, ◌∙◌, ◌⊎◌, ℕ, ◌==◌, ◌&&◌, ◌||◌, true, false, List, [], ◌∷◌, length, drop, Option, Some, None, option_and_then, refl, ap, ap₂, sym, inl, inr, IsUtf8, nat_eq, codes, arith}
-use Rattle.std.specs.Str.{bytes_eq}
-use Rattle.std.specs.List.{list_all, list_any}
-use Rattle.std.proofs.lemmas.Bool.{cases_Bool, cond-true, cond-false, and_left, and_from, both_ways, eqb-true, eqb-false, eq-eqb, ne_eqb, le-leb}
-use Rattle.clap.specs.Lexer.{long_of, long_of_rest, short_of, short_of_rest, strip_byte, name_and_value}
-use Rattle.clap.specs.Words.{Text}
-use Rattle.nb_model.specs.Words.{is_flag, is_flags}
+use Rattle.nb_words.proofs.Common.{bytes_eq, list_all, list_any, cases_Bool, cond-true, cond-false, and_left, and_from, both_ways, eqb-true, eqb-false, eq-eqb, ne_eqb, le-leb, long_of, long_of_rest, short_of, short_of_rest, strip_byte, name_and_value, Text, is_flag, is_flags}
 use Rattle.nb_words.proofs.Rules.{is_in}
 use Rattle.nb_words.proofs.Bundles.{rest_is_text}
 use Rattle.nb_words.proofs.Steps.{IsPlain, IsBundle, IsLong, dashes}

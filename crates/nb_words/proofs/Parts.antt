@@ -1,13 +1,8 @@
 -- What one word reads as.
 use Rattle.std.proofs.Common.{◌≡◌, ◌∙◌, ◌<◌, ◌^◌, ℕ, ◌==◌, ◌&&◌, ◌||◌, not, Bool, true, false, List, [], ◌∷◌, length, drop, slice_index, Option, Some, None, Result, Ok, Err, refl, ap, sym, subst, inl, inr, cond, nat_le, nat_lt, arith}
-use Rattle.std.specs.List.{list_all}
+use Rattle.nb_words.proofs.Common.{list_all, cases_Bool, and_parts, leb-true, lt-ltb, ltb-true, ne_eqb, digit_value_digit, parsed, parsed_hyphenated, Word, number_in_word, is_plain_number}
 use Rattle.std.specs.Result.{result_ok, OkIff}
 use Rattle.std.specs.Str.Parse.{digits_value, without_leading_plus, IsNumeral, AllDigits, ParsesUnsigned}
-use Rattle.std.proofs.lemmas.Bool.{cases_Bool, and_parts, leb-true, lt-ltb, ltb-true, ne_eqb}
-use Rattle.std.proofs.lemmas.Str.{digit_value_digit}
-use Rattle.uuid.specs.Text.{parsed, parsed_hyphenated}
-use Rattle.nb_model.specs.Words.{Word, number_in_word}
-use Rattle.nb_words.specs.Parts.{is_plain_number}
 
 -- ---- GUIDs
 

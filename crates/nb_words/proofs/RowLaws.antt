@@ -1,11 +1,7 @@
 -- The rows of what was found: what a change of one id's row leaves, and what a count, a value or a default does.
 use Rattle.std.proofs.Common.{◌≡◌, ◌∙◌, ℕ, true, false, List, [], ◌∷◌, ◌++◌, Option, Some, None, unwrap_or, option_map, refl, ap, sym, inl, inr, cond, find}
-use Rattle.std.specs.Option.{option_map_or}
-use Rattle.std.specs.Str.{bytes_eq}
-use Rattle.std.proofs.lemmas.Bool.{cases_Bool, cond-true, cond-false}
-use Rattle.std.proofs.lemmas.Slice.Eq.{bytes_eq-Decides}
-use Rattle.clap.specs.Matches.{count_text}
-use Rattle.clap.specs.Walk.{with_count, with_values, without, stronger, Row, Text, at_row, count_of, all_of, first_as_count, new_count, more_values}
+use Rattle.nb_words.proofs.Common.{option_map_or, bytes_eq, cases_Bool, cond-true, cond-false, bytes_eq-Decides, count_text, with_count, with_values, without, stronger, at_row, count_of, all_of, first_as_count, new_count, more_values}
+use Rattle.clap.specs.Walk.{Row, Text}
 use Rattle.clap.specs.declared.builder.value_parser.Reading.{Reading}
 use Rattle.clap.specs.declared.parser.matches.ValueSource.{ValueSource}
 

@@ -1,11 +1,6 @@
 -- The rules of a command line of these flags: which one a letter, a long name, a place or an id finds.
 use Rattle.std.proofs.Common.{◌≡◌, ◌∙◌, ℕ, ◌==◌, ◌||◌, Bool, true, false, List, [], ◌∷◌, Option, Some, None, refl, ap, inl, inr, cond}
-use Rattle.std.specs.Str.{bytes_eq}
-use Rattle.std.proofs.lemmas.Bool.{cases_Bool, cond-true, cond-false, or_parts, or_cases, or_from, or_left, eqb-true, and_right}
-use Rattle.clap.specs.Simple.{filled, with_index}
-use Rattle.clap.specs.Words.{Rule, Text}
-use Rattle.clap.specs.Walk.{arg_by_short, arg_by_long, arg_by_index, arg_by_id}
-use Rattle.nb_words.specs.Line.{flag, plain, words_id}
+use Rattle.nb_words.proofs.Common.{bytes_eq, cases_Bool, cond-true, cond-false, or_parts, or_cases, or_from, or_left, eqb-true, and_right, filled, with_index, Rule, Text, arg_by_short, arg_by_long, arg_by_index, arg_by_id, flag, plain, words_id}
 
 -- the rule of a flag, and that of the plain words, once the command is built
 abbrev pub letter_rule : ℕ → Rule

@@ -1,12 +1,7 @@
 -- How often each flag was given tells which set of flags was given.
 use Rattle.std.proofs.Common.{◌⊎◌, slice_index, ◌≡◌, ◌∙◌, ◌+◌, ◌<◌, ℕ, ◌==◌, ◌&&◌, ◌||◌, Bool, true, false, min, List, [], ◌∷◌, length, refl, ap, ap₂, sym, subst, inl, inr, codes, nat_eq, nat_lt, arith}
-use Rattle.std.specs.List.{list_all, list_any, position_or_len}
+use Rattle.nb_words.proofs.Common.{list_all, list_any, position_or_len, bytes_eq-Decides, cases_Bool, and_parts, and_from, or_cases, eqb-true, eq-eqb, lt-ltb, ltb-true, true≢false, are_flags, is_flag, row_at, row_of, times, counts_of}
 use Rattle.std.specs.Cmp.Lexicographic.{pointwise}
-use Rattle.std.proofs.lemmas.Slice.Eq.{bytes_eq-Decides}
-use Rattle.std.proofs.lemmas.Bool.{cases_Bool, and_parts, and_from, or_cases, eqb-true, eq-eqb, lt-ltb, ltb-true, true≢false}
-use Rattle.nb_model.specs.Words.{are_flags, is_flag}
-use Rattle.nb_words.specs.Choice.{row_at, row_of}
-use Rattle.nb_words.specs.Read.{times, counts_of}
 use Rattle.nb_words.proofs.UseLaws.{times_hit, times_miss}
 use Rattle.nb_words.proofs.Looks.{turned}
 

@@ -1,15 +1,6 @@
 -- One word of the line: where the walk of `clap` stands after it, and what it refuses.
 use Rattle.std.proofs.Common.{◌≡◌, ◌∙◌, ◌++◌, ℕ, ◌≤◌, ◌<◌, Bool, true, false, List, [], ◌∷◌, length, Option, Some, None, unwrap_or, refl, ap, cond, IsUtf8}
-use Rattle.std.specs.Str.{bytes_eq}
-use Rattle.std.specs.List.{list_all}
-use Rattle.std.specs.Option.{option_map_or}
-use Rattle.std.proofs.lemmas.Bool.{cond-true, cond-false}
-use Rattle.clap.specs.Lexer.{usize_max, long_of, short_of}
-use Rattle.clap.specs.Words.{Text, Row, Kinds}
-use Rattle.clap.specs.Kinds.{or_else}
-use Rattle.clap.specs.Simple.{Shape}
-use Rattle.clap.specs.Walk.{Held, Outcome, Step, Waiting, Walk, plain_word, walked, word_met, after_step, to_positional, long_or_other, short_or_plain, after_flag, idle, positional, value, next, trailing}
-use Rattle.clap.specs.Faults.{turn_fault, word_fault, step_fault, positional_fault, stray_fault, flag_word_fault, bundle_fault, long_fault}
+use Rattle.nb_words.proofs.Common.{bytes_eq, list_all, option_map_or, cond-true, cond-false, usize_max, long_of, short_of, Text, Row, Kinds, or_else, Shape, Held, Outcome, Step, Waiting, Walk, plain_word, walked, word_met, after_step, to_positional, long_or_other, short_or_plain, after_flag, idle, positional, value, next, trailing, turn_fault, word_fault, step_fault, positional_fault, stray_fault, flag_word_fault, bundle_fault, long_fault}
 use Rattle.clap.specs.declared.error.kind.ErrorKind.TheVariants as kind
 use Rattle.nb_words.proofs.Rules.{rules_for, plain_rule, is_in, plain_by_index, long_missing}
 use Rattle.nb_words.proofs.UseLaws.{held, after_waiting, after_bundle}

@@ -1,14 +1,6 @@
 -- The table is the definition's choice: for any flags and plain words the cell stands for the job that they name.
 use Rattle.std.proofs.Common.{◌≡◌, ◌∙◌, ◌≤◌, ℕ, zero, suc, ◌==◌, ◌&&◌, Bool, true, false, min, List, [], ◌∷◌, length, drop, slice_index, Option, None, refl, ap, sym, codes, nat_le, arith}
-use Rattle.nb_host.specs.Names.{same_name}
-use Rattle.std.specs.List.{list_all, position_or_len, slice_index_or}
-use Rattle.std.proofs.lemmas.Bool.{and_left, and_right, and_parts, eqb-true, lt-leb}
-use Rattle.nb_model.specs.Words.{Word, are_flags, job_read, job_of_flags, job_if, plain_job, fold_job, backup_job, restore_job, apply_job, ask_job, fixup_job, is_database, is_file}
-use Rattle.nb_model.specs.declared.job.Ask.TheVariants.{Lock, LockWithSize, Unlock}
-use Rattle.nb_model.specs.declared.job.Deed.TheVariants.{Restore, Fold}
-use Rattle.nb_model.specs.declared.job.Job.{Job}
-use Rattle.nb_model.specs.declared.job.Job.TheVariants.{Turn}
-use Rattle.nb_words.specs.Choice.{IsTheChoice, choices, column_of, job_in}
+use Rattle.nb_words.proofs.Common.{same_name, list_all, position_or_len, slice_index_or, and_left, and_right, and_parts, eqb-true, lt-leb, Word, are_flags, job_read, job_of_flags, job_if, plain_job, fold_job, backup_job, restore_job, apply_job, ask_job, fixup_job, is_database, is_file, Lock, LockWithSize, Unlock, Restore, Fold, Job, Turn, IsTheChoice, choices, column_of, job_in}
 
 -- from a column on a row has zeros
 zero_from : (row : List ℕ) (k i : ℕ) → list_all (λ c. c == 0) (drop k row) ≡ true → k ≤ i → slice_index row i ≡ 0

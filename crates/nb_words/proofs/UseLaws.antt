@@ -1,19 +1,8 @@
 -- One more flag, one more plain word, and the plain words that wait: what was seen so far, and that none of it is refused.
 use Rattle.std.proofs.Common.{◌≡◌, ◌∙◌, ℕ, ◌+◌, ◌<◌, ◌≤◌, ◌==◌, min, Bool, true, false, List, [], ◌∷◌, ◌++◌, length, Option, Some, None, unwrap_or, option_map, refl, ap, sym, subst, inl, inr, pos, arith, nat_lt, append-nil, append_assoc}
-use Rattle.std.specs.Option.{option_map_or}
-use Rattle.std.specs.Str.{bytes_eq}
-use Rattle.std.proofs.lemmas.Bool.{cases_Bool, cond-true, cond-false, and_left, and_right, eqb-true, agree_below_at, le-ltb}
-use Rattle.clap.specs.Matches.{count_text}
-use Rattle.clap.specs.Lexer.{usize_max}
-use Rattle.clap.specs.Words.{Row, Text, Kinds}
-use Rattle.clap.specs.Kinds.{or_else, values_kinds, range_kinds}
+use Rattle.nb_words.proofs.Common.{option_map_or, bytes_eq, cases_Bool, cond-true, cond-false, and_left, and_right, eqb-true, agree_below_at, le-ltb, count_text, usize_max, Row, Text, Kinds, or_else, values_kinds, range_kinds, use_fault, settle_fault, react_fault, Held, used, used_by_id, settled, settled_rows, reacted, with_values, without, reading_by, count_of, values_or_missing, CommandLine, words_id, words_in, times}
 use Rattle.clap.specs.ValueTests.{accepts}
-use Rattle.clap.specs.Faults.{use_fault, settle_fault, react_fault}
-use Rattle.clap.specs.Walk.{Held, used, used_by_id, settled, settled_rows, reacted, with_values, without, reading_by, count_of, values_or_missing}
-use Rattle.clap.specs.declared.parser.matches.ValueSource.TheVariants.{CommandLine}
 use Rattle.clap.specs.declared.builder.value_parser.ValueParser.TheVariants as vp
-use Rattle.nb_words.specs.Line.{words_id, words_in}
-use Rattle.nb_words.specs.Read.{times}
 use Rattle.nb_words.proofs.Rules.{rules_for, letter_rule, plain_rule, plain_by_id, letter_is_not_words}
 use Rattle.nb_words.proofs.RowLaws.{count_at, count_written, other_count, other_values, other_without, values_written}
 

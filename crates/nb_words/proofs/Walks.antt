@@ -1,18 +1,7 @@
 -- The walk of `clap` over all words is the reading of the definition.
 use Rattle.std.proofs.Common.{◌≡◌, ◌∙◌, ◌++◌, ◌+◌, ◌<◌, ◌≤◌, ℕ, Bool, true, false, List, [], ◌∷◌, length, drop, fold, Option, Some, None, unwrap_or, refl, ap, sym, subst, inl, inr, IsUtf8, codes, arith, append-nil, append_assoc}
-use Rattle.std.specs.List.{list_all, AllByRecursion}
-use Rattle.std.proofs.lemmas.Bool.{cases_Bool, both_ways}
-use Rattle.std.proofs.lemmas.List.{length-append}
-use Rattle.clap.specs.Lexer.{usize_max}
-use Rattle.clap.specs.Words.{Row, Text, Kinds}
-use Rattle.clap.specs.Kinds.{or_else}
-use Rattle.clap.specs.Simple.{Shape}
-use Rattle.clap.specs.Walk.{Walk, walked}
-use Rattle.clap.specs.Faults.{turn_fault, walk_fault}
+use Rattle.nb_words.proofs.Common.{list_all, AllByRecursion, cases_Bool, both_ways, length-append, usize_max, Row, Text, Kinds, or_else, Shape, Walk, walked, turn_fault, walk_fault, same_name, Read, read_words, with_word, with_flags, is_flags, is_flag, words_in}
 use Rattle.clap.specs.declared.error.kind.ErrorKind.TheVariants as kind
-use Rattle.nb_host.specs.Names.{same_name}
-use Rattle.nb_model.specs.Words.{Read, read_words, with_word, with_flags, is_flags, is_flag}
-use Rattle.nb_words.specs.Line.{words_in}
 use Rattle.nb_words.proofs.Rules.{rules_for, is_in}
 use Rattle.nb_words.proofs.UseLaws.{Seen, seen_settled, seen_word, seen_bundle, after_bundle, after_waiting}
 use Rattle.nb_words.proofs.Steps.{stand, shape, trailing_step, trailing_passes, plain_step, plain_passes, dashes_step, dashes_pass, bundle_step, bundle_turn, bundle_refuses, long_refuses}

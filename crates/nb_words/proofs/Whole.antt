@@ -1,24 +1,8 @@
 -- What `clap` finds in the words, and what it refuses, is what the definition reads.
-use Rattle.std.proofs.lemmas.Str.{IsUtf8-string_bytes}
 use Rattle.std.proofs.Common.{map, string_bytes, String, nat_lt, ◌≡◌, ◌∙◌, ◌<◌, ◌≤◌, ℕ, ◌==◌, Bool, true, false, List, [], ◌∷◌, length, fold, Option, Some, None, is_some, IsUtf8, refl, ap, sym, subst, inl, inr, codes, append-nil, arith}
-use Rattle.std.specs.List.{list_all, AllByRecursion}
-use Rattle.std.proofs.lemmas.Bool.{or_cases, eqb-true, and_parts, ltb-true}
-use Rattle.clap.specs.Lexer.{usize_max}
-use Rattle.clap.specs.Words.{App, Row, Text, Kinds, built, fault_of, matches_of}
-use Rattle.clap.specs.Kinds.{or_else, HasKind, IsAmong}
+use Rattle.nb_words.proofs.Common.{IsUtf8-string_bytes, list_all, AllByRecursion, or_cases, eqb-true, and_parts, ltb-true, usize_max, App, Row, Text, Kinds, built, fault_of, matches_of, or_else, HasKind, IsAmong, rows_of, found_of, Error, ArgMatches, length-map, Shape, names_of, entered, argument_words, Walk, walk_from, nothing_held, settled, finished, with_default, rows_after, built_fault, entered_fault, walk_fault, settle_fault, defaults_fault, check_fault, clap_on_literals, Read, read_words, line, words_in, Shows, Holds}
 use Rattle.clap.specs.Values.{kind_of}
-use Rattle.clap.specs.Words.{rows_of, found_of}
-use Rattle.clap.specs.declared.error.Error.{Error}
 use Rattle.clap.specs.declared.error.kind.ErrorKind.TheVariants as kind
-use Rattle.clap.specs.declared.parser.matches.ArgMatches.{ArgMatches}
-use Rattle.std.proofs.lemmas.List.{length-map}
-use Rattle.clap.specs.Simple.{Shape, names_of, entered, argument_words}
-use Rattle.clap.specs.Walk.{Walk, walk_from, nothing_held, settled, finished, with_default, rows_after}
-use Rattle.clap.specs.Faults.{built_fault, entered_fault, walk_fault, settle_fault, defaults_fault, check_fault}
-use Rattle.clap.proofs.OnLiterals.{clap_on_literals}
-use Rattle.nb_model.specs.Words.{Read, read_words}
-use Rattle.nb_words.specs.Line.{line, words_in}
-use Rattle.nb_words.specs.Read.{Shows, Holds}
 use Rattle.nb_words.proofs.Rules.{rules_for, is_in}
 use Rattle.nb_words.proofs.UseLaws.{Seen, held, after_waiting, settled_is, seen_settled, waiting_pass, no_else}
 use Rattle.nb_words.proofs.Steps.{stand, shape}

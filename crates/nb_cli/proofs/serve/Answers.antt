@@ -1,6 +1,5 @@
 use Rattle.std.proofs.Common.{sym, subst}
-use Rattle.nb_top.specs.Requests.{IsAskedBy}
-use Rattle.nb_cli.specs.Ended.{EndsRun}
+use Rattle.nb_cli.proofs.Common.{IsAskedBy, EndsRun}
 use Rattle.nb_cli.proofs.ReadWords.{asked_by, can_be_read}
 use Rattle.nb_cli.proofs.serve.Goals as goal
 

@@ -1,5 +1,4 @@
-use Rattle.std.proofs.Common.{◌≢◌, ℕ, [], ◌∷◌, sym, ap, ◌∙◌, arith}
-use Rattle.std.specs.Prelude.{true, false}
+use Rattle.std.proofs.Common.{◌≢◌, ℕ, [], ◌∷◌, sym, ap, ◌∙◌, arith, true, false}
 use Rattle.nb_alloc.proofs.BehindLaws.{entry_absent, entry_there, entry_lacks}
 use Rattle.nb_alloc.proofs.PassLaws.{entries_found}
 use Rattle.nb_alloc.proofs.PutLaws.{scn_page-without, other-with}

@@ -1,6 +1,5 @@
-use Rattle.std.proofs.Common.{sym, ap, ◌∙◌}
-use Rattle.std.specs.Prelude.{Some}
-use Rattle.nb_host.specs.declared.refusals.Refusal.TheVariants.{NotDatabase}
+use Rattle.std.proofs.Common.{sym, ap, ◌∙◌, Some}
+use Rattle.nb_alloc.proofs.Common.{NotDatabase}
 use Rattle.nb_alloc.proofs.BehindLaws.{judged_page, judged_other}
 use Rattle.nb_alloc.proofs.behind.lower.Goals as goal
 

@@ -1,8 +1,5 @@
-use Rattle.std.proofs.Common.{◌≡◌, ℕ, [], ◌∷◌, ◌++◌, sym, ap, subst, ◌∙◌}
-use Rattle.std.specs.Prelude.{Option, Some}
-use Rattle.nb_host.specs.declared.refusals.Refusal.TheVariants.{NotDatabase}
-use Rattle.nb_model.specs.Causes.{lowest_broken}
-use Rattle.nb_alloc.specs.Behind.{page_in}
+use Rattle.std.proofs.Common.{◌≡◌, ℕ, [], ◌∷◌, ◌++◌, sym, ap, subst, ◌∙◌, Option, Some}
+use Rattle.nb_alloc.proofs.Common.{NotDatabase, lowest_broken, page_in}
 use Rattle.nb_alloc.proofs.BehindLaws.{lower_cause, page_alone}
 use Rattle.nb_alloc.proofs.behind.lower_page.Goals as goal
 

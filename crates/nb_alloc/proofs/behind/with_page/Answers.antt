@@ -1,8 +1,5 @@
-use Rattle.std.proofs.Common.{◌≡◌, List, ℕ, ◌∷◌, ◌++◌, sym, ap, subst, ◌∙◌}
-use Rattle.std.specs.Prelude.{Bool, true, Result, Err}
-use Rattle.nb_host.specs.declared.faults.Fault.{Fault}
-use Rattle.nb_state.specs.Does.{Tested}
-use Rattle.nb_alloc.specs.Behind.{judged, page_if}
+use Rattle.std.proofs.Common.{◌≡◌, List, ℕ, ◌∷◌, ◌++◌, sym, ap, subst, ◌∙◌, Bool, true, Result, Err}
+use Rattle.nb_alloc.proofs.Common.{Fault, Tested, judged, page_if}
 use Rattle.nb_alloc.proofs.BehindLaws.{judged_none}
 use Rattle.nb_alloc.proofs.behind.with_page.Goals as goal
 

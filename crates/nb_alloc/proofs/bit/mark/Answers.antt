@@ -1,13 +1,8 @@
 use Rattle.std.proofs.Common.{◌/◌, ◌<◌, ℕ, sym, ap, subst, ◌∙◌, arith}
-use Rattle.nb_fields.specs.Places.{bits_in, inventory_place}
-use Rattle.nb_fields.specs.Kinds.{inventory_kind}
-use Rattle.nb_model.specs.Image.{page_at}
-use Rattle.nb_model.specs.Causes.{not_kind}
+use Rattle.nb_alloc.proofs.Common.{bits_in, inventory_place, inventory_kind, page_at, not_kind, Held, inventory_place-some}
 use Rattle.nb_alloc.proofs.TestLaws.{inventory_place_is}
 use Rattle.nb_alloc.proofs.MarkLaws.{mark_other}
 use Rattle.nb_alloc.proofs.DoesLaws.{tries_early, tries_after}
-use Rattle.nb_alloc.proofs.SearchReads.{inventory_place_some}
-use Rattle.nb_state.specs.Open.{Held}
 use Rattle.nb_alloc.proofs.WantLaws.{stops_after}
 use Rattle.nb_alloc.proofs.bit.mark.Goals as goal
 
@@ -17,7 +12,7 @@ returns-in_err-read-clause-tries g c t tells is =
     let read = c.in_err-read.ensures in
     let at = inventory_place_is image _ c.args.number _ _ c.place_of.ensures c.covers-k.ensures.number (c.page_size-page_size.ensures.value ∙ is.files.agrees.page_size) in
     tries_early (Unit {0}) (Unit {0}) _ _ _ _ _ _ t (not_kind image inventory_kind c.place_of.result) _ _ c.from_residual.ensures (λ r e. mark_other t.base c.args.number r (ap (λ (q : ℕ). not_kind image inventory_kind q) (sym at) ∙ e))
-    (read.reads t tells is).test read.same read.quiet is (read.open t tells is)
+    (read.reads t tells is).test read.looks.same read.looks.quiet is (read.looks.opened t tells is)
 
 pub returns-clause-tries : goal.returns-clause-tries
 returns-clause-tries g c t tells is =
@@ -25,27 +20,27 @@ returns-clause-tries g c t tells is =
     let read = c.in_ok-read.ensures in
     let found = read.reads t tells is in
     let at = inventory_place_is image _ c.args.number _ _ c.place_of.ensures c.covers-k.ensures.number (c.page_size-page_size.ensures.value ∙ is.files.agrees.page_size) in
-    tries_after c.put_map.result _ _ _ _ _ _ t _ _ read.same read.quiet is
-    (c.put_map.ensures.tries t tells (read.open t tells is) (ap (λ (q : ℕ). not_kind image inventory_kind q) (sym at) ∙ found.test) (found.page ∙ ap (λ (q : ℕ). page_at image q) at))
+    tries_after c.put_map.result _ _ _ _ _ _ t _ _ read.looks.same read.looks.quiet is
+    (c.put_map.ensures.tries t tells (read.looks.opened t tells is) (ap (λ (q : ℕ). not_kind image inventory_kind q) (sym at) ∙ found.test) (found.page ∙ ap (λ (q : ℕ). page_at image q) at))
 
 pub returns-in_err-read-clause-once : goal.returns-in_err-read-clause-once
 returns-in_err-read-clause-once g c tells =
-    let some = inventory_place_some c.page_size-page_size.result c.covers-k.result.0 c.page_size-page_size.ensures.one_of in
+    let some = inventory_place-some c.page_size-page_size.result c.covers-k.result.0 c.page_size-page_size.ensures.one_of in
     let read = c.in_err-read.ensures.once tells (omega (arith, some, c.place_of.ensures)) in
     omega (arith, read)
 
 pub returns-clause-once : goal.returns-clause-once
 returns-clause-once g c tells =
-    let some = inventory_place_some c.page_size-page_size.result c.covers-k.result.0 c.page_size-page_size.ensures.one_of in
+    let some = inventory_place-some c.page_size-page_size.result c.covers-k.result.0 c.page_size-page_size.ensures.one_of in
     let read = c.in_ok-read.ensures.once tells (omega (arith, some, c.place_of.ensures)) in
     omega (arith, read, c.put_map.ensures.once tells)
 
 pub returns-clause-on_memory : goal.returns-clause-on_memory
 returns-clause-on_memory g c t tells is memory =
     let read = c.in_ok-read.ensures in
-    stops_after _ _ _ c.args.store.now _ c.put_map.new.store t _ read.same read.quiet is (c.put_map.ensures.on_memory t tells (read.open t tells is) memory)
+    stops_after _ _ _ c.args.store.now _ c.put_map.new.store t _ read.looks.same read.looks.quiet is (c.put_map.ensures.on_memory t tells (read.looks.opened t tells is) memory)
 
 pub put_map-requires-clause-inside : goal.put_map-requires-clause-inside
 put_map-requires-clause-inside g c =
     let at = c.place_of.ensures ∙ ap (λ (k : ℕ). inventory_place c.page_size-page_size.result k) c.covers-k.ensures.number ∙ ap (λ (s : ℕ). inventory_place s (c.args.number / bits_in s)) c.page_size-page_size.ensures.value in
-    subst (λ (h : Held). inventory_place h.files.page_size (c.args.number / bits_in h.files.page_size) < h.files.count) (sym c.in_ok-read.ensures.same) (omega (arith, at, c.in_ok-read.ensures.below))
+    subst (λ (h : Held). inventory_place h.files.page_size (c.args.number / bits_in h.files.page_size) < h.files.count) (sym c.in_ok-read.ensures.looks.same) (omega (arith, at, c.in_ok-read.ensures.below))

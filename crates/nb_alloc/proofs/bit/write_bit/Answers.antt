@@ -1,8 +1,5 @@
 use Rattle.std.proofs.Common.{ap, ◌∙◌}
-use Rattle.nb_host.specs.Faults.{as_answer}
-use Rattle.nb_model.specs.Image.{Page}
-use Rattle.nb_model.specs.Strokes.{page}
-use Rattle.nb_alloc.specs.Mark.{bit_for}
+use Rattle.nb_alloc.proofs.Common.{as_answer, Page, page, bit_for}
 use Rattle.nb_alloc.proofs.MarkLaws.{bit_stroke-is}
 use Rattle.nb_alloc.proofs.PageLaws.{makes_one}
 use Rattle.nb_alloc.proofs.bit.write_bit.Goals as goal

@@ -1,6 +1,5 @@
 use Rattle.std.proofs.Common.{ap, sym, ◌∙◌}
-use Rattle.nb_fields.specs.Kinds.{inventory_kind}
-use Rattle.nb_model.specs.Causes.{not_kind}
+use Rattle.nb_alloc.proofs.Common.{inventory_kind, not_kind}
 use Rattle.nb_alloc.proofs.DoesLaws.{tested_by_name}
 use Rattle.nb_alloc.proofs.TestLaws.{inventory_place_is}
 use Rattle.nb_alloc.proofs.find.hold_map.Goals as goal

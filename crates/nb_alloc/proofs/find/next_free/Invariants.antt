@@ -1,13 +1,5 @@
-use Rattle.std.proofs.Common.{◌≡◌, ℕ, ◌+◌, ◌-◌, ◌*◌, ◌/◌, ◌<◌, ◌≤◌, length, IsTrue}
-use Rattle.std.specs.Prelude.{true, min}
-use Rattle.nb_page.specs.Quiet.{Quiet}
-use Rattle.nb_model.specs.Trail.{Trail}
-use Rattle.nb_model.specs.Image.{image_size}
-use Rattle.nb_model.specs.Forms.{is_kind}
-use Rattle.nb_state.specs.Open.{IsOpen, but_pages}
-use Rattle.nb_alloc.specs.Find.{AreTaken, IsMap}
-use Rattle.nb_fields.specs.Places.{bits_in, inventory_place, most_pages}
-use Rattle.nb_fields.specs.Kinds.{inventory_kind}
+use Rattle.std.proofs.Common.{◌≡◌, ℕ, ◌+◌, ◌-◌, ◌*◌, ◌/◌, ◌<◌, ◌≤◌, length, IsTrue, true, min}
+use Rattle.nb_alloc.proofs.Common.{Trail, image_size, is_kind, IsOpen, AreTaken, IsMap, bits_in, inventory_place, most_pages, inventory_kind, Looks}
 use Rattle.nb_alloc.proofs.FindLaws.{maps_before}
 use Rattle.nb_alloc.proofs.find.next_free.Given as goal
 
@@ -19,9 +11,7 @@ invariant-loop-page g l = record {
   maps : (t : Trail) → IsTrue g.H.Host.tells → IsOpen (g.H.Host.world l.fn.host) l.fn.store t → (k : ℕ) → l.fn.from / bits_in (image_size t.base.image) ≤ k → k < l.page / bits_in (image_size t.base.image) → is_kind t.base.image inventory_kind (inventory_place (image_size t.base.image) k) ≡ true;
   whole : l.fn.from < l.page → l.page / bits_in l.fn.store.files.page_size * bits_in l.fn.store.files.page_size ≡ l.page;
   room : length l.map ≡ length l.fn.map;
-  opened : (t : Trail) → IsTrue g.H.Host.tells → IsOpen (g.H.Host.world l.fn.host) l.fn.store t → IsOpen (g.H.Host.world l.host) l.store t;
-  same : but_pages l.store ≡ but_pages l.fn.store;
-  quiet : Quiet (g.H.Host.world l.fn.host) (g.H.Host.world l.host);
+  looks : Looks g.H.Host.tells (g.H.Host.world l.fn.host) (g.H.Host.world l.host) l.fn.store l.store;
   once : IsTrue g.H.Host.tells → (g.H.Host.world l.host).reads ≤ (g.H.Host.world l.fn.host).reads + maps_before (bits_in l.fn.store.files.page_size) l.fn.from l.page l.fn.store.files.count;
   cause : g.H.Host.faults l.host ≡ g.H.Host.faults l.fn.host;
 }

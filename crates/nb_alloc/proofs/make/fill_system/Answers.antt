@@ -1,9 +1,5 @@
-use Rattle.std.proofs.Common.{◌≡◌, ℕ, ◌+◌, ◌-◌, ◌/◌, List, ◌++◌, length, take, sym, ap, ◌∙◌, subst}
-use Rattle.std.specs.Prelude.{IsTrue, true, false}
-use Rattle.nb_fields.specs.Places.{is_page_size, bits_in, entries_in, is_inventory_place}
-use Rattle.nb_fields.specs.Payloads.{inventory_payload, scn_payload}
-use Rattle.nb_model.specs.Image.{image_size}
-use Rattle.nb_model.specs.Forms.{system_payload}
+use Rattle.std.proofs.Common.{◌≡◌, ℕ, ◌+◌, ◌-◌, ◌/◌, List, ◌++◌, length, take, sym, ap, ◌∙◌, subst, IsTrue, true, false}
+use Rattle.nb_alloc.proofs.Common.{is_page_size, bits_in, entries_in, is_inventory_place, inventory_payload, scn_payload, image_size, system_payload}
 use Rattle.nb_alloc.proofs.MakeLaws.{filled_page, payload_of_place, payload_whole}
 use Rattle.nb_alloc.proofs.make.fill_system.Goals as goal
 

@@ -1,12 +1,5 @@
-use Rattle.std.proofs.Common.{◌≡◌, ℕ, refl, sym, ap, ◌∙◌, arith}
-use Rattle.std.specs.Prelude.{true, false, None, Ok, Err}
-use Rattle.nb_fields.specs.Kinds.{code_of}
-use Rattle.nb_fields.specs.Places.{is_system_place}
-use Rattle.nb_page.proofs.QuietLaws.{quiet_begun}
-use Rattle.nb_model.specs.Image.{image_size}
-use Rattle.nb_base.specs.Takes.{after_strokes}
-use Rattle.nb_state.proofs.MakesLaws.{goes_on, goes_nowhere}
-use Rattle.nb_alloc.specs.Make.{content}
+use Rattle.std.proofs.Common.{◌≡◌, ℕ, refl, sym, ap, ◌∙◌, arith, true, false, None, Ok, Err}
+use Rattle.nb_alloc.proofs.Common.{code_of, is_system_place, quiet_begun, image_size, after_strokes, goes_on, goes_nowhere, content}
 use Rattle.nb_alloc.proofs.DoesLaws.{tries_valued, tries_on}
 use Rattle.nb_alloc.proofs.NewLaws.{so_far_begun, supplied, goes_onward, round_failed, round_done, last_number, last_round}
 use Rattle.nb_alloc.proofs.make.make_new.Goals as goal

@@ -1,14 +1,5 @@
 use Rattle.std.proofs.Common.{◌≡◌, ◌<◌, ◌≤◌, ◌+◌, ◌-◌, ◌*◌, length, IsTrue, None}
-use Rattle.nb_fields.specs.Kinds.{code_of}
-use Rattle.nb_fields.specs.Places.{most_pages}
-use Rattle.nb_model.specs.Trail.{Trail}
-use Rattle.nb_model.specs.Forms.{lowest_free}
-use Rattle.nb_model.proofs.SearchLaws.{draft_cause}
-use Rattle.nb_state.specs.Open.{IsOpen}
-use Rattle.nb_state.specs.Does.{Goes}
-use Rattle.nb_alloc.specs.Find.{HoldsMap}
-use Rattle.nb_alloc.specs.Make.{content, new_of}
-use Rattle.nb_alloc.specs.Search.{IsSearchable}
+use Rattle.nb_alloc.proofs.Common.{code_of, most_pages, Trail, lowest_free, draft_cause, IsOpen, Goes, HoldsMap, content, new_of, IsSearchable}
 use Rattle.nb_alloc.proofs.NewLaws.{SoFar}
 use Rattle.nb_alloc.proofs.make.make_new.Given as goal
 

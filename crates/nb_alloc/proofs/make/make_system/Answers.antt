@@ -1,21 +1,12 @@
-use Rattle.std.proofs.Common.{◌≡◌, ◌≤◌, ◌+◌, ℕ, List, [], length, refl, ap, sym, subst, ◌∙◌, arith}
-use Rattle.std.specs.Prelude.{true, false, IsTrue, Ok}
-use Rattle.nb_fields.specs.Kinds.{code_of}
-use Rattle.nb_fields.specs.Page.{with_payload}
-use Rattle.nb_fields.specs.Places.{is_page_size}
-use Rattle.nb_fields.proofs.SizeLaws.{size_facts}
-use Rattle.nb_model.specs.Image.{Page, image_size}
-use Rattle.nb_model.specs.Forms.{old_page, is_kind, system_kind, system_payload}
-use Rattle.nb_state.specs.Open.{Held}
-use Rattle.nb_state.proofs.MakesLaws.{makes_none}
-use Rattle.nb_alloc.specs.Make.{page_strokes, system_cause, system_strokes}
+use Rattle.std.proofs.Common.{◌≡◌, ◌≤◌, ◌+◌, ℕ, List, [], length, refl, ap, sym, subst, ◌∙◌, arith, true, false, IsTrue, Ok}
+use Rattle.nb_alloc.proofs.Common.{code_of, with_payload, is_page_size, size_facts, Page, image_size, old_page, is_kind, system_kind, system_payload, Held, makes_none, page_strokes, system_cause, system_strokes}
 use Rattle.nb_alloc.proofs.DoesLaws.{tries_made, tries_after}
 use Rattle.nb_alloc.proofs.MakeLaws.{tries_fault, tries_named, payload_whole, system_made, system_unmade, system_free, system_asks}
 use Rattle.nb_alloc.proofs.make.make_system.Goals as goal
 
 pub returns-in_err-has_page-clause-tries : goal.returns-in_err-has_page-clause-tries
 returns-in_err-has_page-clause-tries g c t tells is =
-    tries_fault _ _ _ _ _ t (system_cause t.base.image c.args.place) _ c.from_residual.ensures c.in_err-has_page.ensures.same c.in_err-has_page.ensures.quiet is
+    tries_fault _ _ _ _ _ t (system_cause t.base.image c.args.place) _ c.from_residual.ensures c.in_err-has_page.ensures.looks.same c.in_err-has_page.ensures.looks.quiet is
 
 pub returns-then-branch-clause-tries : goal.returns-then-branch-clause-tries
 returns-then-branch-clause-tries g c t tells is =
@@ -25,7 +16,7 @@ returns-then-branch-clause-tries g c t tells is =
     let same : code_of c.system_kind-kind.result ≡ system_kind image p = c.system_kind-kind.ensures image (c.page_size.ensures.value ∙ is.files.agrees.page_size) in
     let there : is_kind image (system_kind image p) p ≡ true = ap (λ (k : ℕ). is_kind image k p) (sym same) ∙ sym (has.value t tells is) ∙ c.if-branch.true in
     tries_named {T = Unit {0}} (Ok tt) _ _ _ _ t _ _ _ _ (sym (system_free image p there)) (sym (system_made image p there))
-    (tries_made {T = Unit {0}} (Ok tt) _ _ _ _ t _ [] refl tt (makes_none {T = Unit {0}} (Ok tt) _ _ _ _ t has.same has.quiet is (has.open t tells is)))
+    (tries_made {T = Unit {0}} (Ok tt) _ _ _ _ t _ [] refl tt (makes_none {T = Unit {0}} (Ok tt) _ _ _ _ t has.looks.same has.looks.quiet is (has.looks.opened t tells is)))
 
 pub returns-clause-tries : goal.returns-clause-tries
 returns-clause-tries g c t tells is =
@@ -39,16 +30,16 @@ returns-clause-tries g c t tells is =
     let none : is_kind image (system_kind image p) p ≡ false = ap (λ (k : ℕ). is_kind image k p) (sym same) ∙ sym (has.value t tells is) ∙ c.if-branch.false in
     let long : length c.has_page.new.into ≡ image_size image = omega (arith, c.has_page.auto.into, c.requires.room, is.files.agrees.page_size) in
     let page = has.page t tells is in
-    let scn = c.scn.ensures ∙ ap (λ (h : Held). h.scn) has.same ∙ is.agrees.scn in
+    let scn = c.scn.ensures ∙ ap (λ (h : Held). h.scn) has.looks.same ∙ is.agrees.scn in
     let filled : c.fill_system.new.page ≡ with_payload (old_page p image) payload = c.fill_system.ensures image long scn ∙ ap (λ (x : Page). with_payload x payload) page in
     let facts = size_facts (image_size image) whole in
     let room : 16 + length payload ≤ length (old_page p image) = omega (arith, payload_whole image p whole, ap length page, long, facts.at_least) in
     let strokes : page_strokes image p (code_of c.system_kind-kind.result) payload ≡ system_strokes image p = ap (λ (k : ℕ). page_strokes image p k payload) same ∙ sym (system_unmade image p none) in
-    tries_after c.put_page.result _ (g.H.Host.world c.has_page.new.host) _ _ c.has_page.new.store _ t _ _ has.same has.quiet is
-    (tries_named c.put_page.result _ _ _ _ t _ _ _ _ (sym (system_asks image p none)) strokes (c.put_page.ensures.tries t payload tells (has.open t tells is) room filled))
+    tries_after c.put_page.result _ (g.H.Host.world c.has_page.new.host) _ _ c.has_page.new.store _ t _ _ has.looks.same has.looks.quiet is
+    (tries_named c.put_page.result _ _ _ _ t _ _ _ _ (sym (system_asks image p none)) strokes (c.put_page.ensures.tries t payload tells (has.looks.opened t tells is) room filled))
 
 pub put_page-requires-clause-inside : goal.put_page-requires-clause-inside
-put_page-requires-clause-inside g c = omega (arith, c.requires.inside, ap (λ (h : Held). h.files.count) c.in_ok-has_page.ensures.same)
+put_page-requires-clause-inside g c = omega (arith, c.requires.inside, ap (λ (h : Held). h.files.count) c.in_ok-has_page.ensures.looks.same)
 
 pub returns-then-branch-clause-added : goal.returns-then-branch-clause-added
-returns-then-branch-clause-added g c = omega (arith, c.in_ok-has_page.ensures.below c.if-branch.true, ap (λ (h : Held). h.files.count) c.in_ok-has_page.ensures.same)
+returns-then-branch-clause-added g c = omega (arith, c.in_ok-has_page.ensures.below c.if-branch.true, ap (λ (h : Held). h.files.count) c.in_ok-has_page.ensures.looks.same)

@@ -1,9 +1,5 @@
-use Rattle.std.proofs.Common.{◌∙◌, ℕ, List, length, sym, ap, arith}
-use Rattle.std.specs.Prelude.{Bool}
-use Rattle.nb_fields.specs.Bytes.{bytes_of, with_part}
-use Rattle.nb_fields.specs.Page.{with_payload}
-use Rattle.nb_fields.proofs.SizeLaws.{size_facts}
-use Rattle.nb_alloc.specs.Make.{content}
+use Rattle.std.proofs.Common.{◌∙◌, ℕ, List, length, sym, ap, arith, Bool}
+use Rattle.nb_alloc.proofs.Common.{bytes_of, with_part, with_payload, size_facts, content}
 use Rattle.nb_alloc.proofs.ContentLaws.{content_put}
 use Rattle.nb_alloc.proofs.make.put_content.Goals as goal
 

@@ -1,27 +1,15 @@
-use Rattle.std.proofs.Common.{◌≡◌, ℕ, [], ◌∷◌, sym, ap, subst, ◌∙◌, arith}
-use Rattle.std.specs.Prelude.{Result, Ok, Err, false, ◌==◌}
-use Rattle.nb_host.specs.Faults.{as_fault}
-use Rattle.nb_host.specs.declared.faults.Fault.{Fault}
-use Rattle.nb_fields.specs.Bytes.{is_zeros}
-use Rattle.nb_fields.specs.Kinds.{code_of}
-use Rattle.nb_fields.specs.Page.{stamped}
-use Rattle.nb_model.specs.Image.{Page, image_scn}
-use Rattle.nb_model.specs.Strokes.{page}
-use Rattle.nb_model.specs.Forms.{old_page}
-use Rattle.nb_change.proofs.FaultLaws.{counts_passed, none_wanted}
-use Rattle.nb_state.proofs.MakesLaws.{none_refused}
-use Rattle.nb_alloc.specs.Tries.{Tries}
-use Rattle.nb_alloc.specs.Put.{entry_cause, raise_strokes}
-use Rattle.nb_alloc.specs.Make.{page_strokes}
+use Rattle.std.proofs.Common.{◌≡◌, ℕ, [], ◌∷◌, sym, ap, subst, ◌∙◌, arith, Result, Ok, Err, false, ◌==◌}
+use Rattle.nb_alloc.proofs.Common.{as_fault, Fault, is_zeros, code_of, stamped, Page, image_scn, page, old_page, counts_passed, none_wanted, none_refused, Tries, entry_cause, raise_strokes, page_strokes}
 use Rattle.nb_alloc.proofs.DoesLaws.{tries_passed, tries_front}
 use Rattle.nb_alloc.proofs.RaiseLaws.{stamped-some}
-use Rattle.nb_alloc.proofs.MakeLaws.{kind_some, stamped_page, put_then}
+use Rattle.nb_alloc.proofs.MakeLaws.{stamped_page, put_then}
+use Rattle.nb_model.proofs.FreshImageLaws.{code-other}
 use Rattle.nb_alloc.proofs.make.put_page.Goals as goal
 
 pub write-requires-clause-some : goal.write-requires-clause-some
 write-requires-clause-some g c =
     subst (λ (x : Page). is_zeros x ≡ false) (sym c.stamp.ensures.written)
-    (stamped-some c.args.page.now c.code.result _ c.scn.result c.args.number (ap (λ (k : ℕ). k == 0) c.code.ensures ∙ kind_some c.args.kind))
+    (stamped-some c.args.page.now c.code.result _ c.scn.result c.args.number (ap (λ (k : ℕ). k == 0) c.code.ensures ∙ code-other c.args.kind))
 
 pub returns-in_err-raise_entry-clause-tries : goal.returns-in_err-raise_entry-clause-tries
 returns-in_err-raise_entry-clause-tries g c t payload tells is room filled =

@@ -1,10 +1,6 @@
 use Rattle.std.proofs.Common.{◌≡◌, ◌∙◌, ℕ, ◌+◌, ◌-◌, ◌≤◌, List, length, replicate, ap, arith}
+use Rattle.nb_alloc.proofs.Common.{with_part, with_payload, size_facts, put_mid-with_part, length-part, length-with_part, filled}
 use borrow.Rule.Slice.PartMut.{put_mid}
-use Rattle.nb_fields.specs.Bytes.{with_part}
-use Rattle.nb_fields.specs.Page.{with_payload}
-use Rattle.nb_fields.proofs.SizeLaws.{size_facts}
-use Rattle.nb_fields.proofs.PartLaws.{put_mid-with_part, length-part, length-with_part}
-use Rattle.nb_fields.proofs.PageLaws.{filled}
 use Rattle.nb_alloc.proofs.make.put_payload.Goals as goal
 
 pub returns : goal.returns

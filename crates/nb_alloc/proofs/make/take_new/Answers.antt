@@ -1,19 +1,7 @@
-use Rattle.std.proofs.Common.{◌+◌, ◌≤◌, ℕ, List, length, subst, arith}
-use Rattle.std.specs.Prelude.{None, Ok}
-use Rattle.nb_fields.specs.Kinds.{code_of}
-use Rattle.nb_model.specs.Image.{image_size}
-use Rattle.nb_model.specs.Account.{Base}
-use Rattle.nb_model.specs.Strokes.{Stroke}
-use Rattle.nb_model.specs.Forms.{Draft, drafted, put}
-use Rattle.nb_change.proofs.ResultLaws.{on_ok}
-use Rattle.nb_base.specs.Takes.{after_strokes}
-use Rattle.nb_alloc.specs.Put.{entry_cause}
-use Rattle.nb_alloc.specs.Find.{IsMap}
-use Rattle.nb_alloc.specs.Make.{page_strokes, content}
+use Rattle.std.proofs.Common.{◌+◌, ◌≤◌, ℕ, List, length, subst, arith, None, Ok}
+use Rattle.nb_alloc.proofs.Common.{code_of, image_size, Base, Stroke, Draft, drafted, put, after_strokes, entry_cause, IsMap, page_strokes, content, SizeFacts, size_facts, plain_unkept, on_ok}
 use Rattle.nb_alloc.proofs.PageLaws.{seen_after}
-use Rattle.nb_alloc.proofs.PassLaws.{kept_plain}
 use Rattle.nb_alloc.proofs.ReadyLaws.{entry_ready, mark_put, page_strokes_are}
-use Rattle.nb_fields.proofs.SizeLaws.{SizeFacts, size_facts}
 use Rattle.nb_alloc.proofs.ContentLaws.{content_short}
 use Rattle.nb_alloc.proofs.DoesLaws.{tries_opened}
 use Rattle.nb_alloc.proofs.MakeLaws.{tries_named, map_kept}
@@ -28,7 +16,7 @@ returns-in_err-make_page-clause-makes g c t tells is supplied plain holds =
     let kind : ℕ = code_of c.args.kind in
     let payload : List ℕ = content c.args.own c.args.payload.now p in
     let e : Draft = put p kind payload (drafted image) in
-    let none = entry_ready image p (supplied.ready.entry (kept_plain image p plain)) in
+    let none = entry_ready image p (supplied.ready.entry (plain_unkept image p plain)) in
     take_not t p e (put_of t.base p kind payload) (Unit {0}) c.from_residual.result c.in_err-make_page.field-0.0 _ _ _ _ c.from_residual.ensures
     (tries_named _ _ _ _ _ t (entry_cause image p) None (page_strokes image p kind payload) e.strokes none (page_strokes_are t.base p kind payload supplied.shaped.size none) (c.in_err-make_page.ensures.tries t tells is))
 
@@ -45,7 +33,7 @@ returns-clause-makes g c t tells is supplied plain holds =
     let e : Draft = put p kind payload (drafted image) in
     let old = g.H.Host.world c.args.host.now in
     let mid = g.H.Host.world c.make_page.new.host in
-    let own = supplied.ready.entry (kept_plain image p plain) in
+    let own = supplied.ready.entry (plain_unkept image p plain) in
     let none = entry_ready image p own in
     let are = page_strokes_are t.base p kind payload supplied.shaped.size none in
     let first = tries_named {T = Unit {0}} (Ok tt) old mid c.args.store.now c.make_page.new.store t (entry_cause image p) None (page_strokes image p kind payload) e.strokes none are (c.in_ok-make_page.ensures.tries t tells is) in

@@ -1,9 +1,5 @@
-use Rattle.std.proofs.Common.{◌≤◌, ℕ, length, arith}
-use Rattle.std.specs.Prelude.{None, Ok}
-use Rattle.nb_model.specs.Forms.{Draft, drafted, system_page}
-use Rattle.nb_base.specs.Takes.{after_strokes}
-use Rattle.nb_alloc.specs.Make.{system_cause, system_strokes}
-use Rattle.nb_change.proofs.ResultLaws.{on_ok}
+use Rattle.std.proofs.Common.{◌≤◌, ℕ, length, arith, None, Ok}
+use Rattle.nb_alloc.proofs.Common.{Draft, drafted, system_page, after_strokes, system_cause, system_strokes, on_ok}
 use Rattle.nb_alloc.proofs.DoesLaws.{tries_opened}
 use Rattle.nb_alloc.proofs.MakeLaws.{tries_named}
 use Rattle.nb_alloc.proofs.ReadyLaws.{system_clear, system_drafted, system_marks}

@@ -1,8 +1,5 @@
-use Rattle.std.proofs.Common.{◌≡◌, sym, ap, subst}
-use Rattle.std.specs.Prelude.{false, ◌==◌}
-use Rattle.nb_fields.specs.Bytes.{is_zeros}
-use Rattle.nb_model.specs.Image.{Page}
-use Rattle.nb_alloc.specs.Mark.{bit_for}
+use Rattle.std.proofs.Common.{◌≡◌, sym, ap, subst, false, ◌==◌}
+use Rattle.nb_alloc.proofs.Common.{is_zeros, Page, bit_for}
 use Rattle.nb_alloc.proofs.MarkLaws.{with_it}
 use Rattle.nb_alloc.proofs.RaiseLaws.{stamped-some}
 use Rattle.nb_alloc.proofs.pages.put_bit.Goals as goal

@@ -1,7 +1,5 @@
-use Rattle.std.proofs.Common.{◌≡◌, sym, ap, subst}
-use Rattle.std.specs.Prelude.{false, ◌==◌}
-use Rattle.nb_fields.specs.Bytes.{is_zeros}
-use Rattle.nb_model.specs.Image.{Page}
+use Rattle.std.proofs.Common.{◌≡◌, sym, ap, subst, false, ◌==◌}
+use Rattle.nb_alloc.proofs.Common.{is_zeros, Page}
 use Rattle.nb_alloc.proofs.RaiseLaws.{entered, stamped-some}
 use Rattle.nb_alloc.proofs.pages.put_entry.Goals as goal
 

@@ -1,4 +1,4 @@
-use Rattle.std.specs.Prelude.{true, false}
+use Rattle.std.proofs.Common.{true, false}
 use Rattle.nb_alloc.proofs.MarkLaws.{bit_written}
 use Rattle.nb_alloc.proofs.pages.set_bit.Goals as goal
 

@@ -1,17 +1,10 @@
-use Rattle.std.proofs.Common.{◌≡◌, ◌/◌, ℕ, length, sym, ap, ◌∙◌, arith}
-use Rattle.std.specs.Prelude.{Bool, false, nat_lt}
-use Rattle.nb_fields.specs.Places.{entries_in, scn_place}
-use Rattle.nb_fields.specs.Kinds.{scn_kind}
-use Rattle.nb_model.specs.Image.{page_at}
-use Rattle.nb_model.specs.Forms.{scn_entry, has_entry}
-use Rattle.nb_model.specs.Causes.{not_kind}
-use Rattle.nb_alloc.specs.Put.{entry_cause}
+use Rattle.std.proofs.Common.{◌≡◌, ◌/◌, ℕ, length, sym, ap, ◌∙◌, arith, Bool, false, nat_lt}
+use Rattle.nb_alloc.proofs.Common.{entries_in, scn_place, scn_kind, page_at, scn_entry, has_entry, not_kind, entry_cause, true≢false}
 use Rattle.nb_alloc.proofs.put.must_raise.Goals.{then-number-eq0-via-then-number-eq0, then-number-eq0-via-else-number-eq0+then-is_place}
 use Rattle.nb_alloc.proofs.PutLaws.{first-without, scn_page-without, other-with, no_entry_cause, not_raised, must_raise-is, entry_cause-is}
 use Rattle.nb_alloc.proofs.RaiseLaws.{scn_page-is, entry-is}
 use Rattle.nb_alloc.proofs.DoesLaws.{tested_on, if_err}
 use Rattle.nb_alloc.proofs.SearchReads.{scn_place_some}
-use Rattle.std.proofs.lemmas.Bool.{true≢false}
 use Rattle.nb_alloc.proofs.put.must_raise.Goals as goal
 
 pub returns-then-number-eq0-clause-tells : goal.returns-then-number-eq0-clause-tells
@@ -53,7 +46,7 @@ returns-clause-tells g c t tells is =
     let entry = entry-is image _ p c.covers-k.result.1 c.read.new.self size c.covers-k.ensures.index long c.covers-k.ensures.inside read in
     record {
       test = sym same ∙ reads.test;
-      value = ap (λ (n : ℕ). nat_lt n c.scn.result) (c.entry.ensures ∙ entry) ∙ ap (λ (n : ℕ). nat_lt (scn_entry image p) n) (c.scn.ensures ∙ ap (λ (h : _). h.scn) c.in_ok-read.ensures.same ∙ is.agrees.scn) ∙ sym (must_raise-is image p has);
+      value = ap (λ (n : ℕ). nat_lt n c.scn.result) (c.entry.ensures ∙ entry) ∙ ap (λ (n : ℕ). nat_lt (scn_entry image p) n) (c.scn.ensures ∙ ap (λ (h : _). h.scn) c.in_ok-read.ensures.looks.same ∙ is.agrees.scn) ∙ sym (must_raise-is image p has);
       page = λ e. read;
     }
 

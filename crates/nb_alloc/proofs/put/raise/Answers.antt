@@ -1,9 +1,5 @@
 use Rattle.std.proofs.Common.{◌≡◌, ◌/◌, ℕ, length, ap, ◌∙◌, arith}
-use Rattle.nb_host.specs.Faults.{as_answer}
-use Rattle.nb_fields.specs.Places.{entries_in, scn_place}
-use Rattle.nb_fields.proofs.PlaceLaws.{entries-least}
-use Rattle.nb_model.specs.Image.{Page}
-use Rattle.nb_model.specs.Strokes.{page}
+use Rattle.nb_alloc.proofs.Common.{as_answer, entries_in, scn_place, entries-least, Page, page}
 use Rattle.nb_alloc.proofs.PutLaws.{may_raise, scn_place-some}
 use Rattle.nb_alloc.proofs.RaiseLaws.{raise_stroke-is}
 use Rattle.nb_alloc.proofs.PageLaws.{makes_one}

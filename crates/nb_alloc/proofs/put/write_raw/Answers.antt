@@ -1,10 +1,5 @@
-use Rattle.std.proofs.Common.{◌≡◌, length, sym, ap, subst, ◌∙◌}
-use Rattle.std.specs.Prelude.{false, ◌==◌}
-use Rattle.nb_host.specs.Faults.{as_answer}
-use Rattle.nb_fields.specs.Bytes.{is_zeros}
-use Rattle.nb_fields.proofs.SizeLaws.{size_facts}
-use Rattle.nb_model.specs.Image.{Page}
-use Rattle.nb_model.specs.Strokes.{page}
+use Rattle.std.proofs.Common.{◌≡◌, length, sym, ap, subst, ◌∙◌, false, ◌==◌}
+use Rattle.nb_alloc.proofs.Common.{as_answer, is_zeros, size_facts, Page, page}
 use Rattle.nb_alloc.proofs.RaiseLaws.{stamped-some, raw_page}
 use Rattle.nb_alloc.proofs.PageLaws.{makes_one}
 use Rattle.nb_alloc.proofs.put.write_raw.Goals as goal

@@ -1,5 +1,4 @@
-use Rattle.std.proofs.Common.{sym, ◌∙◌}
-use Rattle.std.specs.Prelude.{Bool}
+use Rattle.std.proofs.Common.{sym, ◌∙◌, Bool}
 use Rattle.nb_alloc.proofs.DoesLaws.{tested_on}
 use Rattle.nb_alloc.proofs.TestLaws.{taken_other, taken_free, taken_is}
 use Rattle.nb_alloc.proofs.reads.check_taken.Goals as goal

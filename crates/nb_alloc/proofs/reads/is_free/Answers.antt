@@ -1,10 +1,7 @@
-use Rattle.std.proofs.Common.{◌≡◌, ℕ, length, refl, sym, ap, ◌∙◌, arith}
-use Rattle.std.specs.Prelude.{Bool}
-use Rattle.nb_fields.specs.Kinds.{inventory_kind}
-use Rattle.nb_model.specs.Forms.{inventory_of}
-use Rattle.nb_model.specs.Causes.{not_kind}
+use Rattle.std.proofs.Common.{◌≡◌, ℕ, length, refl, sym, ap, ◌∙◌, arith, Bool}
+use Rattle.nb_alloc.proofs.Common.{inventory_kind, inventory_of, not_kind, never}
 use Rattle.nb_alloc.proofs.DoesLaws.{tested_on}
-use Rattle.nb_alloc.proofs.TestLaws.{not_false, inventory_place_is, reads_bit, free_read, used_read}
+use Rattle.nb_alloc.proofs.TestLaws.{inventory_place_is, reads_bit, free_read, used_read}
 use Rattle.nb_alloc.proofs.reads.is_free.Goals as goal
 
 pub returns-in_err-read-clause-test : goal.returns-in_err-read-clause-test
@@ -43,4 +40,4 @@ returns-clause-value g c t tells is =
     let read = c.in_ok-read.ensures.reads t tells is in
     let long : length c.read.new.self ≡ c.page_size-page_size.result = omega (arith, c.in_ok-read.ensures.room, c.requires.room, c.page_size-page_size.ensures.value) in
     let bit = reads_bit image _ c.args.number _ c.read.new.self _ at size long read.test read.page c.covers-k.ensures.index c.covers-k.ensures.inside in
-    sym (free_read image c.args.number c.read.new.self _ bit (λ e. not_false (c.if-is_used.ensures.1 e)))
+    sym (free_read image c.args.number c.read.new.self _ bit (λ e. never (c.if-is_used.ensures.1 e)))

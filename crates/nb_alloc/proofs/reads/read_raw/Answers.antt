@@ -1,6 +1,5 @@
-use Rattle.std.proofs.Common.{◌<◌, ◌≤◌, ℕ, length, sym, ap, ◌∙◌, arith}
-use Rattle.std.specs.Prelude.{Some}
-use Rattle.nb_host.specs.declared.refusals.Refusal.TheVariants.{PageRange}
+use Rattle.std.proofs.Common.{◌<◌, ◌≤◌, ℕ, length, sym, ap, ◌∙◌, arith, Some}
+use Rattle.nb_alloc.proofs.Common.{PageRange}
 use Rattle.nb_alloc.proofs.DoesLaws.{tested_on, on_err}
 use Rattle.nb_alloc.proofs.TestLaws.{kind_read, raw_past, raw_untaken, raw_system, raw_is}
 use Rattle.nb_alloc.proofs.reads.read_raw.Goals as goal
@@ -23,7 +22,7 @@ pub returns-then-read_head-code-clause-reads : goal.returns-then-read_head-code-
 returns-then-read_head-code-clause-reads g c t tells is =
     let image = t.base.image in
     let low : c.args.number < length image = omega (arith, is.files.agrees.count, c.count-count.ensures.value, c.if-number-count.false) in
-    let page = c.in_ok-read.ensures.page t tells (c.in_ok-check_taken.ensures.open t tells is) low in
+    let page = c.in_ok-read.ensures.page t tells (c.in_ok-check_taken.ensures.looks.opened t tells is) low in
     let kind = kind_read c.read_head.result c.read.new.into image c.args.number c.read_head.ensures page in
     record { test = raw_system image c.args.number low (c.in_ok-check_taken.ensures.test t tells is) (λ e. c.if-read_head-code.true (kind ∙ e ∙ sym c.code.ensures)); page = tt }
 
@@ -31,6 +30,6 @@ pub returns-clause-reads : goal.returns-clause-reads
 returns-clause-reads g c t tells is =
     let image = t.base.image in
     let low : c.args.number < length image = omega (arith, is.files.agrees.count, c.count-count.ensures.value, c.if-number-count.false) in
-    let page = c.in_ok-read.ensures.page t tells (c.in_ok-check_taken.ensures.open t tells is) low in
+    let page = c.in_ok-read.ensures.page t tells (c.in_ok-check_taken.ensures.looks.opened t tells is) low in
     let kind = kind_read c.read_head.result c.read.new.into image c.args.number c.read_head.ensures page in
     record { test = raw_is image c.args.number low (c.in_ok-check_taken.ensures.test t tells is) (sym kind ∙ c.if-read_head-code.false ∙ c.code.ensures); page = page }

@@ -1,7 +1,4 @@
-use Rattle.std.proofs.Common.{◌≡◌, ℕ, subst, ◌∙◌, arith}
-use Rattle.std.specs.Prelude.{IsTrue, IfOk}
-use Rattle.nb_fields.specs.Places.{is_page_size}
-use Rattle.nb_model.specs.Image.{image_size}
+use Rattle.std.proofs.Common.{◌≡◌, ℕ, subst, ◌∙◌, arith, IfOk}
 use Rattle.nb_alloc.proofs.NewReads.{few_tested}
 use Rattle.nb_alloc.proofs.WayLaws.{begins_at, place_begins, ends_tested}
 use Rattle.nb_alloc.proofs.rooms.check_new.Goals as goal
@@ -19,14 +16,12 @@ returns-clause-test g c t kind payload tells is shaped short =
 
 pub returns-clause-value : goal.returns-clause-value
 returns-clause-value g c t tells is =
-    let size : IsTrue (is_page_size (image_size t.base.image)) = subst (λ (s : ℕ). IsTrue (is_page_size s)) (c.page_size-page_size.ensures.value ∙ is.files.agrees.page_size) c.page_size-page_size.ensures.one_of in
-    let begins = place_begins t.base.image _ _ c.begin-way.ensures.from c.begin-way.ensures.fresh size in
+    let begins = place_begins t.base.image _ _ c.page_size-page_size.result c.begin-way.ensures.from c.begin-way.ensures.fresh (c.page_size-page_size.ensures.value ∙ is.files.agrees.page_size) c.page_size-page_size.ensures.one_of in
     subst (λ (n : ℕ). IfOk c.find_room.result (λ first. first ≡ n)) begins.1 (c.find_room.ensures.value t tells is)
 
 pub returns-clause-map : goal.returns-clause-map
 returns-clause-map g c t tells is =
-    let size : IsTrue (is_page_size (image_size t.base.image)) = subst (λ (s : ℕ). IsTrue (is_page_size s)) (c.page_size-page_size.ensures.value ∙ is.files.agrees.page_size) c.page_size-page_size.ensures.one_of in
-    let begins = place_begins t.base.image _ _ c.begin-way.ensures.from c.begin-way.ensures.fresh size in
+    let begins = place_begins t.base.image _ _ c.page_size-page_size.result c.begin-way.ensures.from c.begin-way.ensures.fresh (c.page_size-page_size.ensures.value ∙ is.files.agrees.page_size) c.page_size-page_size.ensures.one_of in
     c.find_room.ensures.map t tells is begins.0
 
 pub returns-clause-once : goal.returns-clause-once

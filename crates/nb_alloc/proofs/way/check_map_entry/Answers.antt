@@ -1,14 +1,5 @@
-use Rattle.std.proofs.Common.{◌≡◌, ℕ, ◌-◌, ◌/◌, sym, ap, subst, ◌∙◌, arith}
-use Rattle.std.specs.Prelude.{Bool, true, false, ◌==◌, ◌&&◌, nat_lt}
-use Rattle.nb_fields.specs.Places.{bits_in, inventory_place}
-use Rattle.nb_model.specs.Causes.{Cause}
-use Rattle.nb_model.specs.Forms.{inventory_of, first_not}
-use Rattle.nb_model.specs.Way.{entry_on}
-use Rattle.nb_model.proofs.NeedLaws.{first_none}
-use Rattle.nb_model.proofs.NewSound.{inventory_before}
-use Rattle.nb_model.proofs.SoundLaws.{inventory_place_some}
-use Rattle.nb_state.specs.Does.{Tested}
-use Rattle.nb_alloc.specs.Find.{need_cause}
+use Rattle.std.proofs.Common.{◌≡◌, ℕ, ◌-◌, ◌/◌, sym, ap, subst, ◌∙◌, arith, Bool, true, false, ◌==◌, ◌&&◌, nat_lt}
+use Rattle.nb_alloc.proofs.Common.{bits_in, inventory_place, Cause, inventory_of, first_not, entry_on, first_none, inventory_before, inventory_place_some, Tested, need_cause}
 use Rattle.nb_alloc.proofs.TestLaws.{inventory_place_is}
 use Rattle.nb_alloc.proofs.PassLaws.{map_by}
 use Rattle.nb_alloc.proofs.way.check_map_entry.Goals as goal

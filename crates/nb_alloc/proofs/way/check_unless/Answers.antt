@@ -1,7 +1,5 @@
 use Rattle.std.proofs.Common.{◌≢◌, sym, ap, subst, ◌∙◌, arith}
-use Rattle.nb_fields.specs.Kinds.{scn_kind}
-use Rattle.nb_model.specs.Causes.{Cause, not_kind}
-use Rattle.nb_state.specs.Does.{Tested}
+use Rattle.nb_alloc.proofs.Common.{scn_kind, Cause, not_kind, Tested}
 use Rattle.nb_alloc.proofs.PutLaws.{scn_page-without, other-with}
 use Rattle.nb_alloc.proofs.RaiseLaws.{scn_page-is}
 use Rattle.nb_alloc.proofs.PassLaws.{entry_made, entry_none, entry_tested}

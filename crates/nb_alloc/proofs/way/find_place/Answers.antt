@@ -1,10 +1,5 @@
-use Rattle.std.proofs.Common.{◌≡◌, ◌≢◌, ℕ, refl, sym, ap, subst, ◌∙◌, arith}
-use Rattle.std.specs.Prelude.{IsTrue}
-use Rattle.nb_fields.specs.Places.{is_page_size, most_pages}
-use Rattle.nb_model.specs.Image.{image_size}
-use Rattle.nb_model.specs.Forms.{inventory_of}
-use Rattle.nb_model.specs.Way.{next_place}
-use Rattle.nb_alloc.specs.Find.{need_cause}
+use Rattle.std.proofs.Common.{◌≡◌, ◌≢◌, ℕ, refl, sym, ap, subst, ◌∙◌, arith, IsTrue}
+use Rattle.nb_alloc.proofs.Common.{looks_then, is_page_size, most_pages, image_size, inventory_of, next_place, need_cause}
 use Rattle.nb_alloc.proofs.DoesLaws.{tested_on}
 use Rattle.nb_alloc.proofs.TestLaws.{inventory_place_is}
 use Rattle.nb_alloc.proofs.NeedReads.{ends_found, ends_broken, ends_last, tested_by}
@@ -66,7 +61,7 @@ returns-in_err-hold_map-clause-test g c t tells is =
     let at = found.value t tells is in
     tested_on (Unit {0}) ℕ _ _ _ _ c.from_residual-in_err-hold_map.ensures
     (λ r e. maps_cause image c.args.way.now.from c.args.way.now.fresh c.in_ok-place.place other at ∙ ends_broken image c.args.way.now.from c.in_ok-place.place size at (found.maps t tells is) r e)
-    (c.in_err-hold_map.ensures.test t tells (found.open t tells is) (found.map t tells is))
+    (c.in_err-hold_map.ensures.test t tells (found.looks.opened t tells is) (found.map t tells is))
 
 pub returns-clause-test : goal.returns-clause-test
 returns-clause-test g c t tells is =
@@ -77,7 +72,7 @@ returns-clause-test g c t tells is =
     let found = c.in_ok-place.ensures in
     let at = found.value t tells is in
     maps_cause image c.args.way.now.from c.args.way.now.fresh c.in_ok-place.place other at
-    ∙ ap need_cause (ends_found image c.args.way.now.from c.in_ok-place.place size at (found.maps t tells is) (c.in_ok-hold_map.ensures.test t tells (found.open t tells is) (found.map t tells is)))
+    ∙ ap need_cause (ends_found image c.args.way.now.from c.in_ok-place.place size at (found.maps t tells is) (c.in_ok-hold_map.ensures.test t tells (found.looks.opened t tells is) (found.map t tells is)))
 
 pub returns-clause-value : goal.returns-clause-value
 returns-clause-value g c t tells is =
@@ -88,13 +83,13 @@ returns-clause-value g c t tells is =
 pub returns-clause-map : goal.returns-clause-map
 returns-clause-map g c t tells is other low =
     let found = c.in_ok-place.ensures in
-    c.in_ok-hold_map.ensures.map t tells (found.open t tells is) (found.map t tells is)
+    c.in_ok-hold_map.ensures.map t tells (found.looks.opened t tells is) (found.map t tells is)
 
-pub returns-in_err-hold_map-clause-open : goal.returns-in_err-hold_map-clause-open
-returns-in_err-hold_map-clause-open g c t tells is = c.in_err-hold_map.ensures.open t tells (c.in_ok-place.ensures.open t tells is)
+pub returns-in_err-hold_map-clause-looks : goal.returns-in_err-hold_map-clause-looks
+returns-in_err-hold_map-clause-looks g c = looks_then c.in_ok-place.ensures.looks c.in_err-hold_map.ensures.looks
 
-pub returns-clause-open : goal.returns-clause-open
-returns-clause-open g c t tells is = c.in_ok-hold_map.ensures.open t tells (c.in_ok-place.ensures.open t tells is)
+pub returns-clause-looks : goal.returns-clause-looks
+returns-clause-looks g c = looks_then c.in_ok-place.ensures.looks c.in_ok-hold_map.ensures.looks
 
 pub returns-then-own-fresh-clause-within : goal.returns-then-own-fresh-clause-within
 returns-then-own-fresh-clause-within g c le = le

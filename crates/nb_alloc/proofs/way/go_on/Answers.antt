@@ -1,18 +1,5 @@
-use Rattle.std.proofs.Common.{◌≡◌, ◌≢◌, inl, inr, ℕ, ◌+◌, ◌≤◌, length, refl, sym, ap, subst, ◌∙◌, arith}
-use Rattle.std.specs.Prelude.{true, false, None, Err}
-use Rattle.std.proofs.lemmas.Bool.{true≢false}
-use Rattle.std.proofs.lemmas.Bool.Decides.{eqb_tells}
-use Rattle.nb_fields.specs.Places.{bits_in, is_system_place, most_pages}
-use Rattle.nb_host.specs.declared.refusals.Refusal.TheVariants.{Full}
-use Rattle.nb_page.proofs.QuietLaws.{quiet_begun, quiet_joined}
-use Rattle.nb_model.specs.Image.{image_size}
-use Rattle.nb_model.specs.Way.{next_place}
-use Rattle.nb_state.specs.Open.{Held}
-use Rattle.nb_state.specs.Does.{Tested}
-use Rattle.nb_alloc.specs.declared.behind.Behind.{Behind}
-use Rattle.nb_alloc.specs.Way.{way_cause}
-use Rattle.nb_alloc.specs.Behind.{gone}
-use Rattle.nb_alloc.specs.Search.{AtKnown, Finds, Refuses, EndsBy}
+use Rattle.std.proofs.Common.{◌≡◌, ◌≢◌, inl, inr, ℕ, ◌+◌, ◌≤◌, length, refl, sym, ap, subst, ◌∙◌, arith, true, false, None, Err}
+use Rattle.nb_alloc.proofs.Common.{true≢false, eqb_tells, bits_in, is_system_place, most_pages, Full, image_size, next_place, Held, Tested, Behind, way_cause, gone, AtKnown, Finds, Refuses, EndsBy, looks_begun, looks_then}
 use Rattle.nb_alloc.proofs.WayLaws.{end_cause, goes_on, goes_at, goes_found, goes_refused, goes_failed}
 use Rattle.nb_alloc.proofs.BehindLaws.{gone_page, gone_lost}
 use Rattle.nb_alloc.proofs.SearchReads.{maps_few}
@@ -30,9 +17,7 @@ loop-behind-init g c = record {
   lost = λ lost. lost;
   map_room = refl;
   scn_room = refl;
-  opened = λ t tells is. is;
-  same = refl;
-  quiet = quiet_begun (g.H.Host.world c.args.host.now) (g.met.H.Host.timely c.args.host.now);
+  looks = looks_begun (g.H.Host.world c.args.host.now) (g.met.H.Host.timely c.args.host.now);
   once = λ tells. omega arith;
   fewer = λ tells other plain. absurd (other refl);
   none = λ same. refl;
@@ -64,7 +49,7 @@ returns-in_err-place-clause-ends g c t start begun before tells is begins =
     let known = c.loop-behind.invariant.at t start begun before tells is begins in
     let system : is_system_place (image_size image) place ≡ true = ap (λ (s : ℕ). is_system_place s place) (sym (c.page_size-page_size.ensures.value ∙ is.files.agrees.page_size)) ∙ sym c.is_system_place.ensures ∙ c.loop-behind-test.true in
     let to = goes_on image start begun place made fresh before c.loop-behind.behind known most system in
-    let still = c.loop-behind.invariant.opened t tells is in
+    let still = c.loop-behind.invariant.looks.opened t tells is in
     let fault = c.in_err-place.field-0.0 in
     let tested = subst (λ (n : ℕ). Tested {T = ℕ} (Err fault) (way_cause image n made fresh)) c.loop-behind.invariant.from (c.in_err-place.ensures.test t tells still) in
     subst (λ (b : Behind). EndsBy c.from_residual.result image start c.visit.new.way.from c.visit.new.way.made c.visit.new.way.fresh before b) (sym {b = gone place made fresh c.loop-behind.behind} c.pass.ensures)
@@ -83,7 +68,7 @@ loop-behind-preserved g c =
           let known = c.loop-behind.invariant.at t start begun before tells is begins in
           let system : is_system_place (image_size image) place ≡ true = ap (λ (s : ℕ). is_system_place s place) (sym (c.page_size-page_size.ensures.value ∙ is.files.agrees.page_size)) ∙ sym c.is_system_place.ensures ∙ c.loop-behind-test.true in
           let to = goes_on image start begun place made fresh before c.loop-behind.behind known most system in
-          let still = c.loop-behind.invariant.opened t tells is in
+          let still = c.loop-behind.invariant.looks.opened t tells is in
           let from = c.loop-behind.invariant.from in
           subst (λ (b : Behind). AtKnown image start begun c.in_ok-place.place c.visit.new.way.made c.visit.new.way.fresh before b) (sym {b = gone place made fresh c.loop-behind.behind} c.pass.ensures)
           (goes_at image start begun (place + 1) made fresh before (gone place made fresh c.loop-behind.behind) to most c.in_ok-place.place c.visit.new.way.made c.visit.new.way.fresh
@@ -106,15 +91,13 @@ loop-behind-preserved g c =
       lost = λ lost. gone_lost c.loop-behind.place c.loop-behind.way.made c.loop-behind.way.fresh c.loop-behind.behind c.pass.new.self c.pass.ensures (c.loop-behind.invariant.lost lost);
       map_room = next.map_room ∙ c.loop-behind.invariant.map_room;
       scn_room = next.scn_room ∙ c.loop-behind.invariant.scn_room;
-      opened = λ t tells is. next.open t tells (c.loop-behind.invariant.opened t tells is);
-      same = next.same ∙ c.loop-behind.invariant.same;
-      quiet = quiet_joined _ _ _ c.loop-behind.invariant.quiet next.quiet;
+      looks = looks_then c.loop-behind.invariant.looks next.looks;
       once = λ tells.
           let few = maps_few (bits_in c.loop-behind.store.files.page_size) c.loop-behind.way.from c.in_ok-place.place next.later in
           omega (arith, few, next.once tells, c.loop-behind.invariant.once tells, next.later, c.loop-behind.invariant.from, c.loop-behind.invariant.behind);
       fewer = λ tells other plain.
           let few = maps_few (bits_in c.loop-behind.store.files.page_size) c.loop-behind.way.from c.in_ok-place.place next.later in
-          omega (arith, few, next.fewer tells (subst (λ (s : ℕ). is_system_place s c.in_ok-place.place ≡ false) (sym (ap (λ (h : Held). h.files.page_size) c.loop-behind.invariant.same)) plain), c.loop-behind.invariant.once tells, next.later, c.loop-behind.invariant.from, c.loop-behind.invariant.behind);
+          omega (arith, few, next.fewer tells (subst (λ (s : ℕ). is_system_place s c.in_ok-place.place ≡ false) (sym (ap (λ (h : Held). h.files.page_size) c.loop-behind.invariant.looks.same)) plain), c.loop-behind.invariant.once tells, next.later, c.loop-behind.invariant.from, c.loop-behind.invariant.behind);
       none = λ same. absurd (omega (arith, same, next.later, c.loop-behind.invariant.from, c.loop-behind.invariant.behind));
       behind = omega (arith, next.later, c.loop-behind.invariant.from, c.loop-behind.invariant.behind);
       cause = next.cause ∙ c.loop-behind.invariant.cause;
@@ -158,3 +141,6 @@ returns-in_err-place-clause-page g c = gone_page c.loop-behind.place c.loop-behi
 
 pub returns-in_err-place-clause-lost : goal.returns-in_err-place-clause-lost
 returns-in_err-place-clause-lost g c lost = gone_lost c.loop-behind.place c.loop-behind.way.made c.loop-behind.way.fresh c.loop-behind.behind c.pass.new.self c.pass.ensures (c.loop-behind.invariant.lost lost)
+
+pub returns-in_err-place-clause-looks : goal.returns-in_err-place-clause-looks
+returns-in_err-place-clause-looks g c = looks_then c.loop-behind.invariant.looks c.in_err-place.ensures.looks

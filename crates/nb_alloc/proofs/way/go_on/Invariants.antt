@@ -1,13 +1,5 @@
-use Rattle.std.proofs.Common.{◌≡◌, ◌≢◌, ◌+◌, ◌-◌, ◌*◌, ◌<◌, ◌≤◌, ℕ, length, IsTrue}
-use Rattle.std.specs.Prelude.{true, false}
-use Rattle.nb_fields.specs.Places.{is_system_place, most_pages}
-use Rattle.nb_page.specs.Quiet.{Quiet}
-use Rattle.nb_model.specs.Image.{Image}
-use Rattle.nb_model.specs.Trail.{Trail}
-use Rattle.nb_state.specs.Open.{IsOpen, but_pages}
-use Rattle.nb_alloc.specs.declared.behind.Behind.{Behind}
-use Rattle.nb_alloc.specs.Find.{HoldsMap}
-use Rattle.nb_alloc.specs.Search.{AtKnown}
+use Rattle.std.proofs.Common.{◌≡◌, ◌≢◌, ◌+◌, ◌-◌, ◌*◌, ◌<◌, ◌≤◌, ℕ, length, IsTrue, true, false}
+use Rattle.nb_alloc.proofs.Common.{is_system_place, most_pages, Image, Trail, IsOpen, Behind, HoldsMap, AtKnown, Looks}
 use Rattle.nb_alloc.proofs.way.go_on.Given as goal
 
 abbrev pub invariant-loop-behind : goal.invariant-loop-behind
@@ -23,9 +15,7 @@ invariant-loop-behind g l = record {
   lost : l.fn.behind.lost ≡ true → l.behind.lost ≡ true;
   map_room : length l.map ≡ length l.fn.map;
   scn_room : length l.scn_page ≡ length l.fn.scn_page;
-  opened : (t : Trail) → IsTrue g.H.Host.tells → IsOpen (g.H.Host.world l.fn.host) l.fn.store t → IsOpen (g.H.Host.world l.host) l.store t;
-  same : but_pages l.store ≡ but_pages l.fn.store;
-  quiet : Quiet (g.H.Host.world l.fn.host) (g.H.Host.world l.host);
+  looks : Looks g.H.Host.tells (g.H.Host.world l.fn.host) (g.H.Host.world l.host) l.fn.store l.store;
   once : IsTrue g.H.Host.tells → (g.H.Host.world l.host).reads ≤ (g.H.Host.world l.fn.host).reads + 5 * (l.place - l.fn.first);
   fewer : IsTrue g.H.Host.tells → l.fn.first ≢ l.place → is_system_place l.fn.store.files.page_size l.place ≡ false → (g.H.Host.world l.host).reads + 1 ≤ (g.H.Host.world l.fn.host).reads + 5 * (l.place - l.fn.first);
   none : l.fn.first ≡ l.place → (g.H.Host.world l.host).reads ≡ (g.H.Host.world l.fn.host).reads;

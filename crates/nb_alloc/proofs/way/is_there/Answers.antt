@@ -1,10 +1,5 @@
-use Rattle.std.proofs.Common.{◌≡◌, ℕ, sym, ap, subst, ◌∙◌}
-use Rattle.std.specs.Prelude.{true, false, IsTrue}
-use Rattle.nb_fields.specs.Places.{is_page_size, is_inventory_place}
-use Rattle.nb_model.specs.Image.{image_size}
-use Rattle.nb_model.specs.Forms.{system_kind}
-use Rattle.nb_model.specs.Causes.{not_kind}
-use Rattle.nb_state.specs.Does.{Tested}
+use Rattle.std.proofs.Common.{◌≡◌, ℕ, sym, ap, subst, ◌∙◌, true, false, IsTrue}
+use Rattle.nb_alloc.proofs.Common.{is_page_size, is_inventory_place, image_size, system_kind, not_kind, Tested}
 use Rattle.nb_alloc.proofs.PassLaws.{kind_map, kind_entries}
 use Rattle.nb_alloc.proofs.way.is_there.Goals as goal
 

@@ -1,12 +1,5 @@
-use Rattle.std.proofs.Common.{◌≡◌, ℕ, sym, ap, subst, ◌∙◌}
-use Rattle.std.specs.Prelude.{Bool, true, false, IsTrue, None}
-use Rattle.nb_fields.specs.Places.{is_page_size, is_inventory_place, is_system_place}
-use Rattle.nb_model.specs.Image.{image_size}
-use Rattle.nb_model.specs.Forms.{is_kind, system_kind, first_not}
-use Rattle.nb_model.specs.Trail.{Trail}
-use Rattle.nb_model.specs.Way.{own_entry_on}
-use Rattle.nb_state.specs.Open.{IsOpen}
-use Rattle.nb_alloc.specs.Find.{need_cause}
+use Rattle.std.proofs.Common.{◌≡◌, ℕ, sym, ap, subst, ◌∙◌, Bool, true, false, IsTrue, None}
+use Rattle.nb_alloc.proofs.Common.{is_page_size, is_inventory_place, is_system_place, image_size, is_kind, system_kind, first_not, Trail, own_entry_on, IsOpen, need_cause}
 use Rattle.nb_alloc.proofs.DoesLaws.{tested_on}
 use Rattle.nb_alloc.proofs.PassLaws.{none_is, own_kept, own_asked, kept_there, made_kept, made_map, made_entries, fresh_kept, fresh_map, fresh_entries}
 use Rattle.nb_alloc.proofs.way.pass.Goals as goal
@@ -47,13 +40,13 @@ returns-in_err-check_unless-clause-test g c t tells is =
     let at = (goal.at.returns-in_err-check_unless-clause-test g c).After-is_there in
     let none : is_kind t.base.image (system_kind t.base.image c.args.place) c.args.place ≡ false = sym (c.in_ok-there.ensures.value t tells is) ∙ c.if-there.false in
     tested_on (Unit {0}) (Unit {0}) _ _ _ _ c.from_residual-in_err-check_unless.ensures (λ r e. ap need_cause (own_asked _ _ _ (kept_there _ _ false (system g at t is) none)) ∙ e)
-    (c.in_err-check_unless.ensures.test t tells (c.in_ok-there.ensures.open t tells is))
+    (c.in_err-check_unless.ensures.test t tells (c.in_ok-there.ensures.looks.opened t tells is))
 
 pub returns-then-is_place-clause-test : goal.returns-then-is_place-clause-test
 returns-then-is_place-clause-test g c t tells is =
     let at = (goal.at.returns-then-is_place-clause-test g c).After-is_there in
     let none : is_kind t.base.image (system_kind t.base.image c.args.place) c.args.place ≡ false = sym (c.in_ok-there.ensures.value t tells is) ∙ c.if-there.false in
-    ap need_cause (own_asked _ _ _ (kept_there _ _ false (system g at t is) none)) ∙ c.in_ok-check_unless.ensures.test t tells (c.in_ok-there.ensures.open t tells is)
+    ap need_cause (own_asked _ _ _ (kept_there _ _ false (system g at t is) none)) ∙ c.in_ok-check_unless.ensures.test t tells (c.in_ok-there.ensures.looks.opened t tells is)
 
 pub returns-then-is_place-clause-made : goal.returns-then-is_place-clause-made
 returns-then-is_place-clause-made g c t tells is =
@@ -70,7 +63,7 @@ pub returns-clause-test : goal.returns-clause-test
 returns-clause-test g c t tells is =
     let at = (goal.at.returns-clause-test g c).After-is_there in
     let none : is_kind t.base.image (system_kind t.base.image c.args.place) c.args.place ≡ false = sym (c.in_ok-there.ensures.value t tells is) ∙ c.if-there.false in
-    ap need_cause (own_asked _ _ _ (kept_there _ _ false (system g at t is) none)) ∙ c.in_ok-check_unless.ensures.test t tells (c.in_ok-there.ensures.open t tells is)
+    ap need_cause (own_asked _ _ _ (kept_there _ _ false (system g at t is) none)) ∙ c.in_ok-check_unless.ensures.test t tells (c.in_ok-there.ensures.looks.opened t tells is)
 
 pub returns-clause-made : goal.returns-clause-made
 returns-clause-made g c t tells is =

@@ -1,7 +1,5 @@
-use Rattle.std.proofs.Common.{ℕ, ◌-◌, ◌/◌, sym, ap, ◌∙◌, arith}
-use Rattle.std.specs.Prelude.{Bool, ◌==◌, ◌&&◌}
-use Rattle.nb_fields.specs.Places.{bits_in, inventory_place}
-use Rattle.nb_model.proofs.ReadLaws.{lt_no, lt_yes}
+use Rattle.std.proofs.Common.{ℕ, ◌-◌, ◌/◌, sym, ap, ◌∙◌, arith, Bool, ◌==◌, ◌&&◌}
+use Rattle.nb_alloc.proofs.Common.{bits_in, inventory_place, lt_no, lt_yes}
 use Rattle.nb_alloc.proofs.way.was_asked.Goals as goal
 
 pub returns-then-from-le-FIRST_TO_GIVE : goal.returns-then-from-le-FIRST_TO_GIVE

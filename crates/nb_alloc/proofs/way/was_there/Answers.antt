@@ -1,9 +1,5 @@
-use Rattle.std.proofs.Common.{◌≢◌, refl, sym, subst}
-use Rattle.std.specs.Prelude.{Result, Err, IfErr}
-use Rattle.nb_host.specs.declared.faults.Fault.{Fault}
-use Rattle.nb_host.specs.declared.faults.Fault.TheVariants.{Memory}
-use Rattle.nb_model.specs.Causes.{not_kind}
-use Rattle.nb_state.specs.Does.{Tested}
+use Rattle.std.proofs.Common.{◌≢◌, refl, sym, subst, Result, Err, IfErr}
+use Rattle.nb_alloc.proofs.Common.{Fault, Memory, not_kind, Tested}
 use Rattle.nb_alloc.proofs.NeedReads.{kind_refused, kind_found}
 use Rattle.nb_alloc.proofs.way.was_there.Goals as goal
 

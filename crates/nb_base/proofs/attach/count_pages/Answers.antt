@@ -1,7 +1,5 @@
-use Rattle.std.proofs.Common.{ℕ, ap, sym, ◌∙◌}
-use Rattle.std.specs.Prelude.{Some}
-use Rattle.nb_host.specs.declared.refusals.Refusal.TheVariants.{NotDatabase}
-use Rattle.nb_base.specs.Attach.{length_cause}
+use Rattle.std.proofs.Common.{ℕ, ap, sym, ◌∙◌, Some}
+use Rattle.nb_base.proofs.Common.{NotDatabase, length_cause}
 use Rattle.nb_base.proofs.AttachLaws.{parted, too_few, too_many, fits}
 use Rattle.nb_base.proofs.attach.count_pages.Goals.{then-len-size-ne0-via-then-len-size-ne0, then-len-size-ne0-via-else-len-size-ne0+then-pages-lt-LEAST_PAGES}
 use Rattle.nb_base.proofs.attach.count_pages.Goals as goal

@@ -1,5 +1,5 @@
 use Rattle.std.proofs.Common.{ap, ◌∙◌, arith}
-use Rattle.nb_delta.specs.Known.{Known}
+use Rattle.nb_base.proofs.Common.{Known}
 use Rattle.nb_base.proofs.AttachLaws.{counted-next}
 use Rattle.nb_base.proofs.attach.count_with.Goals as goal
 

@@ -1,7 +1,5 @@
-use Rattle.std.proofs.Common.{◌≡◌, ◌≤◌, take}
-use Rattle.std.specs.Prelude.{max}
-use Rattle.nb_fields.specs.Places.{most_pages}
-use Rattle.nb_model.specs.Owner.{behind_entries}
+use Rattle.std.proofs.Common.{◌≡◌, ◌≤◌, take, max}
+use Rattle.nb_base.proofs.Common.{most_pages, behind_entries}
 use Rattle.nb_base.proofs.attach.count_with.Given as goal
 
 -- the entries so far are counted

@@ -1,6 +1,5 @@
 use Rattle.std.proofs.Common.{ℕ, ◌*◌, length, refl, ap, sym, ◌∙◌, arith}
-use Rattle.nb_host.specs.Files.{Files}
-use Rattle.nb_page.proofs.QuietLaws.{quiet_begun, quiet_joined}
+use Rattle.nb_base.proofs.Common.{Files, quiet_begun, quiet_joined}
 use Rattle.nb_base.proofs.AttachLaws.{inside, length_most, length_one, length_less, length_found}
 use Rattle.nb_base.proofs.attach.find_length.Goals as goal
 

@@ -1,9 +1,5 @@
-use Rattle.std.proofs.Common.{◌≡◌, ℕ, ◌+◌, ◌-◌, ◌*◌, ◌≤◌, List, length}
-use Rattle.std.specs.Prelude.{IsTrue, Some, None}
-use Rattle.nb_fields.specs.Header.{size_of}
-use Rattle.nb_page.specs.Quiet.{Quiet}
-use Rattle.nb_model.specs.Causes.{not_database}
-use Rattle.nb_model.specs.Image.{image_in}
+use Rattle.std.proofs.Common.{◌≡◌, ℕ, ◌+◌, ◌-◌, ◌*◌, ◌≤◌, List, length, IsTrue, Some, None}
+use Rattle.nb_base.proofs.Common.{size_of, Quiet, not_database, image_in}
 use Rattle.nb_base.proofs.attach.find_length.Given as goal
 
 -- the pages after are of zeros

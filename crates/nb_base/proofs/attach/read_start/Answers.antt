@@ -1,7 +1,5 @@
 use Rattle.std.proofs.Common.{ℕ, List, take, ap, sym, subst, ◌∙◌}
-use Rattle.nb_host.specs.Files.{File, Files, bytes_of}
-use Rattle.nb_delta.proofs.AttachLaws.{IsLong, long_file}
-use Rattle.nb_base.specs.Attach.{Tested, main_cause}
+use Rattle.nb_base.proofs.Common.{File, Files, bytes_of, Tested, main_cause, IsLong, long_file}
 use Rattle.nb_base.proofs.AttachLaws.{of_length}
 use Rattle.nb_base.proofs.attach.read_start.Goals as goal
 

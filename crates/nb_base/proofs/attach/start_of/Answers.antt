@@ -1,16 +1,7 @@
-use Rattle.std.proofs.Common.{◌≡◌, ℕ, length, ap, sym, subst, ◌∙◌, rules, arith}
-use Rattle.std.specs.Prelude.{true, None, Err}
-use denote.Enum.Bare.{same_true, same_false}
-use Rattle.std.proofs.lemmas.List.{length-take}
-use Rattle.nb_fields.specs.Header.{is_header, size_of}
-use Rattle.nb_model.specs.Causes.{not_database}
-use Rattle.nb_cases.specs.Events.{OnAttach}
-use Rattle.nb_cases.specs.contracts.events.Case.{the_type}
+use Rattle.std.proofs.Common.{◌≡◌, ℕ, length, ap, sym, subst, ◌∙◌, rules, arith, true, None, Err}
+use Rattle.nb_base.proofs.Common.{same_true, same_false, length-take, is_header, size_of, not_database, OnAttach, the_type, unfinished_applying, opened_not_applying, Start, Tested, length_cause, unheaded}
 use Rattle.nb_cases.specs.declared.events.Case.TheVariants as case
-use Rattle.nb_cases.proofs.StateLaws.{unfinished_applying, opened_not_applying}
-use Rattle.nb_base.specs.declared.attach.Start.{Start}
-use Rattle.nb_base.specs.Attach.{Tested, length_cause}
-use Rattle.nb_base.proofs.AttachLaws.{refusal_passed, unheaded, headed, start_broken, start_unfinished, start_is, start_short, first_header, block_size, block_state, length_refused}
+use Rattle.nb_base.proofs.AttachLaws.{refusal_passed, headed, start_broken, start_unfinished, start_is, start_short, first_header, block_size, block_state, length_refused}
 use Rattle.nb_base.proofs.attach.start_of.Goals as goal
 
 pub returns-then-first-lt-LENGTH-clause-test : goal.returns-then-first-lt-LENGTH-clause-test

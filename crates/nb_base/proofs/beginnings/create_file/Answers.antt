@@ -1,5 +1,5 @@
 use Rattle.std.proofs.Common.{sym, ◌∙◌}
-use Rattle.nb_model.proofs.FreshImageLaws.{fresh_length}
+use Rattle.nb_base.proofs.Common.{fresh_length}
 use Rattle.nb_base.proofs.CreatedLaws.{quiet_then, quiet_then_reads, not_taken, failed}
 use Rattle.nb_base.proofs.beginnings.create_file.Goals as goal
 

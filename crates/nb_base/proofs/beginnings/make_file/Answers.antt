@@ -1,8 +1,7 @@
 use Rattle.std.proofs.Common.{length, ◌∙◌, ap, arith}
-use Rattle.nb_fields.specs.Fresh.{fresh_page}
+use Rattle.nb_base.proofs.Common.{fresh_page, fresh_count-least, with_file-named}
 use Rattle.nb_change.proofs.GaveLaws.{silent_gave, nothing_joined}
-use Rattle.nb_model.proofs.FreshImageLaws.{fresh_count-least}
-use Rattle.nb_base.proofs.CreateLaws.{named, rest_begun, far_behind, rest_more}
+use Rattle.nb_base.proofs.CreateLaws.{rest_begun, far_behind, rest_more}
 use Rattle.nb_base.proofs.MakingLaws.{made, made_reads, making_reads, making_begun, page_more, synced, synced_reads, synced_whole, rest_kept, first_page, first_page_reads, settled}
 use Rattle.nb_base.proofs.beginnings.make_file.Goals as goal
 
@@ -17,7 +16,7 @@ loop-number-init g c =
     let make = c.in_ok-make.ensures in
     record {
       making = λ tells. making_begun _ _ _ _ _ _ tells (g.met.H.Host.timely _) make.files make.log make.time;
-      pages = λ tells. rest_begun _ _ _ (named _ _ c.args.name.now _ (make.files.files tells));
+      pages = λ tells. rest_begun _ _ _ (with_file-named _ _ c.args.name.now _ (make.files.files tells));
       gave = silent_gave _ _ make.log;
       cause = make.cause;
     }
@@ -44,7 +43,7 @@ loop-number-preserved g c =
     let write = c.in_ok-write_page.ensures in
     record {
       making = λ tells. page_more _ _ _ _ _ _ _ _ _ tells far (c.loop-number.invariant.making tells) write.files write.log write.time;
-      pages = λ tells. rest_more _ _ c.requires.size number _ _ _ page_is (c.loop-number.invariant.pages tells) (named _ _ c.args.name.now _ (write.files.files tells));
+      pages = λ tells. rest_more _ _ c.requires.size number _ _ _ page_is (c.loop-number.invariant.pages tells) (with_file-named _ _ c.args.name.now _ (write.files.files tells));
       gave = nothing_joined _ _ _ c.loop-number.invariant.gave (silent_gave _ _ write.log);
       cause = write.cause ∙ c.loop-number.invariant.cause;
     }

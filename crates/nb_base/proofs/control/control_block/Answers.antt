@@ -1,5 +1,5 @@
 use Rattle.std.proofs.Common.{ℕ, List}
-use Rattle.nb_change.proofs.ChangesLaws.{still_more}
+use Rattle.nb_base.proofs.Common.{still_more}
 use Rattle.nb_base.proofs.BlockLaws.{sets_block, block_begun, image_still, block_more, block_done}
 use Rattle.nb_base.proofs.control.control_block.Goals as goal
 

@@ -1,10 +1,6 @@
 use Rattle.std.proofs.Common.{sym, subst, ◌∙◌, rules}
-use Rattle.std.proofs.lemmas.Bool.{true_from_ne_false}
-use denote.Enum.Bare.{same_true, same_false}
-use Rattle.nb_cases.specs.Events.{OnWrite}
-use Rattle.nb_cases.specs.contracts.events.Case.{the_type}
+use Rattle.nb_base.proofs.Common.{true_from_ne_false, same_true, same_false, OnWrite, the_type, diverted_stalled, plain_not_stalled}
 use Rattle.nb_cases.specs.declared.events.Case.TheVariants as case
-use Rattle.nb_cases.proofs.StateLaws.{diverted_stalled, plain_not_stalled}
 use Rattle.nb_base.proofs.files.is_diverted.Goals as goal
 
 pub returns : goal.returns

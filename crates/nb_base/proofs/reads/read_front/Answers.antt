@@ -1,5 +1,5 @@
 use Rattle.std.proofs.Common.{drop, ◌++◌, List, ℕ, refl, sym, ap, ◌∙◌}
-use Rattle.std.proofs.lemmas.List.{length-take-le}
+use Rattle.nb_base.proofs.Common.{length-take-le}
 use Rattle.nb_base.proofs.PageReads.{front_read}
 use Rattle.nb_base.proofs.reads.read_front.Goals as goal
 

@@ -1,9 +1,5 @@
 use Rattle.std.proofs.Common.{◌≡◌, sym, subst, ap, ◌∙◌}
-use Rattle.nb_host.specs.Files.{Files, bytes_of}
-use Rattle.nb_fields.specs.Table.{slot_place}
-use Rattle.nb_delta.specs.Known.{Known}
-use Rattle.nb_model.specs.Image.{image_in}
-use Rattle.nb_model.specs.Owner.{delta_name, owned_page}
+use Rattle.nb_base.proofs.Common.{Files, bytes_of, slot_place, Known, image_in, delta_name, owned_page}
 use Rattle.nb_base.proofs.PlaceLaws.{slot_answered, none_found}
 use Rattle.nb_base.proofs.PageReads.{long_enough, first_owned, later_owned, main_owned, got_slot}
 use Rattle.nb_base.proofs.reads.read_owned.Goals as goal

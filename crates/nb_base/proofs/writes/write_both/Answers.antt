@@ -1,10 +1,5 @@
 use Rattle.std.proofs.Common.{inl, [], ◌∷◌, arith}
-use Rattle.std.proofs.lemmas.Result.{on_ok_weaker}
-use Rattle.nb_change.proofs.ReachedLaws.{strokes_composed}
-use Rattle.nb_model.specs.Strokes.{page}
-use Rattle.nb_model.specs.Trail.{after_stroke}
-use Rattle.nb_base.specs.Firm.{StandsFirm}
-use Rattle.nb_base.specs.Open.{OfFiles}
+use Rattle.nb_base.proofs.Common.{on_ok_weaker, strokes_composed, page, after_stroke, StandsFirm, OfFiles}
 use Rattle.nb_base.proofs.OutcomeLaws.{write_later}
 use Rattle.nb_base.proofs.MergedLaws.{both_after}
 use Rattle.nb_base.proofs.TouchLaws.{delta_of, touched_joined, touched_more}

@@ -1,5 +1,4 @@
-use Rattle.std.proofs.lemmas.Result.{on_ok_weaker}
-use Rattle.nb_change.proofs.ResultLaws.{whole_on_ok}
+use Rattle.nb_base.proofs.Common.{on_ok_weaker, whole_on_ok}
 use Rattle.nb_base.proofs.TouchLaws.{page_touched}
 use Rattle.nb_base.proofs.HiddenLaws.{hides, struck_hidden, hidden_seen}
 use Rattle.nb_base.proofs.writes.write_hidden.Goals as goal

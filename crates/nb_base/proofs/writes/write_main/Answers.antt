@@ -1,7 +1,5 @@
 use Rattle.std.proofs.Common.{sym, ◌∙◌}
-use Rattle.std.proofs.lemmas.Result.{on_ok_weaker}
-use Rattle.nb_change.proofs.ChangesLaws.{still_more}
-use Rattle.nb_change.proofs.ResultLaws.{on_ok}
+use Rattle.nb_base.proofs.Common.{on_ok_weaker, still_more, on_ok}
 use Rattle.nb_base.proofs.TouchLaws.{page_touched, still_touched}
 use Rattle.nb_base.proofs.WriteLaws.{not_done, struck_main, main_shown, main_synced, stays_seen}
 use Rattle.nb_base.proofs.writes.write_main.Goals as goal

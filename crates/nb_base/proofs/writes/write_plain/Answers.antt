@@ -1,13 +1,6 @@
 use Rattle.std.proofs.Common.{sym, subst, ap, ◌∙◌}
-use Rattle.std.proofs.lemmas.Result.{on_ok_weaker}
-use Rattle.nb_host.specs.World.{World}
-use Rattle.nb_fields.specs.Table.{slot_place}
-use Rattle.nb_delta.specs.Known.{Known}
-use Rattle.nb_model.specs.Owner.{entry_for}
+use Rattle.nb_base.proofs.Common.{on_ok_weaker, World, slot_place, Known, entry_for, AreMerged, IsSeen, WritesIn}
 use Rattle.nb_cases.proofs.SyncLaws.{main_if_kept}
-use Rattle.nb_base.specs.Open.{AreMerged}
-use Rattle.nb_base.specs.Seen.{IsSeen}
-use Rattle.nb_base.specs.Touches.{WritesIn}
 use Rattle.nb_base.proofs.MergedLaws.{plain_after}
 use Rattle.nb_base.proofs.PlaceLaws.{slot_answered, none_found}
 use Rattle.nb_base.proofs.TouchLaws.{main_in, both_in}

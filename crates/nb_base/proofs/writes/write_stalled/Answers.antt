@@ -1,11 +1,5 @@
 use Rattle.std.proofs.Common.{sym, subst, ap, ◌∙◌, arith}
-use Rattle.nb_host.specs.World.{World}
-use Rattle.nb_fields.specs.Table.{slot_place}
-use Rattle.nb_delta.specs.Known.{Known}
-use Rattle.nb_delta.specs.Slots.{HasTable}
-use Rattle.nb_model.specs.Strokes.{noted}
-use Rattle.nb_model.specs.Owner.{entry_for}
-use Rattle.nb_base.specs.Seen.{IsSeen}
+use Rattle.nb_base.proofs.Common.{World, slot_place, Known, HasTable, noted, entry_for, IsSeen}
 use Rattle.nb_base.proofs.LeftLaws.{noted-there, noted-new}
 use Rattle.nb_base.proofs.PlaceLaws.{slot_answered, none_found, kept_entries, more_entries, kept_more}
 use Rattle.nb_base.proofs.TouchLaws.{touched_from}

@@ -1,7 +1,5 @@
 use Rattle.std.proofs.Common.{ℕ, [], ◌∷◌, ◌++◌, sym, ap, ◌∙◌, arith, append_assoc, length-append, map}
-use Rattle.std.proofs.lemmas.List.{map-append}
-use Rattle.nb_cache.specs.declared.frames.Frame.{Frame}
-use Rattle.nb_cache.specs.Frames.{slot_in}
+use Rattle.nb_cache.proofs.Common.{map-append, Frame, slot_in}
 use Rattle.nb_cache.proofs.next.next_waiting.Goals as goal
 
 pub loop-frame-preserved : goal.loop-frame-preserved

@@ -1,6 +1,5 @@
 use Rattle.std.proofs.Common.{◌≡◌, ◌+◌, ◌++◌, length, map}
-use Rattle.nb_cache.specs.Held.{IsNext}
-use Rattle.nb_cache.specs.Frames.{Frames, slot_in}
+use Rattle.nb_cache.proofs.Common.{IsNext, Frames, slot_in}
 use Rattle.nb_cache.proofs.next.next_waiting.Given as goal
 
 abbrev pub invariant-loop-frame : goal.invariant-loop-frame

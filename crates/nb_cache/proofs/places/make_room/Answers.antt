@@ -1,5 +1,5 @@
 use Rattle.std.proofs.Common.{take}
-use Rattle.nb_cache.specs.Index.{places}
+use Rattle.nb_cache.proofs.Common.{places}
 use Rattle.nb_cache.proofs.IndexLaws.{once}
 use Rattle.nb_cache.proofs.places.make_room.Goals as goal
 

@@ -1,7 +1,5 @@
 use Rattle.std.proofs.Common.{◌≡◌, ◌<◌, ℕ, [], ◌∷◌, ◌++◌, sym, ap, ◌∙◌, arith, append_assoc, length-append, length}
-use Rattle.std.proofs.lemmas.List.{map-append}
-use Rattle.nb_cache.specs.declared.frames.Frame.{Frame}
-use Rattle.nb_cache.specs.Index.{places}
+use Rattle.nb_cache.proofs.Common.{map-append, Frame, places}
 use Rattle.nb_cache.proofs.IndexLaws.{Finds-pushed, seen-once}
 use Rattle.nb_cache.proofs.places.refill.Goals as goal
 

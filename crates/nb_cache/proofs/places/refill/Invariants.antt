@@ -1,6 +1,5 @@
 use Rattle.std.proofs.Common.{◌≡◌, ◌≤◌, ◌+◌, ◌*◌, ◌++◌, length}
-use Rattle.nb_cache.specs.Frames.{Frames}
-use Rattle.nb_cache.specs.Index.{Finds, places, left_in, room_of}
+use Rattle.nb_cache.proofs.Common.{Frames, Finds, places, left_in, room_of}
 use Rattle.nb_cache.proofs.places.refill.Given as goal
 
 abbrev pub invariant-loop-key : goal.invariant-loop-key

@@ -1,6 +1,6 @@
 use Rattle.std.proofs.Common.{ap, sym, ◌∙◌, arith}
+use Rattle.nb_cache.proofs.Common.{option_map}
 use Rattle.std.specs.Map.Iter.{deref_pair}
-use Rattle.std.specs.Option.{option_map}
 use Rattle.nb_cache.proofs.KeyedLaws.{last_split}
 use Rattle.nb_cache.proofs.IndexLaws.{Finds-vacated, Finds-not_full}
 use Rattle.nb_cache.proofs.places.vacate.Goals as goal

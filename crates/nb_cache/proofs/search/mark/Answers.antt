@@ -1,7 +1,5 @@
 use Rattle.std.proofs.Common.{◌≡◌, Some, refl, sym, ap, ◌∙◌, nat_eq}
-use Rattle.std.specs.Map.{lookup}
-use Rattle.std.specs.Option.{option_copied_mut}
-use Rattle.nb_cache.specs.declared.frames.Frame.{Frame}
+use Rattle.nb_cache.proofs.Common.{lookup, option_copied_mut, Frame}
 use Rattle.nb_cache.proofs.search.mark.Goals as goal
 
 pub returns : goal.returns

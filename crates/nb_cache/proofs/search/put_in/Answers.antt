@@ -1,7 +1,5 @@
 use Rattle.std.proofs.Common.{ℕ, List, Option, ap, ap₂, nat_eq}
-use Rattle.std.specs.Map.{set_value}
-use Rattle.lru.specs.LruCache.{lru_cache}
-use Rattle.nb_cache.specs.Held.{Slot}
+use Rattle.nb_cache.proofs.Common.{set_value, lru_cache, Slot}
 use Rattle.nb_cache.proofs.search.put_in.Goals as goal
 
 pub returns : goal.returns

@@ -1,6 +1,6 @@
 use Rattle.std.proofs.Common.{◌≡◌, ℕ, sym, ap, ◌∙◌, subst}
-use Rattle.nb_fields.specs.Cases.{cell}
-use Rattle.nb_cases.specs.Events.{IsTheCase, case_at, column_of}
+use Rattle.nb_cases.proofs.Common.{cell, IsTheCase, case_at}
+use Rattle.nb_cases.specs.Events.{column_of}
 use Rattle.nb_cases.proofs.events.case_of.Goals as goal
 
 pub returns : goal.returns

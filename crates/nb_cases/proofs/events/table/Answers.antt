@@ -1,5 +1,5 @@
 use Rattle.std.proofs.Common.{sym, subst}
-use Rattle.nb_cases.specs.Events.{AreTheCases}
+use Rattle.nb_cases.proofs.Common.{AreTheCases}
 use Rattle.nb_cases.proofs.EventLaws.{the_cases}
 use Rattle.nb_cases.proofs.events.table.Goals as goal
 

@@ -1,6 +1,5 @@
 use Rattle.std.proofs.Common.{◌≡◌, ℕ, sym, ap, ◌∙◌, subst}
-use Rattle.nb_fields.specs.Cases.{cell}
-use Rattle.nb_cases.specs.Syncs.{SyncsOf, syncs_at, row_of, column_of}
+use Rattle.nb_cases.proofs.Common.{cell, SyncsOf, syncs_at, row_of, column_of}
 use Rattle.nb_cases.proofs.syncs.syncs_of.Goals.{then-kept, else-kept}
 use Rattle.nb_cases.proofs.syncs.syncs_of.Goals as goal
 

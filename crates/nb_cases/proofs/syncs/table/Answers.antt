@@ -1,5 +1,5 @@
 use Rattle.std.proofs.Common.{sym, subst}
-use Rattle.nb_cases.specs.Syncs.{AreTheSyncs}
+use Rattle.nb_cases.proofs.Common.{AreTheSyncs}
 use Rattle.nb_cases.proofs.SyncLaws.{the_syncs}
 use Rattle.nb_cases.proofs.syncs.table.Goals as goal
 

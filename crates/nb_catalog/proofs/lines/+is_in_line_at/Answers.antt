@@ -1,5 +1,4 @@
-use Rattle.std.proofs.Common.{◌∙◌, sym, ap, Bool}
-use Rattle.std.specs.Prelude.{◌||◌, ◌==◌, Some, None}
+use Rattle.std.proofs.Common.{◌∙◌, sym, ap, Bool, ◌||◌, ◌==◌, Some, None}
 use Rattle.nb_catalog.proofs.LineLaws.{among_zero, among_none, among_behind}
 use Rattle.nb_catalog.proofs.lines.+is_in_line_at.Goals as goal
 

@@ -1,10 +1,5 @@
-use Rattle.std.proofs.Common.{◌≢◌, ℕ, List, [], ◌∷◌, ◌++◌, length, ap, sym, ◌∙◌}
-use Rattle.std.specs.Prelude.{Err}
-use Rattle.nb_host.specs.declared.refusals.Refusal.TheVariants.{BadScript}
-use Rattle.nb_script.specs.Words.{Bytes}
-use Rattle.nb_script.specs.Lines.{left}
-use Rattle.nb_script.specs.Scripts.{Numbered}
-use Rattle.nb_catalog.specs.NameLists.{is_next, names_on}
+use Rattle.std.proofs.Common.{◌≢◌, ℕ, List, [], ◌∷◌, ◌++◌, length, ap, sym, ◌∙◌, Err}
+use Rattle.nb_catalog.proofs.Common.{BadScript, Bytes, left, Numbered, is_next, names_on}
 use Rattle.nb_catalog.proofs.FileLaws.{refused}
 use Rattle.nb_catalog.proofs.ListLaws.{names_all, names_full, names_bad, names_more, names_few}
 use Rattle.nb_catalog.proofs.name_list.names_on.Goals as goal

@@ -1,6 +1,5 @@
 use Rattle.std.proofs.Common.{◌≡◌, ◌-◌, ◌≤◌, [], length}
-use Rattle.nb_script.specs.Lines.{left}
-use Rattle.nb_catalog.specs.NameLists.{names_on}
+use Rattle.nb_catalog.proofs.Common.{left, names_on}
 use Rattle.nb_catalog.proofs.FileLaws.{with_all}
 use Rattle.nb_catalog.proofs.name_list.names_on.Given as goal
 

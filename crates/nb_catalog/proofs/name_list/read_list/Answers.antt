@@ -1,5 +1,5 @@
 use Rattle.std.proofs.Common.{[], ap, sym, ◌∙◌}
-use Rattle.nb_catalog.specs.NameLists.{names_on}
+use Rattle.nb_catalog.proofs.Common.{names_on}
 use Rattle.nb_catalog.proofs.DistinctLaws.{names_distinct, none_twice}
 use Rattle.nb_catalog.proofs.ListLaws.{some_names}
 use Rattle.nb_catalog.proofs.name_list.read_list.Goals as goal

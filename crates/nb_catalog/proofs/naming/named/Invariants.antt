@@ -1,5 +1,5 @@
 use Rattle.std.proofs.Common.{◌≡◌, take}
-use Rattle.nb_catalog.specs.Chained.{names_at}
+use Rattle.nb_catalog.proofs.Common.{names_at}
 use Rattle.nb_catalog.proofs.naming.named.Given as goal
 
 -- the names so far

@@ -1,8 +1,5 @@
 use Rattle.std.proofs.Common.{ℕ, List}
-use Rattle.nb_host.specs.Files.{Files}
-use Rattle.nb_chain.proofs.AnswerLaws.{passed}
-use Rattle.nb_catalog.specs.Answers.{Says}
-use Rattle.nb_catalog.specs.Turns.{planned}
+use Rattle.nb_catalog.proofs.Common.{Files, Says, planned, passed}
 use Rattle.nb_catalog.proofs.KeptFiles.{keeps_files}
 use Rattle.nb_catalog.proofs.TurnLaws.{planned_is, planned_fault}
 use Rattle.nb_catalog.proofs.planning.plan_files.Goals as goal

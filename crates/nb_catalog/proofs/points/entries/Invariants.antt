@@ -1,5 +1,5 @@
 use Rattle.std.proofs.Common.{◌≡◌, ◌++◌, drop}
-use Rattle.nb_catalog.specs.Plans.{entries_from}
+use Rattle.nb_catalog.proofs.Common.{entries_from}
 use Rattle.nb_catalog.proofs.points.entries.Given as goal
 
 abbrev pub invariant-loop-place : goal.invariant-loop-place

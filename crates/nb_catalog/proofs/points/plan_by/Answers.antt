@@ -1,7 +1,5 @@
-use Rattle.std.proofs.Common.{List, ap, ap₂, ◌∙◌}
-use Rattle.std.specs.Prelude.{filter, count_by, not}
-use Rattle.nb_catalog.specs.declared.entry.Entry.{Entry}
-use Rattle.nb_catalog.specs.Plans.{newest, is_in_lines, places}
+use Rattle.std.proofs.Common.{List, ap, ap₂, ◌∙◌, filter, count_by, not}
+use Rattle.nb_catalog.proofs.Common.{Entry, newest, is_in_lines, places}
 use Rattle.nb_catalog.proofs.PlanLaws.{plan_is}
 use Rattle.nb_catalog.proofs.points.plan_by.Goals as goal
 

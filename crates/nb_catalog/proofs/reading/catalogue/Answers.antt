@@ -1,12 +1,6 @@
-use Rattle.std.proofs.Common.{ℕ, ◌+◌, List, [], ◌∷◌, length, ap, subst, ◌∙◌, length-append, arith}
-use Rattle.std.specs.Prelude.{Ok, Err}
-use Rattle.nb_host.specs.Files.{File, Files}
-use Rattle.nb_level.specs.declared.head.LevelHead.{LevelHead}
+use Rattle.std.proofs.Common.{ℕ, ◌+◌, List, [], ◌∷◌, length, ap, subst, ◌∙◌, length-append, arith, Ok, Err}
+use Rattle.nb_catalog.proofs.Common.{File, Files, LevelHead, Says, read_file, read_files, all_reads, reads_of, passed}
 use Rattle.nb_page.proofs.QuietLaws.{quiet_joined}
-use Rattle.nb_chain.proofs.AnswerLaws.{passed}
-use Rattle.nb_catalog.specs.Answers.{Says}
-use Rattle.nb_catalog.specs.Heads.{read_file, read_files}
-use Rattle.nb_catalog.specs.Reads.{all_reads, reads_of}
 use Rattle.nb_catalog.proofs.ChainLaws.{points_chained}
 use Rattle.nb_catalog.proofs.FileLaws.{reads_more, reads_all, read_more, read_fault, read_all}
 use Rattle.nb_catalog.proofs.reading.catalogue.Goals as goal

@@ -1,8 +1,6 @@
-use Rattle.std.proofs.Common.{◌≡◌, ◌+◌, ◌≤◌, length, drop}
-use Rattle.std.specs.Prelude.{IsTrue}
+use Rattle.std.proofs.Common.{◌≡◌, ◌+◌, ◌≤◌, length, drop, IsTrue}
+use Rattle.nb_catalog.proofs.Common.{read_files, all_reads}
 use Rattle.nb_page.specs.Quiet.{Quiet}
-use Rattle.nb_catalog.specs.Heads.{read_files}
-use Rattle.nb_catalog.specs.Reads.{all_reads}
 use Rattle.nb_catalog.proofs.FileLaws.{with_all}
 use Rattle.nb_catalog.proofs.reading.catalogue.Given as goal
 

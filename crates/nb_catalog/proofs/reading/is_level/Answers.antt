@@ -1,5 +1,5 @@
 use Rattle.std.proofs.Common.{take, ◌∙◌}
-use Rattle.nb_host.specs.Files.{bytes_of}
+use Rattle.nb_catalog.proofs.Common.{bytes_of}
 use Rattle.nb_catalog.proofs.HeadLaws.{first_begins}
 use Rattle.nb_catalog.proofs.reading.is_level.Goals as goal
 

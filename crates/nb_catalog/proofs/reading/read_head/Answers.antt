@@ -1,9 +1,5 @@
 use Rattle.std.proofs.Common.{ℕ, List, ap, subst, sym, ◌∙◌}
-use Rattle.nb_host.specs.Files.{File, Files, bytes_of}
-use Rattle.nb_model.specs.Levels.{begins_level}
-use Rattle.nb_catalog.specs.Answers.{Says}
-use Rattle.nb_catalog.specs.Heads.{read_file}
-use Rattle.nb_chain.specs.Level.{WholeSays}
+use Rattle.nb_catalog.proofs.Common.{File, Files, bytes_of, begins_level, Says, read_file, WholeSays}
 use Rattle.nb_catalog.proofs.HeadLaws.{level_says, level_counted, whole_counted}
 use Rattle.nb_catalog.proofs.reading.read_head.Goals as goal
 

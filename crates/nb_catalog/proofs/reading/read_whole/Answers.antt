@@ -1,9 +1,5 @@
 use Rattle.std.proofs.Common.{ℕ, List}
-use Rattle.nb_host.specs.Files.{File}
-use Rattle.nb_level.specs.declared.head.LevelHead.{LevelHead}
-use Rattle.nb_chain.proofs.AnswerLaws.{passed}
-use Rattle.nb_catalog.specs.Answers.{Says}
-use Rattle.nb_catalog.specs.Heads.{read_file}
+use Rattle.nb_catalog.proofs.Common.{File, LevelHead, Says, read_file, passed}
 use Rattle.nb_catalog.proofs.HeadLaws.{whole_fault, whole_read}
 use Rattle.nb_catalog.proofs.reading.read_whole.Goals as goal
 

@@ -1,12 +1,5 @@
-use Rattle.std.proofs.Common.{◌≡◌, ℕ, ◌*◌, List, length, drop, sym, ap, subst, ◌∙◌, arith}
-use Rattle.std.specs.Prelude.{Err, max}
-use Rattle.nb_host.specs.declared.faults.Fault.{Fault}
-use Rattle.nb_host.specs.Files.{Files}
-use Rattle.nb_chain.specs.declared.checking.Chain.{Chain}
-use Rattle.nb_chain.specs.Overlay.{is_blank, without_blank}
-use Rattle.nb_chain.specs.Chain.{CheckSays, IsChain, IsFirstOf}
-use Rattle.nb_chain.specs.Next.{LevelsSay, AreNext}
-use Rattle.nb_chain.proofs.AnswerLaws.{passed}
+use Rattle.std.proofs.Common.{◌≡◌, ℕ, ◌*◌, List, length, drop, sym, ap, subst, ◌∙◌, arith, Err, max}
+use Rattle.nb_chain.proofs.Common.{Fault, Files, Chain, is_blank, without_blank, CheckSays, IsChain, IsFirstOf, LevelsSay, AreNext, passed}
 use Rattle.nb_chain.proofs.LinkLaws.{split}
 use Rattle.nb_chain.proofs.CheckLaws.{check_first, check_others, check_all}
 use Rattle.nb_chain.proofs.checking.check.Goals as goal

@@ -1,9 +1,5 @@
 use Rattle.std.proofs.Common.{ℕ, ◌+◌, List, drop, refl, ap, subst, ◌∙◌, arith}
-use Rattle.nb_host.specs.Files.{File, Files}
-use Rattle.nb_page.proofs.QuietLaws.{quiet_begun, quiet_joined}
-use Rattle.nb_chain.specs.declared.tip.Tip.{Tip}
-use Rattle.nb_chain.specs.Next.{IsNext, LevelsSay}
-use Rattle.nb_chain.proofs.AnswerLaws.{passed}
+use Rattle.nb_chain.proofs.Common.{File, Files, quiet_begun, quiet_joined, Tip, IsNext, LevelsSay, passed}
 use Rattle.nb_chain.proofs.LinkLaws.{accepted_none, accepted_at, accepted_end, accepted_more, accepted_fault, accepted_all}
 use Rattle.nb_chain.proofs.checking.read_levels.Goals as goal
 

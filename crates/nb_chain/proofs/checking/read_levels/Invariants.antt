@@ -1,7 +1,5 @@
-use Rattle.std.proofs.Common.{◌≡◌, drop}
-use Rattle.std.specs.Prelude.{IsTrue}
-use Rattle.nb_fields.specs.Places.{is_page_size}
-use Rattle.nb_page.specs.Quiet.{Quiet}
+use Rattle.std.proofs.Common.{◌≡◌, drop, IsTrue}
+use Rattle.nb_chain.proofs.Common.{is_page_size, Quiet}
 use Rattle.nb_chain.proofs.LinkLaws.{Accepted}
 use Rattle.nb_chain.proofs.checking.read_levels.Given as goal
 

@@ -1,6 +1,5 @@
 use Rattle.std.proofs.Common.{take, ap, ◌∙◌, sym}
-use Rattle.nb_host.specs.Files.{Files}
-use Rattle.nb_chain.specs.declared.first_file.First.{First}
+use Rattle.nb_chain.proofs.Common.{Files, First}
 use Rattle.nb_chain.proofs.StartLaws.{first_begins}
 use Rattle.nb_chain.proofs.AnswerLaws.{whatever, refused_first, whole_first}
 use Rattle.nb_chain.proofs.first_file.read_first.Goals as goal

@@ -1,9 +1,6 @@
-use Rattle.std.proofs.Common.{ℕ, List, ap, ◌∙◌, sym}
-use Rattle.std.specs.Prelude.{Err}
-use Rattle.nb_host.specs.declared.refusals.Refusal.TheVariants.{ChainLevel}
-use Rattle.nb_chain.specs.declared.first_file.First.{First}
-use Rattle.nb_chain.specs.First.{IsRefused}
-use Rattle.nb_chain.proofs.AnswerLaws.{passed, level_unread, level_first}
+use Rattle.std.proofs.Common.{ℕ, List, ap, ◌∙◌, sym, Err}
+use Rattle.nb_chain.proofs.Common.{ChainLevel, First, IsRefused, passed}
+use Rattle.nb_chain.proofs.AnswerLaws.{level_unread, level_first}
 use Rattle.nb_chain.proofs.first_file.refuse_level.Goals as goal
 
 pub returns-in_err-head-clause-answer : goal.returns-in_err-head-clause-answer

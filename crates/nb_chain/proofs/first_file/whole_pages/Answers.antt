@@ -1,10 +1,5 @@
-use Rattle.std.proofs.Common.{◌≡◌, ℕ, ap, sym, ◌∙◌}
-use Rattle.std.specs.Prelude.{true, Some}
-use Rattle.nb_fields.specs.Header.{is_header}
-use Rattle.nb_fields.proofs.HeaderLaws.{is_header-short}
-use Rattle.nb_host.specs.declared.refusals.Refusal.TheVariants.{BadLevel}
-use Rattle.nb_chain.specs.declared.first_file.First.{First}
-use Rattle.nb_chain.specs.First.{is_bad_count}
+use Rattle.std.proofs.Common.{◌≡◌, ℕ, ap, sym, ◌∙◌, true, Some}
+use Rattle.nb_chain.proofs.Common.{is_header, is_header-short, BadLevel, First, is_bad_count}
 use Rattle.nb_chain.proofs.StartLaws.{refused, first_header, header_same, size_is, state_is, unheaded, unstalled, unfit, fit}
 use Rattle.nb_chain.proofs.first_file.whole_pages.Goals as goal
 

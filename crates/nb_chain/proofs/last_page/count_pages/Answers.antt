@@ -1,7 +1,5 @@
 use Rattle.std.proofs.Common.{◌≡◌, ℕ, ◌-◌, ◌*◌, ◌≤◌, length, ap, sym, subst, ◌∙◌, arith}
-use Rattle.nb_host.specs.Files.{Files}
-use Rattle.nb_page.proofs.QuietLaws.{quiet_joined}
-use Rattle.nb_chain.specs.Overlay.{is_blank}
+use Rattle.nb_chain.proofs.Common.{Files, quiet_joined, is_blank}
 use Rattle.nb_chain.proofs.CountLaws.{found_filled, found_blank, found_none}
 use Rattle.nb_chain.proofs.last_page.count_pages.Goals as goal
 

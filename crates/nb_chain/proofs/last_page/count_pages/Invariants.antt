@@ -1,7 +1,5 @@
-use Rattle.std.proofs.Common.{◌≡◌, ◌+◌, ◌*◌, ◌≤◌, ℕ, List, length}
-use Rattle.std.specs.Prelude.{IsTrue, Some, max}
-use Rattle.nb_page.specs.Quiet.{Quiet}
-use Rattle.nb_chain.specs.Overlay.{is_blank, without_blank}
+use Rattle.std.proofs.Common.{◌≡◌, ◌+◌, ◌*◌, ◌≤◌, ℕ, List, length, IsTrue, Some, max}
+use Rattle.nb_chain.proofs.Common.{Quiet, is_blank, without_blank}
 use Rattle.nb_chain.proofs.last_page.count_pages.Given as goal
 
 -- the pages after are blank

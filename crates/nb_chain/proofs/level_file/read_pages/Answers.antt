@@ -1,7 +1,5 @@
 use Rattle.std.proofs.Common.{◌≡◌, refl, ap, ◌∙◌}
-use Rattle.nb_host.specs.Files.{Files}
-use Rattle.nb_level.specs.Reading.{Reading}
-use Rattle.nb_page.proofs.QuietLaws.{quiet_begun, quiet_call, quiet_joined}
+use Rattle.nb_chain.proofs.Common.{Files, Reading, quiet_begun, quiet_call, quiet_joined}
 use Rattle.nb_chain.proofs.PageLaws.{so_far_none, so_far_more, gives_there}
 use Rattle.nb_chain.proofs.level_file.read_pages.Goals as goal
 

@@ -1,7 +1,5 @@
-use Rattle.std.proofs.Common.{◌≡◌, ◌-◌}
-use Rattle.std.specs.Prelude.{IsTrue}
-use Rattle.nb_fields.specs.Places.{most_pages}
-use Rattle.nb_page.specs.Quiet.{Quiet}
+use Rattle.std.proofs.Common.{◌≡◌, ◌-◌, IsTrue}
+use Rattle.nb_chain.proofs.Common.{most_pages, Quiet}
 use Rattle.nb_chain.proofs.PageLaws.{SoFar}
 use Rattle.nb_chain.proofs.level_file.read_pages.Given as goal
 

@@ -1,8 +1,5 @@
 use Rattle.std.proofs.Common.{◌≡◌, [], ◌∷◌, ◌++◌, ap, ◌∙◌, arith, length-append}
-use Rattle.nb_host.specs.Files.{Files}
-use Rattle.nb_model.specs.Image.{Numbered}
-use Rattle.nb_level.specs.Reading.{Reading}
-use Rattle.nb_page.proofs.QuietLaws.{quiet_call, quiet_joined}
+use Rattle.nb_chain.proofs.Common.{Files, Numbered, Reading, quiet_call, quiet_joined}
 use Rattle.nb_chain.proofs.PageLaws.{pages_more, gives_there}
 use Rattle.nb_chain.proofs.level_file.read_to_end.Goals as goal
 

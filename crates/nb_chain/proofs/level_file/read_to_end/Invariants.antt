@@ -1,11 +1,5 @@
-use Rattle.std.proofs.Common.{◌≡◌, ◌+◌, ◌-◌, ◌≤◌, List, length}
-use Rattle.std.specs.Prelude.{IsTrue}
-use Rattle.nb_fields.specs.Places.{most_pages}
-use Rattle.nb_host.specs.Files.{bytes_of}
-use Rattle.nb_model.specs.Image.{Numbered}
-use Rattle.nb_model.specs.Levels.{behind}
-use Rattle.nb_level.specs.Reading.{still_to_come}
-use Rattle.nb_page.specs.Quiet.{Quiet}
+use Rattle.std.proofs.Common.{◌≡◌, ◌+◌, ◌-◌, ◌≤◌, List, length, IsTrue}
+use Rattle.nb_chain.proofs.Common.{most_pages, bytes_of, Numbered, behind, still_to_come, Quiet}
 use Rattle.nb_chain.proofs.level_file.read_to_end.Given as goal
 
 -- some pages were read so far

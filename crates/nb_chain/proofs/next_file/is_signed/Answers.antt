@@ -1,5 +1,5 @@
 use Rattle.std.proofs.Common.{sym, length, ◌∙◌}
-use Rattle.nb_model.proofs.ReadLaws.{le_no}
+use Rattle.nb_chain.proofs.Common.{le_no}
 use Rattle.nb_chain.proofs.StartLaws.{unsigned}
 use Rattle.nb_chain.proofs.next_file.is_signed.Goals as goal
 

@@ -1,12 +1,7 @@
-use Rattle.std.proofs.Common.{ℕ, List, take, ap, ◌∙◌, sym, subst, arith}
-use Rattle.std.specs.Prelude.{Err}
-use Rattle.nb_host.specs.declared.faults.Fault.{Fault}
-use Rattle.nb_host.specs.Files.{File, Files}
-use Rattle.nb_chain.specs.declared.tip.Tip.{Tip}
-use Rattle.nb_chain.specs.Level.{LevelSays, IsRead}
-use Rattle.nb_chain.specs.Next.{NextSays}
+use Rattle.std.proofs.Common.{ℕ, List, take, ap, ◌∙◌, sym, subst, arith, Err}
+use Rattle.nb_chain.proofs.Common.{Fault, File, Files, Tip, LevelSays, IsRead, NextSays, passed}
 use Rattle.nb_chain.proofs.StartLaws.{first_begins, first_number}
-use Rattle.nb_chain.proofs.AnswerLaws.{passed, next_unmarked, next_unread_there, next_apart, next_is}
+use Rattle.nb_chain.proofs.AnswerLaws.{next_unmarked, next_unread_there, next_apart, next_is}
 use Rattle.nb_chain.proofs.next_file.read_next.Goals as goal
 
 pub returns-then-not-begins_level-clause-answer : goal.returns-then-not-begins_level-clause-answer

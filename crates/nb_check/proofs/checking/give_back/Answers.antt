@@ -1,21 +1,9 @@
-use Rattle.std.proofs.Common.{◌≡◌, ◌≢◌, ℕ, ◌*◌, ◌<◌, List, length, refl, sym, ap, subst, ◌∙◌, arith}
-use Rattle.std.specs.Prelude.{Bool, None, Ok, Err, IfErr}
-use Rattle.nb_host.specs.declared.faults.Fault.TheVariants.{Memory}
-use Rattle.nb_page.proofs.QuietLaws.{quiet_begun}
-use Rattle.nb_model.specs.Checks.{reclaimed}
-use Rattle.nb_model.specs.Forms.{drafted, give_page}
-use Rattle.nb_model.specs.Image.{Image}
-use Rattle.nb_model.specs.Leaks.{is_among, is_leaked, leaked}
-use Rattle.nb_model.specs.Strokes.{Stroke}
-use Rattle.nb_base.specs.Takes.{after_strokes}
-use Rattle.nb_state.specs.Does.{Makes}
-use Rattle.nb_state.proofs.MakesLaws.{goes_on, goes_nowhere}
-use Rattle.nb_engine.specs.Mark.{mark_cause}
-use Rattle.nb_engine.specs.Tries.{Tries}
-use Rattle.nb_alloc.proofs.DoesLaws.{tries_passed, unless_none}
+use Rattle.std.proofs.Common.{◌≡◌, ◌≢◌, ℕ, ◌*◌, ◌<◌, List, length, refl, sym, ap, subst, ◌∙◌, arith, Bool, None, Ok, Err, IfErr}
+use Rattle.nb_check.proofs.Common.{Memory, quiet_begun, reclaimed, drafted, give_page, Image, is_among, is_leaked, leaked, Stroke, after_strokes, Makes, goes_on, goes_nowhere, mark_cause, Tries, tries_passed}
 use Rattle.nb_check.proofs.AmongLaws.{leaked_each}
 use Rattle.nb_check.proofs.LeakLaws.{leaked_all, step_reads, passed_reads, open_header, giving_begun, giving_done, giving_passed, giving_sure, giving_failed, giving_onward}
 use Rattle.nb_check.proofs.TriesLaws.{made_anyway}
+use Rattle.nb_state.proofs.TurnLaws.{unless_none}
 use Rattle.nb_check.proofs.checking.give_back.Goals as goal
 
 -- whether a page of the report is leaked

@@ -1,10 +1,5 @@
-use Rattle.std.proofs.Common.{◌≡◌, ◌+◌, ◌*◌, ◌≤◌, length}
-use Rattle.std.specs.Prelude.{IsTrue}
-use Rattle.nb_model.specs.Sound.{IsSoundImage}
-use Rattle.nb_model.specs.Trail.{Trail}
-use Rattle.nb_state.specs.Open.{IsOpen}
-use Rattle.nb_state.specs.Does.{Goes}
-use Rattle.nb_model.specs.Leaks.{leaked}
+use Rattle.std.proofs.Common.{◌≡◌, ◌+◌, ◌*◌, ◌≤◌, length, IsTrue}
+use Rattle.nb_check.proofs.Common.{IsSoundImage, Trail, IsOpen, Goes, leaked}
 use Rattle.nb_check.proofs.LeakLaws.{IsGiving, leaked_from}
 use Rattle.nb_check.proofs.checking.give_back.Given as goal
 

@@ -1,20 +1,6 @@
-use Rattle.std.proofs.Common.{◌≡◌, ◌≢◌, ℕ, List, length, refl, sym, ap, ◌∙◌, arith}
-use Rattle.std.specs.Prelude.{Bool, Result, Ok, Err, IsErr, IsErrAnd, None}
-use Rattle.nb_host.specs.declared.faults.Fault.{Fault}
-use Rattle.nb_host.specs.declared.faults.Fault.TheVariants.{Memory}
-use Rattle.nb_host.specs.declared.refusals.Refusal.TheVariants.{Access}
-use Rattle.nb_page.proofs.QuietLaws.{quiet_begun}
-use Rattle.nb_change.proofs.ResultLaws.{passed_on}
-use Rattle.nb_model.specs.declared.reply.Reply.TheVariants.{Freed}
-use Rattle.nb_model.specs.Causes.{when}
-use Rattle.nb_model.specs.Outcomes.{says}
-use Rattle.nb_state.proofs.MakesLaws.{goes_on, goes_nowhere}
+use Rattle.std.proofs.Common.{◌≡◌, ◌≢◌, ℕ, List, length, refl, sym, ap, ◌∙◌, arith, Bool, Result, Ok, Err, IsErr, IsErrAnd, None}
+use Rattle.nb_check.proofs.Common.{Fault, Memory, Access, quiet_begun, passed_on, Freed, when, says, goes_on, goes_nowhere, seeing, refused_does, tested_does, tries_other, tries_valued, tries_passed, tries_after, tries_does, Does, Held, leaked, check_cause, reclaimed, reclaim_turn}
 use Rattle.nb_alloc.proofs.CauseLaws.{unless_allowed}
-use Rattle.nb_alloc.proofs.DoesLaws.{seeing, refused_does, tested_does, tries_other, tries_valued, tries_passed, tries_after, tries_does}
-use Rattle.nb_state.specs.Does.{Does}
-use Rattle.nb_state.specs.Open.{Held}
-use Rattle.nb_model.specs.Leaks.{leaked}
-use Rattle.nb_model.specs.Checks.{check_cause, reclaimed, reclaim_turn}
 use Rattle.nb_check.proofs.CauseLaws.{closed_fails, check_fails, reclaim_free, reclaim_refused, reclaim_says}
 use Rattle.nb_check.proofs.checking.reclaim.Goals as goal
 
@@ -29,7 +15,7 @@ pub returns-in_err-report-clause-turn : goal.returns-in_err-report-clause-turn
 returns-in_err-report-clause-turn g c s t tells same is =
     let found = c.in_err-report.ensures in
     let open_to = sym (c.is_read_only.ensures ∙ ap (λ (h : Held). h.read_only) c.store.ensures ∙ is.agrees.read_only) ∙ c.if-is_read_only.false in
-    tested_does (List ℕ) ℕ Freed _ _ _ _ _ _ t s reclaim_turn (check_cause t.base.image) c.from_residual.ensures same found.same found.quiet is (found.open t tells is) (found.test t tells is)
+    tested_does (List ℕ) ℕ Freed _ _ _ _ _ _ t s reclaim_turn (check_cause t.base.image) c.from_residual.ensures same found.looks.same found.looks.quiet is (found.looks.opened t tells is) (found.test t tells is)
     (λ r e. reclaim_refused (seeing s t.base) r (check_fails t.base.image (ap (λ (b : Bool). when b (Access 1)) open_to) r e))
 
 pub returns-in_err-give_back-clause-turn : goal.returns-in_err-give_back-clause-turn
@@ -47,8 +33,8 @@ returns-in_err-give_back-clause-turn g c s t tells same is =
     (tries_does {T = ℕ} Freed (Err fault) w new c.args.engine.now c.give_back.new.engine t s reclaim_turn None said refl xs same
     (reclaim_says now (reclaim_free t.base.image (ap (λ (b : Bool). when b (Access 1)) open_to) (found.test t tells is)) ∙ sym (unless_allowed now None (says now said xs) refl)) tt
     (tries_other (Unit {0}) ℕ fault w new c.args.engine.now c.give_back.new.engine t None xs
-    (tries_after {T = Unit {0}} (Err fault) w mid new c.args.engine.now c.check.new.engine c.give_back.new.engine t None xs found.same found.quiet is
-    (c.in_err-give_back.ensures.tries t tells (found.open t tells is) (found.sound t tells is) (found.leaked t tells is)))))
+    (tries_after {T = Unit {0}} (Err fault) w mid new c.args.engine.now c.check.new.engine c.give_back.new.engine t None xs found.looks.same found.looks.quiet is
+    (c.in_err-give_back.ensures.tries t tells (found.looks.opened t tells is) (found.sound t tells is) (found.leaked t tells is)))))
 
 pub returns-clause-turn : goal.returns-clause-turn
 returns-clause-turn g c s t tells same is =
@@ -64,8 +50,8 @@ returns-clause-turn g c s t tells same is =
     (reclaim_says now (reclaim_free t.base.image (ap (λ (b : Bool). when b (Access 1)) open_to) (found.test t tells is)) ∙ sym (unless_allowed now None (says now said xs) refl))
     (ap Freed (c.count.ensures ∙ ap length (found.leaked t tells is)))
     (tries_valued {S = Unit {0}} tt c.count.result w new c.args.engine.now c.give_back.new.engine t None xs
-    (tries_after {T = Unit {0}} (Ok tt) w mid new c.args.engine.now c.check.new.engine c.give_back.new.engine t None xs found.same found.quiet is
-    (c.in_ok-give_back.ensures.tries t tells (found.open t tells is) (found.sound t tells is) (found.leaked t tells is))))
+    (tries_after {T = Unit {0}} (Ok tt) w mid new c.args.engine.now c.check.new.engine c.give_back.new.engine t None xs found.looks.same found.looks.quiet is
+    (c.in_ok-give_back.ensures.tries t tells (found.looks.opened t tells is) (found.sound t tells is) (found.leaked t tells is))))
 
 pub returns-then-is_read_only-clause-goes : goal.returns-then-is_read_only-clause-goes
 returns-then-is_read_only-clause-goes g c = goes_nowhere _ _ refl
@@ -80,14 +66,14 @@ pub returns-clause-once : goal.returns-clause-once
 returns-clause-once g c t tells is =
     let found = c.in_ok-report.ensures in
     let reads = found.once t tells is in
-    let more = c.in_ok-give_back.ensures.once t tells (found.open t tells is) (found.leaked t tells is) in
+    let more = c.in_ok-give_back.ensures.once t tells (found.looks.opened t tells is) (found.leaked t tells is) in
     omega (arith, reads, more)
 
 pub returns-then-is_read_only-clause-on_memory : goal.returns-then-is_read_only-clause-on_memory
 returns-then-is_read_only-clause-on_memory g c other memory = quiet_begun (g.H.Host.world c.args.host.now) (g.met.H.Host.timely c.args.host.now)
 
 pub returns-in_err-report-clause-on_memory : goal.returns-in_err-report-clause-on_memory
-returns-in_err-report-clause-on_memory g c other memory = c.in_err-report.ensures.quiet
+returns-in_err-report-clause-on_memory g c other memory = c.in_err-report.ensures.looks.quiet
 
 -- what is passed on is memory, which the call doesn't answer
 not_passed : (result : Result ℕ Fault) (fault : Fault) → IsErr result × IsErrAnd result (λ f. f ≡ fault) → fault ≢ Memory → result ≡ Err Memory → ⊥

@@ -1,13 +1,5 @@
-use Rattle.std.proofs.Common.{ℕ, List, sym, ap, subst, ◌∙◌, arith}
-use Rattle.std.specs.Prelude.{Some, None, Err}
-use Rattle.nb_host.specs.declared.faults.Fault.{Fault}
-use Rattle.nb_host.specs.declared.refusals.Refusal.TheVariants.{Unsound}
-use Rattle.nb_model.specs.Checks.{unsound_by}
-use Rattle.nb_model.specs.Facts.{covered, unsound}
-use Rattle.nb_model.specs.Image.{Image, image_size}
-use Rattle.nb_state.specs.Does.{Tested}
-use Rattle.nb_alloc.proofs.DoesLaws.{tested_on}
-use Rattle.nb_check.specs.Passes.{IsFirstBelow, AreSized}
+use Rattle.std.proofs.Common.{ℕ, List, sym, ap, subst, ◌∙◌, arith, Some, None, Err}
+use Rattle.nb_check.proofs.Common.{Fault, Unsound, unsound_by, covered, unsound, Image, image_size, Tested, tested_on, IsFirstBelow, AreSized}
 use Rattle.nb_check.proofs.BreakLaws.{unsound_first, unsound_not}
 use Rattle.nb_check.proofs.TakenLaws.{taken_none}
 use Rattle.nb_check.proofs.checking.taken_data.Goals as goal

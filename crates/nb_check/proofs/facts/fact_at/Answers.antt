@@ -1,16 +1,6 @@
-use Rattle.std.proofs.Common.{◌≡◌, ℕ, length, sym, ap, ◌∙◌, arith}
-use Rattle.std.specs.Prelude.{Bool, true, false, ◌&&◌, ◌||◌, ◌==◌, not}
-use Rattle.nb_fields.specs.Bytes.{is_zeros}
-use Rattle.nb_fields.specs.Page.{kind_of, stamp_of}
-use Rattle.nb_fields.specs.Places.{is_inventory_place, is_scn_place}
-use Rattle.nb_fields.specs.Kinds.{inventory_kind, scn_kind}
-use Rattle.nb_page.specs.Head.{head_in}
-use Rattle.nb_page.specs.declared.page.PageHead.{PageHead}
-use Rattle.nb_model.specs.Image.{Page, Image, page_at, image_size, image_scn}
-use Rattle.nb_model.specs.Facts.{breaks}
-use Rattle.nb_model.specs.declared.fact.Fact.TheVariants.{WrongEntry}
-use Rattle.nb_model.proofs.ReadLaws.{eq_no, eq_yes, lt_yes, lt_no}
-use Rattle.nb_check.proofs.FactLaws.{of_entries, kind_in, stamp_in, lowest_blank, lowest_place, lowest_late, lowest_entry, lowest_header, lowest_none, header_only, header_test}
+use Rattle.std.proofs.Common.{◌≡◌, ℕ, length, sym, ap, ◌∙◌, arith, Bool, true, false, ◌&&◌, ◌||◌, ◌==◌, not}
+use Rattle.nb_check.proofs.Common.{is_zeros, kind_of, stamp_of, is_inventory_place, is_scn_place, inventory_kind, scn_kind, head_in, PageHead, Page, Image, page_at, image_size, image_scn, breaks, WrongEntry, eq_no, eq_yes, lt_yes, lt_no, stamp_in}
+use Rattle.nb_check.proofs.FactLaws.{of_entries, kind_in, lowest_blank, lowest_place, lowest_late, lowest_entry, lowest_header, lowest_none, header_only, header_test}
 use Rattle.nb_check.proofs.facts.fact_at.Goals as goal
 
 -- what the tests of the page say of the page of the image

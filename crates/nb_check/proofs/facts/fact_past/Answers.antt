@@ -1,11 +1,5 @@
-use Rattle.std.proofs.Common.{◌≡◌, ℕ, ◌%◌, ◌<◌, length, refl, sym, ◌∙◌, arith}
-use Rattle.std.specs.Prelude.{IsTrue, true, false, not}
-use Rattle.std.proofs.Math.Nat.{mod-lt}
-use Rattle.nb_fields.specs.Places.{is_page_size, bits_in}
-use Rattle.nb_fields.proofs.PlaceLaws.{bits-least}
-use Rattle.nb_model.specs.Facts.{breaks}
-use Rattle.nb_model.specs.Forms.{is_free_page}
-use Rattle.nb_model.specs.declared.fact.Fact.TheVariants.{WrongEntry}
+use Rattle.std.proofs.Common.{◌≡◌, ℕ, ◌%◌, ◌<◌, length, refl, sym, ◌∙◌, arith, IsTrue, true, false, not}
+use Rattle.nb_check.proofs.Common.{mod-lt, is_page_size, bits_in, bits-least, breaks, is_free_page, WrongEntry}
 use Rattle.nb_check.proofs.CoverLaws.{near_of}
 use Rattle.nb_check.proofs.FactLaws.{of_entries, used_is, lowest_taken, lowest_entry_past, lowest_none_past}
 use Rattle.nb_check.proofs.facts.fact_past.Goals as goal

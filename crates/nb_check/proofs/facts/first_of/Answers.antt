@@ -1,5 +1,5 @@
 use Rattle.std.proofs.Common.{subst}
-use Rattle.nb_check.specs.Passes.{IsLowestAt}
+use Rattle.nb_check.proofs.Common.{IsLowestAt}
 use Rattle.nb_check.proofs.PassLaws.{first_still}
 use Rattle.nb_check.proofs.facts.first_of.Goals as goal
 

@@ -1,5 +1,5 @@
 use Rattle.std.proofs.Common.{subst, arith}
-use Rattle.nb_check.specs.Passes.{IsFirstBelow}
+use Rattle.nb_check.proofs.Common.{IsFirstBelow}
 use Rattle.nb_check.proofs.PassLaws.{first_kept, first_begun, first_lower}
 use Rattle.nb_check.proofs.facts.first_with.Goals as goal
 

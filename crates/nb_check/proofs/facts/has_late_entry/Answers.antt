@@ -1,9 +1,5 @@
-use Rattle.std.proofs.Common.{◌≡◌, ℕ, ◌-◌, ◌/◌, ◌%◌, ◌<◌, ◌≤◌, length, refl, sym, ap, subst, ◌∙◌, arith}
-use Rattle.std.specs.Prelude.{IsTrue, nat_lt, slice_index}
-use Rattle.nb_fields.specs.Places.{is_page_size, entries_in, scn_place}
-use Rattle.nb_scn.specs.Entries.{entries}
-use Rattle.nb_model.specs.Image.{page_at, image_size}
-use Rattle.nb_model.specs.Forms.{scn_page_of, scn_entry}
+use Rattle.std.proofs.Common.{◌≡◌, ℕ, ◌-◌, ◌/◌, ◌%◌, ◌<◌, ◌≤◌, length, refl, sym, ap, subst, ◌∙◌, arith, IsTrue, nat_lt, slice_index}
+use Rattle.nb_check.proofs.Common.{is_page_size, entries_in, scn_place, entries, page_at, image_size, scn_page_of, scn_entry}
 use Rattle.nb_check.proofs.EntryLaws.{place_few, place_other, place_same, plain_past, entry_there, wrong_past, wrong_far, entry_read}
 use Rattle.nb_check.proofs.facts.has_late_entry.Goals as goal
 

@@ -1,11 +1,5 @@
-use Rattle.std.proofs.Common.{◌≡◌, ℕ, ◌/◌, ◌<◌, length, get_or, refl, sym, ap, subst, ◌∙◌, arith}
-use Rattle.std.specs.Prelude.{IsTrue, Bool, true, ◌||◌, nat_lt}
-use Rattle.nb_fields.specs.Page.{stamp_of}
-use Rattle.nb_fields.specs.Places.{is_page_size, entries_in, is_scn_place}
-use Rattle.nb_scn.specs.Entries.{entries}
-use Rattle.nb_model.specs.Image.{page_at, image_size, image_scn}
-use Rattle.nb_model.specs.Forms.{scn_entry, has_entry}
-use Rattle.nb_model.proofs.ReadLaws.{lt_yes, lt_no}
+use Rattle.std.proofs.Common.{◌≡◌, ℕ, ◌/◌, ◌<◌, length, get_or, refl, sym, ap, subst, ◌∙◌, arith, IsTrue, Bool, true, ◌||◌, nat_lt}
+use Rattle.nb_check.proofs.Common.{stamp_of, is_page_size, entries_in, is_scn_place, entries, page_at, image_size, image_scn, scn_entry, has_entry, lt_yes, lt_no}
 use Rattle.nb_check.proofs.EntryLaws.{place_below, place_few, no_entry_first, no_entry_place, entry_there, wrong_none, wrong_here, wrong_short, entry_read}
 use Rattle.nb_check.proofs.facts.has_wrong_entry.Goals as goal
 

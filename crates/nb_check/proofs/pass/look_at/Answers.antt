@@ -1,13 +1,5 @@
-use Rattle.std.proofs.Common.{◌≡◌, ℕ, ◌%◌, ◌<◌, length, sym, ap, ◌∙◌, arith}
-use Rattle.std.specs.Prelude.{IsTrue, not}
-use Rattle.std.proofs.Math.Nat.{mod-lt}
-use Rattle.nb_fields.specs.Page.{kind_of}
-use Rattle.nb_fields.specs.Places.{is_page_size, bits_in}
-use Rattle.nb_fields.proofs.PlaceLaws.{bits-least}
-use Rattle.nb_page.specs.Head.{head_in}
-use Rattle.nb_page.specs.declared.page.PageHead.{PageHead}
-use Rattle.nb_model.specs.Image.{Page, Image, page_at}
-use Rattle.nb_model.specs.Forms.{is_free_page}
+use Rattle.std.proofs.Common.{◌≡◌, ℕ, ◌%◌, ◌<◌, length, sym, ap, ◌∙◌, arith, IsTrue, not}
+use Rattle.nb_check.proofs.Common.{mod-lt, kind_of, is_page_size, bits_in, bits-least, head_in, PageHead, Page, Image, page_at, is_free_page}
 use Rattle.nb_check.proofs.FactLaws.{kind_in, used_is}
 use Rattle.nb_check.proofs.TakenLaws.{taken_passed, taken_more, other_kind, not_taken, taken_data}
 use Rattle.nb_check.proofs.pass.look_at.Goals as goal

@@ -1,6 +1,5 @@
 use Rattle.std.proofs.Common.{◌≡◌, ℕ, ◌+◌, ◌*◌, ◌/◌, ◌<◌, length, ap, subst, refl, ◌∙◌, arith}
-use Rattle.nb_fields.proofs.SizeLaws.{size_facts}
-use Rattle.nb_check.specs.Passes.{IsFirstBelow}
+use Rattle.nb_check.proofs.Common.{size_facts, IsFirstBelow}
 use Rattle.nb_check.proofs.CoverLaws.{group_most, map_on}
 use Rattle.nb_check.proofs.pass.look_past.Goals as goal
 

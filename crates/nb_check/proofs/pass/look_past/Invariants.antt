@@ -1,6 +1,5 @@
 use Rattle.std.proofs.Common.{◌≡◌, ◌-◌, length}
-use Rattle.nb_model.specs.Image.{Image}
-use Rattle.nb_check.specs.Passes.{IsOf, IsFirstBelow, IsMapOf, HasEntryOf}
+use Rattle.nb_check.proofs.Common.{Image, IsOf, IsFirstBelow, IsMapOf, HasEntryOf}
 use Rattle.nb_check.proofs.pass.look_past.Given as goal
 
 abbrev pub invariant-loop-number : goal.invariant-loop-number

@@ -1,8 +1,5 @@
-use Rattle.std.proofs.Common.{ℕ, length, sym, ap, subst, ◌∙◌, arith}
-use Rattle.std.specs.Prelude.{IsTrue}
-use Rattle.nb_fields.specs.Places.{is_page_size, is_inventory_place, is_scn_place}
-use Rattle.nb_model.specs.Image.{Page}
-use Rattle.nb_state.specs.Open.{Held}
+use Rattle.std.proofs.Common.{ℕ, length, sym, ap, subst, ◌∙◌, arith, IsTrue}
+use Rattle.nb_check.proofs.Common.{is_page_size, is_inventory_place, is_scn_place, Page, Held}
 use Rattle.nb_check.proofs.PassLaws.{entries_kept, map_kept_on}
 use Rattle.nb_check.proofs.pass.pass_page.Goals as goal
 

@@ -1,17 +1,11 @@
-use Rattle.std.proofs.Common.{◌≡◌, ◌+◌, ◌-◌, ◌<◌, ◌≤◌, length}
-use Rattle.std.specs.Prelude.{IsTrue, min}
-use Rattle.nb_page.specs.Quiet.{Quiet}
-use Rattle.nb_model.specs.Trail.{Trail}
-use Rattle.nb_state.specs.Open.{IsOpen, but_pages}
-use Rattle.nb_check.specs.Passes.{IsFirstBelow, HoldsTaken, AreSized, IsMapOf, HasEntryOf}
+use Rattle.std.proofs.Common.{◌≡◌, ◌+◌, ◌-◌, ◌<◌, ◌≤◌, length, IsTrue, min}
+use Rattle.nb_check.proofs.Common.{Trail, IsOpen, IsFirstBelow, HoldsTaken, AreSized, IsMapOf, HasEntryOf, Looks}
 use Rattle.nb_check.proofs.pass.pass_pages.Given as goal
 
 -- the pages so far are passed
 abbrev pub invariant-loop-number : goal.invariant-loop-number
 invariant-loop-number g l = record {
-  opened : (t : Trail) → IsTrue g.H.Host.tells → IsOpen (g.H.Host.world l.fn.host) l.fn.engine t → IsOpen (g.H.Host.world l.host) l.engine t;
-  same : but_pages l.engine ≡ but_pages l.fn.engine;
-  quiet : Quiet (g.H.Host.world l.fn.host) (g.H.Host.world l.host);
+  looks : Looks g.H.Host.tells (g.H.Host.world l.fn.host) (g.H.Host.world l.host) l.fn.engine l.engine;
   broken : (t : Trail) → IsTrue g.H.Host.tells → IsOpen (g.H.Host.world l.fn.host) l.fn.engine t → HasEntryOf t.base.image 0 l.fn.entries → IsFirstBelow t.base.image 0 l.fn.found.broken → IsFirstBelow t.base.image l.number l.found.broken;
   taken : (t : Trail) → IsTrue g.H.Host.tells → IsOpen (g.H.Host.world l.fn.host) l.fn.engine t → IsMapOf t.base.image 0 l.fn.map → 1 < length t.base.image → HoldsTaken t.base.image 0 l.fn.found.taken → HoldsTaken t.base.image l.number l.found.taken;
   map : (t : Trail) → IsTrue g.H.Host.tells → IsOpen (g.H.Host.world l.fn.host) l.fn.engine t → IsMapOf t.base.image 0 l.fn.map → IsMapOf t.base.image l.number l.map;

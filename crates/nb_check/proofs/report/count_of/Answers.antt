@@ -1,6 +1,5 @@
 use Rattle.std.proofs.Common.{◌≡◌, ℕ, ◌+◌, length, sym, ap, ◌∙◌, arith}
-use Rattle.std.specs.List.{filter, range_with_len}
-use Rattle.nb_check.specs.Sets.{has, room_of, pages_in}
+use Rattle.nb_check.proofs.Common.{filter, range_with_len, has, room_of, pages_in}
 use Rattle.nb_check.proofs.ReportLaws.{counted, passed, filtered_most}
 use Rattle.nb_check.proofs.report.count_of.Goals as goal
 

@@ -1,6 +1,5 @@
 use Rattle.std.proofs.Common.{◌≡◌, ℕ, List, [], ◌∷◌, ◌++◌, sym, ap, ◌∙◌, arith}
-use Rattle.std.specs.List.{filter, range_with_len}
-use Rattle.nb_check.specs.Sets.{has, room_of, pages_in}
+use Rattle.nb_check.proofs.Common.{filter, range_with_len, has, room_of, pages_in}
 use Rattle.nb_check.proofs.ReportLaws.{one_more, none_more}
 use Rattle.nb_check.proofs.report.list_of.Goals as goal
 

@@ -1,6 +1,5 @@
 use Rattle.std.proofs.Common.{◌≡◌}
-use Rattle.std.specs.List.{filter, range_with_len}
-use Rattle.nb_check.specs.Sets.{has}
+use Rattle.nb_check.proofs.Common.{filter, range_with_len, has}
 use Rattle.nb_check.proofs.report.list_of.Given as goal
 
 abbrev pub invariant-loop-page : goal.invariant-loop-page

@@ -1,7 +1,5 @@
-use Rattle.std.proofs.Common.{◌≡◌, ℕ, ◌<◌, length, sym, ap, ◌∙◌, arith}
-use Rattle.std.specs.Prelude.{Bool, slice_index}
-use Rattle.std.specs.List.{filter, range_with_len}
-use Rattle.nb_check.specs.Sets.{has, room_of, pages_in}
+use Rattle.std.proofs.Common.{◌≡◌, ℕ, ◌<◌, length, sym, ap, ◌∙◌, arith, Bool, slice_index}
+use Rattle.nb_check.proofs.Common.{filter, range_with_len, has, room_of, pages_in}
 use Rattle.nb_check.proofs.ReportLaws.{counted, passed, listed}
 use Rattle.nb_check.proofs.report.page_of.Goals as goal
 

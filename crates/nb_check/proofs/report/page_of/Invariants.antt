@@ -1,6 +1,5 @@
 use Rattle.std.proofs.Common.{◌≡◌, ◌+◌, length}
-use Rattle.std.specs.List.{filter, range_with_len}
-use Rattle.nb_check.specs.Sets.{has}
+use Rattle.nb_check.proofs.Common.{filter, range_with_len, has}
 use Rattle.nb_check.proofs.report.page_of.Given as goal
 
 -- so many pages of the set are still to come, or lie after

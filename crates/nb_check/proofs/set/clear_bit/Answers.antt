@@ -1,5 +1,5 @@
 use Rattle.std.proofs.Common.{◌%◌, arith}
-use Rattle.nb_pip.proofs.BitLaws.{SetsBit-clear}
+use Rattle.nb_check.proofs.Common.{SetsBit-clear}
 use Rattle.nb_check.proofs.SetBits.{removed, removed_past}
 use Rattle.nb_check.proofs.set.clear_bit.Goals as goal
 

@@ -1,7 +1,5 @@
-use Rattle.std.proofs.Common.{ℕ, ◌/◌, ◌%◌, sym, ap, arith}
-use Rattle.std.specs.Prelude.{◌==◌, slice_index}
-use Rattle.std.proofs.lemmas.Nat.Bits.{shr_and_one}
-use Rattle.nb_check.specs.Sets.{has}
+use Rattle.std.proofs.Common.{ℕ, ◌/◌, ◌%◌, sym, ap, arith, ◌==◌, slice_index}
+use Rattle.nb_check.proofs.Common.{shr_and_one, has}
 use Rattle.nb_check.proofs.SetBits.{past}
 use Rattle.nb_check.proofs.set.has_bit.Goals as goal
 

@@ -1,5 +1,5 @@
 use Rattle.std.proofs.Common.{◌%◌, arith}
-use Rattle.nb_pip.proofs.BitLaws.{SetsBit-or}
+use Rattle.nb_check.proofs.Common.{SetsBit-or}
 use Rattle.nb_check.proofs.SetBits.{inserted}
 use Rattle.nb_check.proofs.set.set_bit.Goals as goal
 

@@ -1,11 +1,5 @@
-use Rattle.std.proofs.Common.{◌≡◌, ◌+◌, ◌-◌, ◌≤◌, length}
-use Rattle.std.specs.Prelude.{IsTrue}
-use Rattle.nb_page.specs.Quiet.{Quiet}
-use Rattle.nb_model.specs.Trail.{Trail}
-use Rattle.nb_state.specs.Open.{IsOpen, but_pages}
-use Rattle.nb_check.specs.Sets.{IsWithout}
-use Rattle.nb_walk.specs.Walks.{chain_by}
-use Rattle.nb_walk.proofs.WalkLaws.{Walks}
+use Rattle.std.proofs.Common.{◌≡◌, ◌+◌, ◌-◌, ◌≤◌, length, IsTrue}
+use Rattle.nb_check.proofs.Common.{Trail, IsOpen, IsWithout, chain_by, Walks, Looks}
 use Rattle.nb_check.proofs.walk.leave_out.Given as goal
 
 -- the pages so far are out of the set
@@ -15,9 +9,7 @@ invariant-loop-left g l = record {
   few : l.left ≤ l.fn.engine.files.count;
   kept : length l.rest ≡ length l.fn.rest;
   sized : length l.page ≡ length l.fn.page;
-  opened : (t : Trail) → IsTrue g.H.Host.tells → IsOpen (g.H.Host.world l.fn.host) l.fn.engine t → IsOpen (g.H.Host.world l.host) l.engine t;
-  same : but_pages l.engine ≡ but_pages l.fn.engine;
-  quiet : Quiet (g.H.Host.world l.fn.host) (g.H.Host.world l.host);
+  looks : Looks g.H.Host.tells (g.H.Host.world l.fn.host) (g.H.Host.world l.host) l.fn.engine l.engine;
   once : IsTrue g.H.Host.tells → (g.H.Host.world l.host).reads ≤ (g.H.Host.world l.fn.host).reads + (l.fn.engine.files.count - l.left);
   cause : g.H.Host.faults l.host ≡ g.H.Host.faults l.fn.host;
 }

@@ -1,17 +1,6 @@
-use Rattle.std.proofs.Common.{◌≡◌, ◌≢◌, ℕ, ◌+◌, ◌*◌, ◌≤◌, length, refl, sym, ap, subst, ◌∙◌, arith}
-use Rattle.std.specs.Prelude.{true, false, slice_index}
-use Rattle.nb_fields.specs.Bytes.{part}
-use Rattle.nb_page.proofs.QuietLaws.{quiet_begun, quiet_joined}
-use Rattle.nb_model.specs.Causes.{broken_at}
-use Rattle.nb_model.specs.Chains.{RowsFrom, Slot, is_used, first_in, pages_of, found_pages}
-use Rattle.nb_model.specs.Checks.{chains_cause}
-use Rattle.nb_model.proofs.ReadLaws.{eq_no, eq_yes}
-use Rattle.nb_alloc.proofs.DoesLaws.{tested_on}
-use Rattle.nb_state.specs.Open.{Held}
-use Rattle.nb_check.specs.Sets.{IsWithout}
-use Rattle.nb_check.specs.Walks.{chains_on}
+use Rattle.std.proofs.Common.{◌≡◌, ◌≢◌, ℕ, ◌+◌, ◌*◌, ◌≤◌, length, refl, sym, ap, subst, ◌∙◌, arith, true, false, slice_index}
+use Rattle.nb_check.proofs.Common.{part, broken_at, RowsFrom, Slot, is_used, first_in, pages_of, found_pages, chains_cause, eq_no, eq_yes, tested_on, Held, IsWithout, chains_on, slot_inside, looks_begun, looks_then}
 use Rattle.nb_check.proofs.ListLaws.{lists_first, lists_free, lists_used, lists_broken, lists_last}
-use Rattle.nb_walk.proofs.SlotLaws.{slot_inside}
 use Rattle.nb_check.proofs.walk.leave_out_listed.Goals as goal
 
 -- whether a slot is used, by its first byte
@@ -27,9 +16,7 @@ loop-slot-init g c = record {
   lists = λ t tells is. lists_first t.base.image c.args.listed.now c.args.rest.now (g.H.Host.world c.args.host.now).reads c.slot_count-count.result c.slot_count-count.ensures;
   kept = refl;
   sized = refl;
-  opened = λ t tells is. is;
-  same = refl;
-  quiet = quiet_begun (g.H.Host.world c.args.host.now) (g.met.H.Host.timely c.args.host.now);
+  looks = looks_begun (g.H.Host.world c.args.host.now) (g.met.H.Host.timely c.args.host.now);
   cause = refl;
 }
 
@@ -46,14 +33,12 @@ loop-slot-preserved-then-use_of-ne1 g c =
           (other_use c.slot_at-bytes.result.now (part (32 + 256 * l.slot) 256 c.args.listed.now) c.use_of.result c.use_of.ensures c.slot_at-bytes.ensures.bytes c.if-use_of-ne1.true);
       kept = l.invariant.kept;
       sized = l.invariant.sized;
-      opened = l.invariant.opened;
-      same = l.invariant.same;
-      quiet = l.invariant.quiet;
+      looks = l.invariant.looks;
       cause = l.invariant.cause;
     }
 
 pub leave_out-requires : goal.leave_out-requires
-leave_out-requires g c = omega (arith, c.loop-slot.invariant.sized, c.requires.size, ap (λ (h : Held). h.files.page_size) c.loop-slot.invariant.same)
+leave_out-requires g c = omega (arith, c.loop-slot.invariant.sized, c.requires.size, ap (λ (h : Held). h.files.page_size) c.loop-slot.invariant.looks.same)
 
 pub returns-in_err-leave_out-clause-test : goal.returns-in_err-leave_out-clause-test
 returns-in_err-leave_out-clause-test g c t tells is =
@@ -65,7 +50,7 @@ returns-in_err-leave_out-clause-test g c t tells is =
     (λ r e.
     lists_broken image c.args.listed.now c.args.rest.now (g.H.Host.world c.args.host.now).reads c.slot_count-count.result l.slot c.loop-slot-test.true l.rest (g.H.Host.world l.host).reads (l.invariant.lists t tells is) r
     (one_use c.slot_at-bytes.result.now here c.use_of.result c.use_of.ensures c.slot_at-bytes.ensures.bytes c.if-use_of-ne1.false) (ap (λ (n : ℕ). broken_at (pages_of (RowsFrom n) image)) (sym at) ∙ e))
-    (c.in_err-leave_out.ensures.test t tells (l.invariant.opened t tells is))
+    (c.in_err-leave_out.ensures.test t tells (l.invariant.looks.opened t tells is))
 
 pub loop-slot-preserved : goal.loop-slot-preserved
 loop-slot-preserved g c =
@@ -75,7 +60,7 @@ loop-slot-preserved g c =
       many = l.invariant.many;
       lists = λ t tells is.
           let image = t.base.image in
-          let still = l.invariant.opened t tells is in
+          let still = l.invariant.looks.opened t tells is in
           let here : Slot = part (32 + 256 * l.slot) 256 c.args.listed.now in
           let at : c.first_page.result ≡ first_in here = c.first_page.ensures ∙ ap first_in c.slot_at-bytes.ensures.bytes in
           lists_used image c.args.listed.now c.args.rest.now (g.H.Host.world c.args.host.now).reads c.slot_count-count.result l.slot c.loop-slot-test.true l.rest (g.H.Host.world l.host).reads (l.invariant.lists t tells is) c.leave_out.new.rest
@@ -85,9 +70,7 @@ loop-slot-preserved g c =
           (subst (λ (n : ℕ). (g.H.Host.world c.leave_out.new.host).reads ≤ (g.H.Host.world l.host).reads + length (found_pages (RowsFrom n) image)) at (left.once t tells still));
       kept = left.room ∙ l.invariant.kept;
       sized = left.sized ∙ l.invariant.sized;
-      opened = λ t tells is. left.open t tells (l.invariant.opened t tells is);
-      same = left.same ∙ l.invariant.same;
-      quiet = quiet_joined _ _ _ l.invariant.quiet left.quiet;
+      looks = looks_then l.invariant.looks left.looks;
       cause = left.cause ∙ l.invariant.cause;
     }
 
@@ -105,3 +88,6 @@ pub returns-clause-once : goal.returns-clause-once
 returns-clause-once g c t tells is =
     let l = c.loop-slot in
     (lists_last t.base.image c.args.listed.now c.args.rest.now l.rest (g.H.Host.world c.args.host.now).reads (g.H.Host.world l.host).reads c.slot_count-count.result l.slot (omega (arith, c.loop-slot-test.false)) (l.invariant.lists t tells is)).few
+
+pub returns-in_err-leave_out-clause-looks : goal.returns-in_err-leave_out-clause-looks
+returns-in_err-leave_out-clause-looks g c = looks_then c.loop-slot.invariant.looks c.in_err-leave_out.ensures.looks

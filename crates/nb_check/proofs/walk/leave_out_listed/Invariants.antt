@@ -1,8 +1,5 @@
-use Rattle.std.proofs.Common.{◌≡◌, ◌-◌, ◌/◌, length}
-use Rattle.std.specs.Prelude.{IsTrue}
-use Rattle.nb_page.specs.Quiet.{Quiet}
-use Rattle.nb_model.specs.Trail.{Trail}
-use Rattle.nb_state.specs.Open.{IsOpen, but_pages}
+use Rattle.std.proofs.Common.{◌≡◌, ◌-◌, ◌/◌, length, IsTrue}
+use Rattle.nb_check.proofs.Common.{Trail, IsOpen, Looks}
 use Rattle.nb_check.proofs.ListLaws.{Lists}
 use Rattle.nb_check.proofs.walk.leave_out_listed.Given as goal
 
@@ -13,9 +10,7 @@ invariant-loop-slot g l = record {
   lists : (t : Trail) → IsTrue g.H.Host.tells → IsOpen (g.H.Host.world l.fn.host) l.fn.engine t → Lists t.base.image l.listed l.fn.rest l.rest (g.H.Host.world l.fn.host).reads (g.H.Host.world l.host).reads l.count l.slot;
   kept : length l.rest ≡ length l.fn.rest;
   sized : length l.page ≡ length l.fn.page;
-  opened : (t : Trail) → IsTrue g.H.Host.tells → IsOpen (g.H.Host.world l.fn.host) l.fn.engine t → IsOpen (g.H.Host.world l.host) l.engine t;
-  same : but_pages l.engine ≡ but_pages l.fn.engine;
-  quiet : Quiet (g.H.Host.world l.fn.host) (g.H.Host.world l.host);
+  looks : Looks g.H.Host.tells (g.H.Host.world l.fn.host) (g.H.Host.world l.host) l.fn.engine l.engine;
   cause : g.H.Host.faults l.host ≡ g.H.Host.faults l.fn.host;
 }
 

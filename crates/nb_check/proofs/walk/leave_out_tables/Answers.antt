@@ -1,17 +1,6 @@
-use Rattle.std.proofs.Common.{◌≡◌, ℕ, List, [], ◌+◌, length, refl, sym, ap, subst, ◌∙◌, arith, ◌++◌, ◌≢◌, ◌-◌, ◌∷◌}
-use Rattle.std.specs.Prelude.{None, IsTrue}
-use Rattle.nb_page.proofs.QuietLaws.{quiet_begun, quiet_joined}
-use Rattle.nb_model.specs.Image.{Image, page_at}
-use Rattle.nb_model.specs.Chains.{Catalogue, Chain, next_in, found_pages, pages_of}
-use Rattle.nb_model.specs.Checks.{chains_cause}
-use Rattle.nb_state.specs.Open.{Held, IsOpen}
-use Rattle.nb_alloc.proofs.DoesLaws.{tested_on}
-use Rattle.nb_walk.specs.Walks.{not_linked}
-use Rattle.nb_check.specs.Walks.{chains_on}
-use Rattle.nb_check.proofs.ListLaws.{AreOut, chains_of_pages, tables, tables_begun, tables_more, tables_are, tables_broken, none_some}
-use Rattle.nb_walk.proofs.WalkLaws.{so, walks_first, walks_broken, walks_split, walks_next, walks_all, walks_over, Walks}
-use Rattle.nb_model.specs.Trail.{Trail}
-use Rattle.nb_model.specs.Causes.{broken_at}
+use Rattle.std.proofs.Common.{◌≡◌, ℕ, List, [], ◌+◌, length, refl, sym, ap, subst, ◌∙◌, arith, ◌++◌, ◌≢◌, ◌-◌, ◌∷◌, None, IsTrue}
+use Rattle.nb_check.proofs.Common.{Image, page_at, Catalogue, Chain, next_in, found_pages, pages_of, chains_cause, Held, IsOpen, tested_on, not_linked, chains_on, so, walks_first, walks_broken, walks_split, walks_next, walks_all, walks_over, Walks, Trail, broken_at, none_some, looks_begun, looks_then}
+use Rattle.nb_check.proofs.ListLaws.{AreOut, chains_of_pages, tables, tables_begun, tables_more, tables_are, tables_broken}
 use Rattle.nb_check.proofs.walk.leave_out_tables.Goals as goal
 use Rattle.nb_check.proofs.walk.leave_out_tables.Goals.{In_ok-leave_out_listed}
 
@@ -31,7 +20,7 @@ module _ (g : _) (c : goal.In_ok-leave_out_listed g) (t : Trail) (tells : IsTrue
   OutAfter ps = Out t.base.image c.args.rest.now c.leave_out_listed.new.rest reads (g.H.Host.world c.leave_out_listed.new.host).reads ps
 
   still : IsOpen (g.H.Host.world c.loop-left.host) c.loop-left.engine t
-  still = c.loop-left.invariant.opened t tells is
+  still = c.loop-left.invariant.looks.opened t tells is
 
   read : c.chain_read.new.page ≡ page_at t.base.image c.loop-left.number
   read = c.in_ok-next.ensures.page t tells still
@@ -39,7 +28,7 @@ module _ (g : _) (c : goal.In_ok-leave_out_listed g) (t : Trail) (tells : IsTrue
   one : (ps : List ℕ) → OutBefore ps → OutAfter (ps ++ c.loop-left.number ∷ [])
   one ps was =
       let listed = c.in_ok-leave_out_listed.ensures in
-      let on = c.in_ok-next.ensures.open t tells still in
+      let on = c.in_ok-next.ensures.looks.opened t tells still in
       tables_more t.base.image ps c.loop-left.number c.chain_read.new.page c.args.rest.now c.loop-left.rest c.leave_out_listed.new.rest reads
       (g.H.Host.world c.loop-left.host).reads (g.H.Host.world c.chain_read.new.host).reads (g.H.Host.world c.leave_out_listed.new.host).reads read was (c.in_ok-next.ensures.once tells) (listed.test t tells on) (listed.rest t tells on) (listed.once t tells on)
 
@@ -64,14 +53,12 @@ loop-left-init g c = record {
   kept = refl;
   sized = refl;
   listed_sized = refl;
-  opened = λ t tells is. is;
-  same = refl;
-  quiet = quiet_begun (g.H.Host.world c.args.host.now) (g.met.H.Host.timely c.args.host.now);
+  looks = looks_begun (g.H.Host.world c.args.host.now) (g.met.H.Host.timely c.args.host.now);
   cause = refl;
 }
 
 pub chain_read-requires : goal.chain_read-requires
-chain_read-requires g c = omega (arith, c.loop-left.invariant.listed_sized, c.requires.size, c.requires.listed, ap (λ (h : Held). h.files.page_size) c.loop-left.invariant.same)
+chain_read-requires g c = omega (arith, c.loop-left.invariant.listed_sized, c.requires.size, c.requires.listed, ap (λ (h : Held). h.files.page_size) c.loop-left.invariant.looks.same)
 
 pub returns-in_err-next-clause-test : goal.returns-in_err-next-clause-test
 returns-in_err-next-clause-test g c t tells is formed =
@@ -80,11 +67,11 @@ returns-in_err-next-clause-test g c t tells is formed =
     let reads : ℕ = (g.H.Host.world c.args.host.now).reads in
     tested_on ℕ (Unit {0}) _ _ (not_linked Catalogue image l.number) (chains_cause image (tables image)) c.from_residual.ensures
     (λ r e. absurd (none_some r (sym formed ∙ walks_broken Catalogue image (Out image c.args.rest.now l.rest reads (g.H.Host.world l.host).reads) l.left l.number c.loop-left-test.true (l.invariant.walks t tells is formed) r e)))
-    (c.in_err-next.ensures.test t tells (l.invariant.opened t tells is))
+    (c.in_err-next.ensures.test t tells (l.invariant.looks.opened t tells is))
 
 pub leave_out_listed-requires-clause-size : goal.leave_out_listed-requires-clause-size
 leave_out_listed-requires-clause-size g c =
-    omega (arith, c.loop-left.invariant.sized, c.requires.size, ap (λ (h : Held). h.files.page_size) c.loop-left.invariant.same, ap (λ (h : Held). h.files.page_size) c.in_ok-next.ensures.same)
+    omega (arith, c.loop-left.invariant.sized, c.requires.size, ap (λ (h : Held). h.files.page_size) c.loop-left.invariant.looks.same, ap (λ (h : Held). h.files.page_size) c.in_ok-next.ensures.looks.same)
 
 pub leave_out_listed-requires-clause-listed : goal.leave_out_listed-requires-clause-listed
 leave_out_listed-requires-clause-listed g c = omega (arith, c.in_ok-next.ensures.sized, c.loop-left.invariant.listed_sized, c.loop-left.invariant.sized, c.requires.listed)
@@ -94,14 +81,14 @@ returns-in_err-leave_out_listed-clause-test g c t tells is formed =
     let l = c.loop-left in
     let image = t.base.image in
     let reads : ℕ = (g.H.Host.world c.args.host.now).reads in
-    let still = l.invariant.opened t tells is in
+    let still = l.invariant.looks.opened t tells is in
     let was = l.invariant.walks t tells is formed in
     let walks = so Catalogue image (Out image c.args.rest.now l.rest reads (g.H.Host.world l.host).reads) l.left l.number c.loop-left-test.true was in
     let split =
     walks_split Catalogue image (Out image c.args.rest.now l.rest reads (g.H.Host.world l.host).reads) l.left l.number c.loop-left-test.true was (c.in_ok-next.ensures.test t tells still) formed in
     tested_on (Unit {0}) (Unit {0}) _ _ (chains_cause image (chains_on c.chain_read.new.page)) (chains_cause image (tables image)) c.from_residual-in_err-leave_out_listed.ensures
     (λ r e. tables_broken image walks.seen l.number split.0 c.chain_read.new.page r split.1 (c.in_ok-next.ensures.page t tells still) walks.is.formed e)
-    (c.in_err-leave_out_listed.ensures.test t tells (c.in_ok-next.ensures.open t tells still))
+    (c.in_err-leave_out_listed.ensures.test t tells (c.in_ok-next.ensures.looks.opened t tells still))
 
 pub loop-left-preserved : goal.loop-left-preserved
 loop-left-preserved g c =
@@ -113,9 +100,7 @@ loop-left-preserved g c =
       kept = listed.room ∙ l.invariant.kept;
       sized = listed.sized ∙ l.invariant.sized;
       listed_sized = next.sized ∙ l.invariant.listed_sized;
-      opened = λ t tells is. listed.open t tells (next.open t tells (l.invariant.opened t tells is));
-      same = listed.same ∙ next.same ∙ l.invariant.same;
-      quiet = quiet_joined _ _ _ (quiet_joined _ _ _ l.invariant.quiet next.quiet) listed.quiet;
+      looks = looks_then (looks_then l.invariant.looks next.looks) listed.looks;
       cause = listed.cause ∙ next.cause ∙ l.invariant.cause;
     }
 
@@ -133,3 +118,12 @@ returns-clause-test g c t tells is formed =
     let l = c.loop-left in
     let reads : ℕ = (g.H.Host.world c.args.host.now).reads in
     absurd (none_some _ (sym formed ∙ walks_over Catalogue t.base.image (Out t.base.image c.args.rest.now l.rest reads (g.H.Host.world l.host).reads) l.left l.number (omega (arith, c.loop-left-test.false)) (l.invariant.walks t tells is formed)))
+
+pub returns-in_err-leave_out_listed-clause-looks : goal.returns-in_err-leave_out_listed-clause-looks
+returns-in_err-leave_out_listed-clause-looks g c = looks_then (looks_then c.loop-left.invariant.looks c.in_ok-next.ensures.looks) c.in_err-leave_out_listed.ensures.looks
+
+pub returns-in_err-next-clause-looks : goal.returns-in_err-next-clause-looks
+returns-in_err-next-clause-looks g c = looks_then c.loop-left.invariant.looks c.in_err-next.ensures.looks
+
+pub returns-then-next-eq0-clause-looks : goal.returns-then-next-eq0-clause-looks
+returns-then-next-eq0-clause-looks g c = looks_then (looks_then c.loop-left.invariant.looks c.in_ok-next.ensures.looks) c.in_ok-leave_out_listed.ensures.looks

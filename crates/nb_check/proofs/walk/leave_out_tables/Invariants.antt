@@ -1,12 +1,6 @@
-use Rattle.std.proofs.Common.{◌≡◌, ◌+◌, length}
-use Rattle.std.specs.Prelude.{IsTrue, None}
-use Rattle.nb_page.specs.Quiet.{Quiet}
-use Rattle.nb_model.specs.Causes.{broken_at}
-use Rattle.nb_model.specs.Chains.{Catalogue, pages_of}
-use Rattle.nb_model.specs.Trail.{Trail}
-use Rattle.nb_state.specs.Open.{IsOpen, but_pages}
+use Rattle.std.proofs.Common.{◌≡◌, ◌+◌, length, IsTrue, None}
+use Rattle.nb_check.proofs.Common.{broken_at, Catalogue, pages_of, Trail, IsOpen, Walks, Looks}
 use Rattle.nb_check.proofs.ListLaws.{AreOut, chains_of_pages}
-use Rattle.nb_walk.proofs.WalkLaws.{Walks}
 use Rattle.nb_check.proofs.walk.leave_out_tables.Given as goal
 
 -- the chains that the pages of the catalogue so far name are out of the set
@@ -17,9 +11,7 @@ invariant-loop-left g l = record {
   kept : length l.rest ≡ length l.fn.rest;
   sized : length l.page ≡ length l.fn.page;
   listed_sized : length l.listed ≡ length l.fn.listed;
-  opened : (t : Trail) → IsTrue g.H.Host.tells → IsOpen (g.H.Host.world l.fn.host) l.fn.engine t → IsOpen (g.H.Host.world l.host) l.engine t;
-  same : but_pages l.engine ≡ but_pages l.fn.engine;
-  quiet : Quiet (g.H.Host.world l.fn.host) (g.H.Host.world l.host);
+  looks : Looks g.H.Host.tells (g.H.Host.world l.fn.host) (g.H.Host.world l.host) l.fn.engine l.engine;
   cause : g.H.Host.faults l.host ≡ g.H.Host.faults l.fn.host;
 }
 

@@ -1,15 +1,6 @@
-use Rattle.std.proofs.Common.{◌≡◌, ℕ, List, [], ◌∷◌, length, sym, ap, subst, ◌∙◌}
-use Rattle.std.specs.Prelude.{Some, Result}
-use Rattle.nb_host.specs.declared.faults.Fault.{Fault}
-use Rattle.nb_level.specs.declared.head.LevelHead.{LevelHead}
-use Rattle.nb_model.specs.Image.{image_scn}
+use Rattle.std.proofs.Common.{◌≡◌, ℕ, List, [], ◌∷◌, length, sym, ap, subst, ◌∙◌, Some, Result}
+use Rattle.nb_copy.proofs.Common.{Fault, LevelHead, image_scn, after_strokes, Held, IsOpen, open_running, given_guid, tries_passed, BeginsFor}
 use Rattle.nb_model.specs.Strokes.{begin as begin_stroke}
-use Rattle.nb_base.specs.Takes.{after_strokes}
-use Rattle.nb_state.specs.Open.{Held, IsOpen}
-use Rattle.nb_state.proofs.MakesLaws.{open_running}
-use Rattle.nb_state.proofs.TurnLaws.{given_guid}
-use Rattle.nb_alloc.proofs.DoesLaws.{tries_passed}
-use Rattle.nb_copy.specs.Starting.{BeginsFor}
 use Rattle.nb_copy.proofs.BegunLaws.{begin_failed, begun_guid}
 use Rattle.nb_copy.proofs.copier.begin.Goals as goal
 

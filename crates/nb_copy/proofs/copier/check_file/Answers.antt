@@ -1,16 +1,6 @@
-use Rattle.std.proofs.Common.{◌≡◌, ℕ, List, sym, ap, subst, ◌∙◌, rules}
-use Rattle.std.specs.Prelude.{true, false, Some}
-use Rattle.nb_fields.specs.States.{normal_state}
-use denote.Enum.Bare.{same_true, same_false}
-use Rattle.nb_host.specs.declared.refusals.Refusal.TheVariants.{WrongState, FileExists}
-use Rattle.nb_model.specs.Account.{Base}
-use Rattle.nb_model.specs.Causes.{not_state}
-use Rattle.nb_model.specs.Image.{image_state, is_read_only}
-use Rattle.nb_cases.specs.Events.{OnOpen}
-use Rattle.nb_cases.specs.contracts.events.Case.{the_type}
+use Rattle.std.proofs.Common.{◌≡◌, ℕ, List, sym, ap, subst, ◌∙◌, rules, true, false, Some}
+use Rattle.nb_copy.proofs.Common.{normal_state, same_true, same_false, WrongState, FileExists, Base, not_state, image_state, is_read_only, OnOpen, the_type, goes, only_normal, Held}
 use Rattle.nb_cases.specs.declared.events.Case.TheVariants as case
-use Rattle.nb_cases.proofs.StateLaws.{goes, only_normal}
-use Rattle.nb_state.specs.Open.{Held}
 use Rattle.nb_copy.proofs.StartCauses.{closed, busy, there, allowed}
 use Rattle.nb_copy.proofs.copier.check_file.Goals as goal
 

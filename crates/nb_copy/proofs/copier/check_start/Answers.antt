@@ -1,13 +1,6 @@
 use Rattle.std.proofs.Common.{[], ◌∷◌, subst}
-use Rattle.nb_level.specs.declared.head.LevelHead.{LevelHead}
-use Rattle.nb_model.specs.Causes.{Cause, first_cause}
-use Rattle.nb_state.specs.Does.{Tested}
-use Rattle.nb_state.proofs.MakesLaws.{open_quiet}
-use Rattle.nb_alloc.proofs.CauseLaws.{first_here}
-use Rattle.nb_alloc.proofs.DoesLaws.{tested_on}
-use Rattle.nb_copy.specs.Starting.{earlier_cause, file_cause}
+use Rattle.nb_copy.proofs.Common.{LevelHead, Cause, first_cause, Tested, open_quiet, looks_quiet, looks_then, tested_on, earlier_cause, file_cause, first_here, on_ok}
 use Rattle.nb_copy.proofs.StartCauses.{after_none}
-use Rattle.nb_change.proofs.ResultLaws.{on_ok}
 use Rattle.nb_copy.proofs.copier.check_start.Goals as goal
 
 pub returns-in_err-check_file-clause-test : goal.returns-in_err-check_file-clause-test
@@ -28,9 +21,8 @@ pub returns-clause-head : goal.returns-clause-head
 returns-clause-head g c t tells is =
     c.find.ensures.head t tells (open_quiet (g.H.Host.world c.args.host.now) (g.H.Host.world c.check_file.new.host) c.args.engine.now t c.check_file.ensures.quiet is)
 
-pub returns-clause-open : goal.returns-clause-open
-returns-clause-open g c t tells is =
-    c.find.ensures.open t tells (open_quiet (g.H.Host.world c.args.host.now) (g.H.Host.world c.check_file.new.host) c.args.engine.now t c.check_file.ensures.quiet is)
+pub returns-clause-looks : goal.returns-clause-looks
+returns-clause-looks g c = looks_then (looks_quiet c.check_file.ensures.quiet) c.find.ensures.looks
 
 pub returns-clause-free : goal.returns-clause-free
 returns-clause-free g c tells = on_ok c.find.result (c.in_ok-check_file.ensures.free tells)

@@ -1,16 +1,6 @@
-use Rattle.std.proofs.Common.{◌≡◌, ℕ, List, refl, sym, ap, subst, ◌∙◌, rules}
-use Rattle.std.specs.Prelude.{Option, Some, None}
-use Rattle.nb_fields.specs.States.{stalled_state}
-use denote.Enum.Bare.{same_true, same_false}
-use Rattle.nb_host.specs.declared.refusals.Refusal.TheVariants.{WrongState, FileExists}
-use Rattle.nb_model.specs.Account.{Base}
-use Rattle.nb_model.specs.Causes.{not_state}
-use Rattle.nb_model.specs.Image.{image_state}
-use Rattle.nb_cases.specs.Events.{OnOpen}
-use Rattle.nb_cases.specs.contracts.events.Case.{the_type}
+use Rattle.std.proofs.Common.{◌≡◌, ℕ, List, refl, sym, ap, subst, ◌∙◌, rules, Option, Some, None}
+use Rattle.nb_copy.proofs.Common.{stalled_state, same_true, same_false, WrongState, FileExists, Base, not_state, image_state, OnOpen, the_type, goes, only_stalled, Held}
 use Rattle.nb_cases.specs.declared.events.Case.TheVariants as case
-use Rattle.nb_cases.proofs.StateLaws.{goes, only_stalled}
-use Rattle.nb_state.specs.Open.{Held}
 use Rattle.nb_copy.proofs.CopyCauses.{not_stalled, other_runs, name_taken, copy_allowed}
 use Rattle.nb_copy.proofs.file_copier.check_copy.Goals as goal
 

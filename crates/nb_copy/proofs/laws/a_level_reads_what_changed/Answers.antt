@@ -1,5 +1,5 @@
 use Rattle.std.proofs.Common.{◌-◌, length, arith}
-use Rattle.nb_copy.specs.Reading.{reads_at}
+use Rattle.nb_copy.proofs.Common.{reads_at}
 use Rattle.nb_copy.proofs.ReadLaws.{reads_all, sum_most}
 use Rattle.nb_copy.proofs.laws.a_level_reads_what_changed.Goals as goal
 

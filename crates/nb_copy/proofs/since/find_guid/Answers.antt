@@ -1,14 +1,5 @@
-use Rattle.std.proofs.Common.{◌≡◌, ℕ, ◌+◌, List, sym, ap, ◌∙◌}
-use Rattle.std.specs.Prelude.{Option}
-use Rattle.nb_host.specs.declared.refusals.Refusal.TheVariants.{NoGuid}
-use Rattle.nb_level.specs.declared.head.LevelHead.{LevelHead}
-use Rattle.nb_model.specs.Backups.{ask_of, level_behind}
-use Rattle.nb_model.specs.Causes.{broken_at}
-use Rattle.nb_model.specs.Chains.{History, Spot, pages_of}
-use Rattle.nb_engine.specs.declared.rows.HistoryRow.{HistoryRow}
-use Rattle.nb_alloc.proofs.DoesLaws.{tested_on}
-use Rattle.nb_copy.specs.Starting.{earlier_cause}
-use Rattle.nb_copy.specs.declared.since.Since.TheVariants.{Guid}
+use Rattle.std.proofs.Common.{◌≡◌, ℕ, ◌+◌, List, sym, ap, ◌∙◌, Option}
+use Rattle.nb_copy.proofs.Common.{NoGuid, LevelHead, ask_of, level_behind, broken_at, History, Spot, pages_of, HistoryRow, tested_on, earlier_cause, Guid}
 use Rattle.nb_copy.proofs.StartCauses.{row_of_guid, chain_broken, none_found, one_found, row_asked, row_level, level_more}
 use Rattle.nb_copy.proofs.since.find_guid.Goals as goal
 

@@ -1,13 +1,5 @@
-use Rattle.std.proofs.Common.{◌≡◌, ℕ, suc, ◌-◌, sym, ap, ◌∙◌, arith}
-use Rattle.std.specs.Prelude.{Option, Some}
-use Rattle.nb_host.specs.declared.refusals.Refusal.TheVariants.{NoHistory}
-use Rattle.nb_level.specs.declared.head.LevelHead.{LevelHead}
-use Rattle.nb_model.specs.Causes.{broken_at}
-use Rattle.nb_model.specs.Chains.{History, pages_of}
-use Rattle.nb_engine.specs.declared.rows.HistoryRow.{HistoryRow}
-use Rattle.nb_alloc.proofs.DoesLaws.{tested_on}
-use Rattle.nb_copy.specs.Starting.{earlier_cause}
-use Rattle.nb_copy.specs.declared.since.Since.TheVariants.{Level}
+use Rattle.std.proofs.Common.{◌≡◌, ℕ, suc, ◌-◌, sym, ap, ◌∙◌, arith, Option, Some}
+use Rattle.nb_copy.proofs.Common.{NoHistory, LevelHead, broken_at, History, pages_of, HistoryRow, tested_on, earlier_cause, Level}
 use Rattle.nb_copy.proofs.StartCauses.{none_asked, row_below, level_cause, level_asked, chain_broken, none_found, one_found, row_asked}
 use Rattle.nb_copy.proofs.since.find_level.Goals as goal
 

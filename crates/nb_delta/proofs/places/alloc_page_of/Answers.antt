@@ -1,5 +1,5 @@
 use Rattle.std.proofs.Common.{ℕ, ◌+◌, ◌*◌, ap}
-use Rattle.nb_fields.specs.Table.{alloc_place}
+use Rattle.nb_delta.proofs.Common.{alloc_place}
 use Rattle.nb_delta.proofs.places.alloc_page_of.Goals as goal
 
 pub returns-clause-value : goal.returns-clause-value

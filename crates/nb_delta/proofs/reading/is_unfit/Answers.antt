@@ -1,8 +1,5 @@
-use Rattle.std.proofs.Common.{ℕ, Bool, List, ap, ◌∙◌, sym}
-use Rattle.std.specs.Prelude.{◌||◌, nat_eq, is_some, Option}
-use Rattle.std.specs.List.{list_any}
-use Rattle.std.proofs.lemmas.Bool.{lt-leb}
-use Rattle.nb_fields.specs.Places.{most_pages}
+use Rattle.std.proofs.Common.{ℕ, Bool, List, ap, ◌∙◌, sym, ◌||◌, nat_eq, is_some, Option}
+use Rattle.nb_delta.proofs.Common.{list_any, lt-leb, most_pages}
 use Rattle.nb_delta.proofs.EntryLaws.{is_named}
 use Rattle.nb_delta.proofs.reading.is_unfit.Goals as goal
 

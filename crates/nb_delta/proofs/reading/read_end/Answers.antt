@@ -1,5 +1,5 @@
 use Rattle.std.proofs.Common.{arith}
-use Rattle.nb_fields.proofs.SizeLaws.{size_facts}
+use Rattle.nb_delta.proofs.Common.{size_facts}
 use Rattle.nb_delta.proofs.GroupLaws.{group_misshapen, group_names, part_misshapen, end_told}
 use Rattle.nb_delta.proofs.reading.read_end.Goals as goal
 

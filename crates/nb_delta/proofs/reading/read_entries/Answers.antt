@@ -1,5 +1,5 @@
 use Rattle.std.proofs.Common.{ℕ, length, ◌≡◌, ◌+◌, ◌-◌, ◌*◌, ◌≤◌, suc, ◌∙◌, ap, sym, subst, arith}
-use Rattle.nb_fields.specs.Table.{entries_from}
+use Rattle.nb_delta.proofs.Common.{entries_from}
 use Rattle.nb_delta.proofs.ReadLaws.{passed_on, entries_none}
 use Rattle.nb_delta.proofs.reading.read_entries.Goals as goal
 

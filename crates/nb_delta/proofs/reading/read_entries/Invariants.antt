@@ -1,6 +1,5 @@
 use Rattle.std.proofs.Common.{◌≡◌, ℕ, ◌+◌, ◌*◌, ◌<◌, ◌≤◌, List, length, ◌-◌}
-use Rattle.nb_fields.specs.Table.{page_in, entries_from}
-use Rattle.nb_fields.specs.Places.{most_pages}
+use Rattle.nb_delta.proofs.Common.{page_in, entries_from, most_pages}
 use Rattle.nb_delta.proofs.reading.read_entries.Given as goal
 
 abbrev pub invariant-loop-i : goal.invariant-loop-i

@@ -1,8 +1,5 @@
 use Rattle.std.proofs.Common.{ℕ, List, length, ◌≡◌, ◌++◌, ◌∷◌, [], ◌+◌, ◌*◌, ◌∙◌, ap, sym, arith}
-use Rattle.std.proofs.lemmas.Bool.{lt-ltb, le-ltb}
-use Rattle.nb_fields.specs.Bytes.{number_in}
-use Rattle.nb_fields.specs.Table.{page_in, entries_from}
-use Rattle.nb_delta.specs.Reading.{is_unfit}
+use Rattle.nb_delta.proofs.Common.{lt-ltb, le-ltb, number_in, page_in, entries_from, is_unfit}
 use Rattle.nb_delta.proofs.EntryLaws.{place_none}
 use Rattle.nb_delta.proofs.ReadLaws.{entry_unfit, entry_cut, entry_read, on_broken, fit_named}
 use Rattle.nb_delta.proofs.reading.read_entry.Goals as goal

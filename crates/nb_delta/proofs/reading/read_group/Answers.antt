@@ -1,8 +1,5 @@
 use Rattle.std.proofs.Common.{ℕ, List, length, ◌≡◌, ◌≤◌, ◌+◌, ◌*◌, suc, ◌∙◌, Bool, ap, sym, subst}
-use Rattle.nb_host.specs.Calls.{ReadsPage}
-use Rattle.nb_fields.specs.Places.{slots_in}
-use Rattle.nb_fields.specs.Table.{page_in, groups_from}
-use Rattle.nb_delta.specs.Reading.{ReadsGroup}
+use Rattle.nb_delta.proofs.Common.{ReadsPage, slots_in, page_in, groups_from, ReadsGroup}
 use Rattle.nb_delta.proofs.GroupLaws.{IsPage, page_read}
 use Rattle.nb_delta.proofs.reading.read_group.Goals as goal
 

@@ -1,7 +1,5 @@
 use Rattle.std.proofs.Common.{ℕ, List, length, ◌≡◌, ◌∙◌, ap, sym, subst, arith, refl}
-use Rattle.nb_host.specs.Files.{Files}
-use Rattle.nb_fields.specs.Places.{slots_in}
-use Rattle.nb_fields.proofs.SizeLaws.{SizeFacts, size_facts}
+use Rattle.nb_delta.proofs.Common.{Files, slots_in, SizeFacts, size_facts}
 use Rattle.nb_page.proofs.QuietLaws.{quiet_begun, quiet_joined}
 use Rattle.nb_delta.proofs.GroupLaws.{Behind, behind_none, step_full, step_last, step_fault, counts_full, counts_last, groups_of}
 use Rattle.nb_delta.proofs.reading.read_table.Goals as goal

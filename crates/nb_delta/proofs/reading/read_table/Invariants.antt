@@ -1,5 +1,5 @@
 use Rattle.std.proofs.Common.{◌≡◌, ℕ, ◌+◌, ◌*◌, ◌<◌, ◌≤◌, IsTrue, List, length, Some}
-use Rattle.nb_fields.specs.Places.{slots_in, most_pages}
+use Rattle.nb_delta.proofs.Common.{slots_in, most_pages}
 use Rattle.nb_page.specs.Quiet.{Quiet}
 use Rattle.nb_delta.proofs.GroupLaws.{Behind}
 use Rattle.nb_delta.proofs.reading.read_table.Given as goal

@@ -1,9 +1,5 @@
-use Rattle.std.proofs.Common.{ℕ, List, length, ◌≡◌, ◌≤◌, ◌<◌, ◌∙◌, ap, sym, subst, arith}
-use Rattle.std.specs.Prelude.{◌==◌, Err}
-use Rattle.nb_fields.specs.Bytes.{number_in}
-use Rattle.nb_fields.specs.Places.{slots_in}
-use Rattle.nb_fields.specs.Table.{page_in, entries_from}
-use Rattle.nb_delta.specs.Reading.{Reads}
+use Rattle.std.proofs.Common.{ℕ, List, length, ◌≡◌, ◌≤◌, ◌<◌, ◌∙◌, ap, sym, subst, arith, ◌==◌, Err}
+use Rattle.nb_delta.proofs.Common.{number_in, slots_in, page_in, entries_from, Reads}
 use Rattle.nb_delta.proofs.GroupLaws.{group_misshapen, group_names, group_fault, group_told, whole_fit, count_misshapen}
 use Rattle.nb_delta.proofs.reading.take_group.Goals as goal
 

@@ -1,8 +1,5 @@
 use Rattle.std.proofs.Common.{◌≡◌, ℕ, ◌+◌, List, length, refl, ◌∙◌, subst, arith}
-use Rattle.nb_delta.specs.Waiting.{Stays}
-use Rattle.nb_delta.specs.Groups.{GroupStep, Empties}
-use Rattle.nb_change.specs.Changes.{Only}
-use Rattle.nb_change.proofs.MovedLaws.{moved_begun, moved_joined}
+use Rattle.nb_delta.proofs.Common.{Stays, GroupStep, Empties, Only, moved_begun, moved_joined}
 use Rattle.nb_delta.proofs.MoveLaws.{silence_none, silence_joined}
 use Rattle.nb_delta.proofs.EmptyLaws.{stays_none, stays_more, empties_none, empties_more}
 use Rattle.nb_delta.proofs.waiting.empty_groups.Goals as goal

@@ -1,9 +1,5 @@
 use Rattle.std.proofs.Common.{◌≡◌, ℕ, ◌+◌, ◌*◌, ◌<◌, IsTrue, length}
-use Rattle.nb_host.specs.Calls.{IsSilent}
-use Rattle.nb_fields.specs.Places.{slots_in}
-use Rattle.nb_change.specs.Changes.{Only, Changes, Moved}
-use Rattle.nb_delta.specs.Waiting.{Stays}
-use Rattle.nb_delta.specs.Groups.{Empties}
+use Rattle.nb_delta.proofs.Common.{IsSilent, slots_in, Only, Changes, Moved, Stays, Empties}
 use Rattle.nb_delta.proofs.waiting.empty_groups.Given as goal
 
 abbrev pub invariant-loop-group : goal.invariant-loop-group

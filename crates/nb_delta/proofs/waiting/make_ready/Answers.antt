@@ -1,12 +1,5 @@
 use Rattle.std.proofs.Common.{◌≡◌, ℕ, ◌+◌, ◌*◌, ◌<◌, List, length, replicate, sym, ap, ◌∙◌, subst, IsTrue}
-use Rattle.std.proofs.lemmas.List.{length-replicate}
-use Rattle.nb_host.specs.Files.{Files}
-use Rattle.nb_fields.specs.Places.{is_page_size, slots_in}
-use Rattle.nb_change.specs.Changes.{Only, Changes, Moved}
-use Rattle.nb_change.proofs.ChangesLaws.{kept_on}
-use Rattle.nb_change.proofs.ResultLaws.{on_ok}
-use Rattle.nb_delta.specs.Waiting.{Stays}
-use Rattle.nb_delta.specs.Groups.{Empties}
+use Rattle.nb_delta.proofs.Common.{length-replicate, Files, is_page_size, slots_in, Only, Changes, Moved, kept_on, Stays, Empties, on_ok}
 use Rattle.nb_delta.proofs.waiting.make_ready.Goals as goal
 
 pub empty_groups-requires-clause-size : goal.empty_groups-requires-clause-size

@@ -1,9 +1,5 @@
 use Rattle.std.proofs.Common.{◌≡◌, ℕ, ◌+◌, List, length, subst}
-use Rattle.std.proofs.lemmas.Result.{on_ok_weaker}
-use Rattle.nb_host.specs.Files.{File}
-use Rattle.nb_delta.specs.Groups.{GroupStep, GroupPut, NotesSome}
-use Rattle.nb_change.specs.Changes.{Only}
-use Rattle.nb_change.proofs.MovedLaws.{moved_weaker}
+use Rattle.nb_delta.proofs.Common.{on_ok_weaker, File, GroupStep, GroupPut, NotesSome, Only, moved_weaker}
 use Rattle.nb_delta.proofs.NotingLaws.{group_some, group_all}
 use Rattle.nb_delta.proofs.waiting.note_group.Goals as goal
 

@@ -1,7 +1,5 @@
 use Rattle.std.proofs.Common.{◌≡◌, ℕ, ◌+◌, List, length, refl, ◌∙◌, subst, arith}
-use Rattle.nb_change.specs.Changes.{Only, Changes, Moved}
-use Rattle.nb_change.proofs.MovedLaws.{moved_begun, moved_joined}
-use Rattle.nb_delta.specs.Groups.{NotesSome, NotesAll}
+use Rattle.nb_delta.proofs.Common.{Only, Changes, Moved, moved_begun, moved_joined, NotesSome, NotesAll}
 use Rattle.nb_delta.proofs.MoveLaws.{silence_none, silence_joined}
 use Rattle.nb_delta.proofs.NotingLaws.{some_none, some_more, some_wider, all_none, all_more}
 use Rattle.nb_delta.proofs.waiting.note_groups.Goals as goal

@@ -1,7 +1,5 @@
 use Rattle.std.proofs.Common.{◌≡◌, IsTrue, length}
-use Rattle.nb_host.specs.Calls.{IsSilent}
-use Rattle.nb_change.specs.Changes.{Only, Changes, Moved}
-use Rattle.nb_delta.specs.Groups.{NotesSome, NotesAll}
+use Rattle.nb_delta.proofs.Common.{IsSilent, Only, Changes, Moved, NotesSome, NotesAll}
 use Rattle.nb_delta.proofs.waiting.note_groups.Given as goal
 
 abbrev pub invariant-loop-group : goal.invariant-loop-group

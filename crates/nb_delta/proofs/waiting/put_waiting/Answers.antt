@@ -1,6 +1,5 @@
 use Rattle.std.proofs.Common.{◌≡◌, ℕ, ◌*◌, ◌<◌, length, sym, subst, arith}
-use Rattle.std.proofs.lemmas.Result.{on_ok_weaker}
-use Rattle.nb_fields.specs.Places.{slots_in}
+use Rattle.nb_delta.proofs.Common.{on_ok_weaker, slots_in}
 use Rattle.nb_delta.proofs.StepLaws.{some_slots}
 use Rattle.nb_delta.proofs.FrontLaws.{groups_inside}
 use Rattle.nb_delta.proofs.DraftedLaws.{ready, noted, has_all, zeros}

@@ -1,10 +1,5 @@
 use Rattle.std.proofs.Common.{ℕ, ◌*◌, List, length, refl, ap, ◌∙◌, subst}
-use Rattle.std.proofs.lemmas.Result.{on_ok_weaker}
-use Rattle.nb_host.specs.Files.{Files, with_page}
-use Rattle.nb_host.specs.Crash.{PageLeft}
-use Rattle.nb_delta.specs.Groups.{GroupStep}
-use Rattle.nb_change.proofs.CallLaws.{page_alone}
-use Rattle.nb_change.proofs.ResultLaws.{whole_on_ok}
+use Rattle.nb_delta.proofs.Common.{on_ok_weaker, Files, with_page, PageLeft, GroupStep, page_alone, whole_on_ok}
 use Rattle.nb_delta.proofs.MoveLaws.{written}
 use Rattle.nb_delta.proofs.EmptyLaws.{group_left, group_put}
 use Rattle.nb_delta.proofs.waiting.write_group.Goals as goal

@@ -1,8 +1,5 @@
-use Rattle.std.proofs.Common.{◌≡◌, ℕ, ◌+◌, ◌*◌, length, inl, inr, ap, ◌∙◌, sym, arith}
-use Rattle.std.specs.Prelude.{slice_index}
-use Rattle.std.proofs.lemmas.Bool.{cases_lt}
-use Rattle.nb_fields.specs.Bytes.{number_in}
-use Rattle.nb_fields.specs.Places.{slots_in}
+use Rattle.std.proofs.Common.{◌≡◌, ℕ, ◌+◌, ◌*◌, length, inl, inr, ap, ◌∙◌, sym, arith, slice_index}
+use Rattle.nb_delta.proofs.Common.{cases_lt, number_in, slots_in}
 use Rattle.nb_delta.proofs.ZeroLaws.{zeros_all, zeros_kept, zeros_more}
 use Rattle.nb_delta.proofs.writing.fill_group.Goals as goal
 

@@ -1,7 +1,5 @@
-use Rattle.std.proofs.Common.{◌≡◌, ℕ, ◌+◌, ◌-◌, ◌*◌, ◌<◌, length, drop, replicate}
-use Rattle.std.specs.Prelude.{slice_index}
-use Rattle.nb_fields.specs.Bytes.{number_in}
-use Rattle.nb_fields.specs.Places.{slots_in}
+use Rattle.std.proofs.Common.{◌≡◌, ℕ, ◌+◌, ◌-◌, ◌*◌, ◌<◌, length, drop, replicate, slice_index}
+use Rattle.nb_delta.proofs.Common.{number_in, slots_in}
 use Rattle.nb_delta.proofs.writing.fill_group.Given as goal
 
 abbrev pub invariant-loop-i : goal.invariant-loop-i

@@ -1,13 +1,5 @@
-use Rattle.std.proofs.Common.{◌≡◌, ℕ, ◌*◌, List, [], length, replicate, inl, inr, refl, ap, ◌∙◌}
-use Rattle.std.specs.Prelude.{Some}
-use Rattle.std.proofs.lemmas.Result.{on_ok_weaker}
-use Rattle.nb_host.specs.Files.{Files}
-use Rattle.nb_change.specs.Changes.{Only, Remade}
-use Rattle.nb_change.proofs.NameLaws.{with_file-same}
-use Rattle.nb_change.proofs.ChangesLaws.{still_more}
-use Rattle.nb_change.proofs.CallLaws.{remade_alone}
-use Rattle.nb_change.proofs.ResultLaws.{on_ok}
-use Rattle.nb_delta.specs.Slots.{IsBlank}
+use Rattle.std.proofs.Common.{◌≡◌, ℕ, ◌*◌, List, [], length, replicate, inl, inr, refl, ap, ◌∙◌, Some}
+use Rattle.nb_delta.proofs.Common.{on_ok_weaker, Files, Only, Remade, with_file-same, still_more, remade_alone, IsBlank, on_ok}
 use Rattle.nb_delta.proofs.MoveLaws.{written, durable_now}
 use Rattle.nb_delta.proofs.BlankLaws.{blank_put, blank_table, blank_made}
 use Rattle.nb_delta.proofs.writing.make_file.Goals as goal

@@ -1,15 +1,5 @@
 use Rattle.std.proofs.Common.{◌≡◌, ℕ, ◌+◌, ◌*◌, ◌/◌, List, length, replicate, ap, ◌∙◌, sym, subst, arith}
-use Rattle.std.proofs.lemmas.List.{length-replicate}
-use Rattle.std.proofs.lemmas.Result.{on_ok_weaker}
-use Rattle.nb_host.specs.Files.{Files, with_page}
-use Rattle.nb_host.specs.Crash.{PageLeft}
-use Rattle.nb_fields.specs.Places.{slots_in}
-use Rattle.nb_fields.specs.Table.{alloc_place}
-use Rattle.nb_delta.specs.Slots.{Keeps}
-use Rattle.nb_change.specs.Changes.{Only}
-use Rattle.nb_change.proofs.CallLaws.{page_alone}
-use Rattle.nb_change.proofs.MovedLaws.{moved_begun}
-use Rattle.nb_change.proofs.ResultLaws.{whole_on_ok}
+use Rattle.nb_delta.proofs.Common.{length-replicate, on_ok_weaker, Files, with_page, PageLeft, slots_in, alloc_place, Keeps, Only, page_alone, moved_begun, whole_on_ok}
 use Rattle.nb_delta.proofs.MoveLaws.{written}
 use Rattle.nb_delta.proofs.StepLaws.{next_left, keeps_none, room_inner, room_last}
 use Rattle.nb_delta.proofs.writing.make_room.Goals as goal

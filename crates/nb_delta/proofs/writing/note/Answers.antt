@@ -1,9 +1,5 @@
 use Rattle.std.proofs.Common.{ℕ, ◌*◌, List, length, refl, ap, ◌∙◌, sym, subst}
-use Rattle.nb_host.specs.Files.{Files, with_page}
-use Rattle.nb_change.specs.Changes.{Only, Moved}
-use Rattle.nb_change.proofs.ChangesLaws.{kept_on}
-use Rattle.nb_change.proofs.ResultLaws.{on_ok}
-use Rattle.nb_delta.specs.Noting.{Notes, NoteStep}
+use Rattle.nb_delta.proofs.Common.{Files, with_page, Only, Moved, kept_on, Notes, NoteStep, on_ok}
 use Rattle.nb_delta.proofs.EntryLaws.{named_none}
 use Rattle.nb_delta.proofs.MoveLaws.{written}
 use Rattle.nb_delta.proofs.StepLaws.{note_put}

@@ -1,9 +1,5 @@
 use Rattle.std.proofs.Common.{◌≡◌, ℕ, ◌-◌, ◌/◌, List, length, ap, ◌∙◌}
-use Rattle.std.proofs.lemmas.Result.{on_ok_weaker}
-use Rattle.nb_host.specs.Files.{File}
-use Rattle.nb_change.specs.Changes.{Only}
-use Rattle.nb_change.proofs.MovedLaws.{moved_weaker}
-use Rattle.nb_delta.specs.Slots.{Keeps, AddStep}
+use Rattle.nb_delta.proofs.Common.{on_ok_weaker, File, Only, moved_weaker, Keeps, AddStep}
 use Rattle.nb_delta.proofs.StepLaws.{ready_again, added_again, newest_keeps}
 use Rattle.nb_delta.proofs.NoteLaws.{entry_changes}
 use Rattle.nb_delta.proofs.writing.put_entry.Goals as goal

@@ -1,11 +1,5 @@
 use Rattle.std.proofs.Common.{ℕ, List, length, sym, subst}
-use Rattle.nb_host.specs.Files.{File, Files}
-use Rattle.nb_change.specs.Changes.{Only, Moved}
-use Rattle.nb_change.proofs.ChangesLaws.{kept_on}
-use Rattle.nb_change.proofs.MovedLaws.{moved_weaker}
-use Rattle.nb_change.proofs.ResultLaws.{on_ok}
-use Rattle.nb_delta.specs.Slots.{Keeps, SlotStep}
-use Rattle.nb_delta.specs.Noting.{MakesRoom, Prepared}
+use Rattle.nb_delta.proofs.Common.{File, Files, Only, Moved, kept_on, moved_weaker, Keeps, SlotStep, MakesRoom, Prepared, on_ok}
 use Rattle.nb_delta.proofs.StepLaws.{keeps_slot, prepared}
 use Rattle.nb_delta.proofs.NoteLaws.{slot_then_room}
 use Rattle.nb_delta.proofs.writing.put_slot.Goals as goal

@@ -1,10 +1,5 @@
-use Rattle.std.proofs.Common.{◌≡◌, ◌∙◌, refl, ap}
-use Rattle.std.specs.Prelude.{None}
-use Rattle.std.proofs.lemmas.Result.{on_ok_weaker}
-use Rattle.nb_host.specs.Files.{Files, with_file}
-use Rattle.nb_change.proofs.NameLaws.{with_file-same}
-use Rattle.nb_change.proofs.CallLaws.{remade_alone}
-use Rattle.nb_change.proofs.ResultLaws.{whole_on_ok}
+use Rattle.std.proofs.Common.{◌≡◌, ◌∙◌, refl, ap, None}
+use Rattle.nb_delta.proofs.Common.{on_ok_weaker, Files, with_file, with_file-same, remade_alone, whole_on_ok}
 use Rattle.nb_delta.proofs.writing.remove_file.Goals as goal
 
 pub returns-clause-changes : goal.returns-clause-changes

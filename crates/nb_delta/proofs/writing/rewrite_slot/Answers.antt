@@ -1,9 +1,5 @@
 use Rattle.std.proofs.Common.{length, sym, subst}
-use Rattle.nb_host.specs.Files.{Files}
-use Rattle.nb_change.specs.Changes.{Only, Moved}
-use Rattle.nb_change.proofs.ChangesLaws.{kept_on}
-use Rattle.nb_change.proofs.ResultLaws.{on_ok}
-use Rattle.nb_delta.specs.Slots.{SlotStep, SlotPut}
+use Rattle.nb_delta.proofs.Common.{Files, Only, Moved, kept_on, SlotStep, SlotPut, on_ok}
 use Rattle.nb_delta.proofs.writing.rewrite_slot.Goals as goal
 
 pub returns-clause-changes : goal.returns-clause-changes

@@ -1,8 +1,4 @@
-use Rattle.std.proofs.lemmas.Result.{on_ok_weaker}
-use Rattle.nb_host.specs.Crash.{LeavesAll}
-use Rattle.nb_change.specs.Changes.{NoNames}
-use Rattle.nb_change.proofs.ChangesLaws.{begun}
-use Rattle.nb_change.proofs.CallLaws.{still_alone}
+use Rattle.nb_delta.proofs.Common.{on_ok_weaker, LeavesAll, NoNames, begun, still_alone}
 use Rattle.nb_delta.proofs.MoveLaws.{durable_now}
 use Rattle.nb_delta.proofs.writing.sync_if.Goals as goal
 

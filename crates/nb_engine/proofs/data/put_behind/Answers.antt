@@ -1,5 +1,5 @@
 use Rattle.std.proofs.Common.{◌∙◌, ℕ, ◌-◌, List, ◌++◌, length, take, drop, ap}
-use Rattle.std.proofs.lemmas.List.{take_rest}
+use Rattle.nb_engine.proofs.Common.{take_rest}
 use Rattle.nb_engine.proofs.DataLaws.{put_rest}
 use Rattle.nb_engine.proofs.data.put_behind.Goals as goal
 

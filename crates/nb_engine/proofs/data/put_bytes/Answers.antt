@@ -1,6 +1,5 @@
 use Rattle.std.proofs.Common.{◌≡◌, ℕ, ◌+◌, ◌-◌, List, length, ap, ◌∙◌, arith}
-use Rattle.nb_fields.specs.Bytes.{with_part}
-use Rattle.nb_fields.proofs.PartLaws.{put_mid-with_part}
+use Rattle.nb_engine.proofs.Common.{with_part, put_mid-with_part}
 use Rattle.nb_engine.proofs.data.put_bytes.Goals as goal
 
 pub returns : goal.returns

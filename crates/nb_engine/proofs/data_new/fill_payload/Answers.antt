@@ -1,6 +1,5 @@
 use Rattle.std.proofs.Common.{◌≡◌, ◌∙◌, ◌-◌, ℕ, List, ◌++◌, length, take, drop, replicate, ap}
-use Rattle.nb_fields.specs.Bytes.{bytes_of, with_part}
-use Rattle.nb_alloc.proofs.ContentLaws.{payload_filled}
+use Rattle.nb_engine.proofs.Common.{bytes_of, with_part, payload_filled}
 use Rattle.nb_engine.proofs.DataLaws.{put_rest}
 use Rattle.nb_engine.proofs.data_new.fill_payload.Goals as goal
 

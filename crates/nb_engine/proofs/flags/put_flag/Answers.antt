@@ -1,19 +1,6 @@
-use Rattle.std.proofs.Common.{◌≤◌, List, [], length, take, refl, sym, ap, subst, ◌∙◌, arith}
-use Rattle.std.specs.Prelude.{Ok, Err, None}
-use Rattle.nb_host.specs.Faults.{as_fault}
-use Rattle.nb_fields.proofs.SizeLaws.{size_facts}
-use Rattle.nb_model.specs.Lines.{flag}
-use Rattle.nb_model.specs.Strokes.{Stroke}
-use Rattle.nb_model.specs.Pages.{byte_strokes}
-use Rattle.nb_page.specs.Quiet.{Quiet}
-use Rattle.nb_change.proofs.FaultLaws.{counts_passed, memory_wanted, none_wanted}
-use Rattle.nb_state.specs.Open.{Held, but_pages}
-use Rattle.nb_state.specs.Does.{Makes}
-use Rattle.nb_state.proofs.MakesLaws.{none_refused}
-use Rattle.nb_alloc.specs.Tries.{Tries}
-use Rattle.nb_alloc.proofs.DoesLaws.{tries_early, tries_passed, tries_after, tries_made}
+use Rattle.std.proofs.Common.{◌≤◌, List, [], length, take, refl, sym, ap, subst, ◌∙◌, arith, Ok, Err, None}
+use Rattle.nb_engine.proofs.Common.{as_fault, size_facts, flag, Stroke, byte_strokes, Quiet, counts_passed, memory_wanted, none_wanted, Held, but_pages, Makes, none_refused, Tries, tries_early, tries_passed, tries_after, tries_made, strikes_after}
 use Rattle.nb_engine.proofs.FlagLaws.{byte_is, front_stays, flagged-some, flag_strokes}
-use Rattle.nb_alloc.proofs.WantLaws.{strikes_after}
 use Rattle.nb_engine.proofs.flags.put_flag.Goals as goal
 
 pub write-requires-clause-some : goal.write-requires-clause-some
@@ -31,20 +18,20 @@ write-requires-clause-control_block g c first tells t opened =
 pub returns-in_err-read_first-clause-tries : goal.returns-in_err-read_first-clause-tries
 returns-in_err-read_first-clause-tries g c t tells is =
     let read = c.in_err-read_first.ensures in
-    tries_early (Unit {0}) (Unit {0}) _ _ _ _ _ _ t None None _ c.from_residual.ensures (λ r e. e) (read.reads t tells is).test read.same read.quiet is (read.open t tells is)
+    tries_early (Unit {0}) (Unit {0}) _ _ _ _ _ _ t None None _ c.from_residual.ensures (λ r e. e) (read.reads t tells is).test read.looks.same read.looks.quiet is (read.looks.opened t tells is)
 
 pub returns-in_err-write-clause-tries : goal.returns-in_err-write-clause-tries
 returns-in_err-write-clause-tries g c t tells is =
     let image = t.base.image in
     let read = c.in_ok-read_first.ensures in
     let first = (read.reads t tells is).page in
-    let still = read.open t tells is in
+    let still = read.looks.opened t tells is in
     let new = g.H.Host.world c.write.new.host in
     let fault = as_fault c.in_err-write.field-0.0 in
     let strokes = flag_strokes c.args.at c.from.result c.args.on c.read_first.new.page c.put_number.new.page image (c.from.ensures ∙ byte_is c.args.on) first c.put_number.ensures.written in
     let makes = c.in_err-write.ensures.makes t tells still in
     tries_passed c.from_residual-in_err-write.result fault (λ r. Tries r (g.H.Host.world c.args.host.now) new c.args.store.now c.write.new.self t None (byte_strokes c.args.at (flag c.args.on) image)) c.from_residual-in_err-write.ensures
-    (tries_after {T = Unit {0}} (Err fault) _ _ _ _ _ _ t _ _ read.same read.quiet is
+    (tries_after {T = Unit {0}} (Err fault) _ _ _ _ _ _ t _ _ read.looks.same read.looks.quiet is
     (tries_made {T = Unit {0}} (Err fault) _ _ _ _ t None _ refl (none_refused c.in_err-write.field-0.0)
     (subst (λ (ss : List Stroke). Makes {T = Unit {0}} (Err fault) (g.H.Host.world c.read_first.new.host) new c.read_first.new.store c.write.new.self t ss) strokes makes)))
 
@@ -53,10 +40,10 @@ returns-clause-tries g c t tells is =
     let image = t.base.image in
     let read = c.in_ok-read_first.ensures in
     let first = (read.reads t tells is).page in
-    let still = read.open t tells is in
+    let still = read.looks.opened t tells is in
     let strokes = flag_strokes c.args.at c.from.result c.args.on c.read_first.new.page c.put_number.new.page image (c.from.ensures ∙ byte_is c.args.on) first c.put_number.ensures.written in
     let makes = c.in_ok-write.ensures.makes t tells still in
-    tries_after {T = Unit {0}} (Ok tt) _ _ _ _ _ _ t _ _ read.same read.quiet is
+    tries_after {T = Unit {0}} (Ok tt) _ _ _ _ _ _ t _ _ read.looks.same read.looks.quiet is
     (tries_made {T = Unit {0}} (Ok tt) _ _ _ _ t None _ refl tt
     (subst (λ (ss : List Stroke). Makes {T = Unit {0}} (Ok tt) (g.H.Host.world c.read_first.new.host) (g.H.Host.world c.write.new.host) c.read_first.new.store c.write.new.self t ss) strokes makes))
 
@@ -64,22 +51,22 @@ pub returns-in_err-write-clause-on_memory : goal.returns-in_err-write-clause-on_
 returns-in_err-write-clause-on_memory g c t tells is memory =
     let read = c.in_ok-read_first.ensures in
     let wants = memory_wanted c.from_residual-in_err-write.result c.in_err-write.field-0.0 c.from_residual-in_err-write.ensures (Unit {0}) memory in
-    let left = c.in_err-write.ensures.on_memory t tells (read.open t tells is) wants in
-    (strikes_after _ _ _ c.args.store.now c.read_first.new.store t [] read.same read.quiet is left.0, left.1)
+    let left = c.in_err-write.ensures.on_memory t tells (read.looks.opened t tells is) wants in
+    (strikes_after _ _ _ c.args.store.now c.read_first.new.store t [] read.looks.same read.looks.quiet is left.0, left.1)
 
 pub returns-in_err-write-clause-forced : goal.returns-in_err-write-clause-forced
 returns-in_err-write-clause-forced g c t tells is forced memory =
     let read = c.in_ok-read_first.ensures in
     let wants = memory_wanted c.from_residual-in_err-write.result c.in_err-write.field-0.0 c.from_residual-in_err-write.ensures (Unit {0}) memory in
-    let same = c.in_err-write.ensures.forced t tells (read.open t tells is) (ap (λ (h : Held). h.files.forced) read.same ∙ forced) wants in
-    (ap but_pages same.0 ∙ read.same, subst (λ host. Quiet (g.H.Host.world c.args.host.now) (g.H.Host.world host)) (sym same.1) read.quiet)
+    let same = c.in_err-write.ensures.forced t tells (read.looks.opened t tells is) (ap (λ (h : Held). h.files.forced) read.looks.same ∙ forced) wants in
+    (ap but_pages same.0 ∙ read.looks.same, subst (λ host. Quiet (g.H.Host.world c.args.host.now) (g.H.Host.world host)) (sym same.1) read.looks.quiet)
 
 pub returns-in_err-write-clause-idle : goal.returns-in_err-write-clause-idle
 returns-in_err-write-clause-idle g c none memory =
     let read = c.in_ok-read_first.ensures in
     let wants = memory_wanted c.from_residual-in_err-write.result c.in_err-write.field-0.0 c.from_residual-in_err-write.ensures (Unit {0}) memory in
     let same = c.in_err-write.ensures.idle (read.none_waits none) wants in
-    (ap but_pages same.0 ∙ read.same, subst (λ host. Quiet (g.H.Host.world c.args.host.now) (g.H.Host.world host)) (sym same.1) read.quiet)
+    (ap but_pages same.0 ∙ read.looks.same, subst (λ host. Quiet (g.H.Host.world c.args.host.now) (g.H.Host.world host)) (sym same.1) read.looks.quiet)
 
 pub returns-in_err-write-clause-cause : goal.returns-in_err-write-clause-cause
 returns-in_err-write-clause-cause g c =
@@ -88,4 +75,4 @@ returns-in_err-write-clause-cause g c =
 pub returns-in_err-write-clause-takes_none : goal.returns-in_err-write-clause-takes_none
 returns-in_err-write-clause-takes_none g c unstalled =
     none_wanted c.from_residual-in_err-write.result c.in_err-write.field-0.0 c.from_residual-in_err-write.ensures
-    (c.in_err-write.ensures.takes_none (λ one. unstalled (sym (ap (λ (h : Held). h.files.state) c.in_ok-read_first.ensures.same) ∙ one)))
+    (c.in_err-write.ensures.takes_none (λ one. unstalled (sym (ap (λ (h : Held). h.files.state) c.in_ok-read_first.ensures.looks.same) ∙ one)))

@@ -1,10 +1,5 @@
-use Rattle.std.proofs.Common.{◌∙◌, refl, sym, ap}
-use Rattle.std.specs.Prelude.{None}
-use Rattle.std.proofs.lemmas.Bool.{true≢false}
-use Rattle.nb_host.specs.declared.faults.Fault.TheVariants.{Device}
-use Rattle.nb_fields.specs.Header.{is_header}
-use Rattle.nb_alloc.specs.Put.{Reads}
-use Rattle.nb_alloc.proofs.DoesLaws.{tries_passed}
+use Rattle.std.proofs.Common.{◌∙◌, refl, sym, ap, None}
+use Rattle.nb_engine.proofs.Common.{true≢false, Device, is_header, Reads, tries_passed}
 use Rattle.nb_engine.proofs.FlagLaws.{some_first}
 use Rattle.nb_engine.proofs.flags.read_first.Goals as goal
 

@@ -1,17 +1,6 @@
-use Rattle.std.proofs.Common.{◌≡◌, ◌<◌, ℕ, List, length, sym, subst, ◌∙◌, arith}
-use Rattle.std.specs.Prelude.{None, IsTrue, Ok, Err}
-use Rattle.nb_fields.specs.Places.{is_page_size}
-use Rattle.nb_model.specs.Forms.{drafted}
-use Rattle.nb_model.specs.Image.{image_size}
-use Rattle.nb_model.specs.Chains.{grown}
-use Rattle.nb_model.proofs.SearchLaws.{draft_cause}
-use Rattle.nb_base.specs.Takes.{after_strokes}
-use Rattle.nb_alloc.specs.Data.{new_behind}
-use Rattle.nb_alloc.specs.Make.{new_of}
-use Rattle.nb_alloc.specs.Tries.{Tries}
-use Rattle.nb_alloc.proofs.DoesLaws.{tries_passed, tries_opened}
+use Rattle.std.proofs.Common.{◌≡◌, ◌<◌, ℕ, List, length, sym, subst, ◌∙◌, arith, None, IsTrue, Ok, Err}
+use Rattle.nb_engine.proofs.Common.{is_page_size, drafted, image_size, grown, draft_cause, after_strokes, new_behind, new_of, Tries, tries_passed, tries_opened, free_behind}
 use Rattle.nb_engine.proofs.GrowLaws.{grown_number, new_below, grown_below, grown_front, grown_failed, grown_done}
-use Rattle.nb_alloc.proofs.RoomsLaws.{free_behind}
 use Rattle.nb_engine.proofs.grow.grow_from.Goals as goal
 
 pub returns-in_err-number-clause-tries : goal.returns-in_err-number-clause-tries

@@ -1,15 +1,5 @@
 use Rattle.std.proofs.Common.{◌≡◌, ◌+◌, ◌≤◌, ◌<◌, ℕ, List, length, refl, sym, ap, ◌∙◌, arith}
-use Rattle.nb_fields.specs.Bytes.{bytes_of, with_part}
-use Rattle.nb_fields.specs.Page.{with_payload}
-use Rattle.nb_fields.proofs.SizeLaws.{size_facts}
-use Rattle.nb_page.proofs.QuietLaws.{quiet_begun}
-use Rattle.nb_model.specs.Image.{Page, page_at}
-use Rattle.nb_model.specs.Forms.{old_page}
-use Rattle.nb_engine.specs.Room.{linked_payload, write_cause}
-use Rattle.nb_alloc.proofs.DoesLaws.{tries_failed, tries_after}
-use Rattle.nb_alloc.proofs.MakeLaws.{tries_fault, tries_named}
-use Rattle.nb_alloc.proofs.PutLaws.{old_below}
-use Rattle.nb_state.specs.Open.{Held}
+use Rattle.nb_engine.proofs.Common.{bytes_of, with_part, with_payload, size_facts, quiet_begun, Page, page_at, old_page, linked_payload, write_cause, tries_failed, tries_after, tries_fault, tries_named, old_below, Held}
 use Rattle.nb_engine.proofs.LinkLaws.{written_payload, payload_inside, write_low, write_past}
 use Rattle.nb_engine.proofs.grow.link.Goals as goal
 
@@ -20,7 +10,7 @@ returns-then-last-count-clause-tries g c t tells is =
     (quiet_begun w (g.met.H.Host.timely c.args.host.now)) is is
 
 pub returns-in_err-read-clause-tries : goal.returns-in_err-read-clause-tries
-returns-in_err-read-clause-tries g c t tells is = tries_fault _ _ _ _ _ t (write_cause t.base.image c.args.last) _ c.from_residual.ensures c.in_err-read.ensures.same c.in_err-read.ensures.quiet is
+returns-in_err-read-clause-tries g c t tells is = tries_fault _ _ _ _ _ t (write_cause t.base.image c.args.last) _ c.from_residual.ensures c.in_err-read.ensures.looks.same c.in_err-read.ensures.looks.quiet is
 
 pub returns-clause-tries : goal.returns-clause-tries
 returns-clause-tries g c t tells is =
@@ -39,8 +29,8 @@ returns-clause-tries g c t tells is =
     let filled : c.put.new.page ≡ with_payload (old_page p image) payload = now ∙ written_payload 16 bytes (page_at image p) (omega arith) inside long ∙ ap (λ (x : Page). with_payload x payload) (sym here) in
     let room : 16 + length payload ≤ length (old_page p image) = omega (arith, payload_inside 16 bytes (page_at image p) (omega arith) inside long, ap length here) in
     tries_named c.put_page.result _ _ _ _ t _ _ _ _ (write_low image p low) refl
-    (tries_after c.put_page.result _ (g.H.Host.world c.read.new.host) _ _ c.read.new.self _ t _ _ old.same old.quiet is
-    (c.put_page.ensures.tries t payload tells (old.open t tells is) room filled))
+    (tries_after c.put_page.result _ (g.H.Host.world c.read.new.host) _ _ c.read.new.self _ t _ _ old.looks.same old.looks.quiet is
+    (c.put_page.ensures.tries t payload tells (old.looks.opened t tells is) room filled))
 
 pub put_page-requires-clause-inside : goal.put_page-requires-clause-inside
-put_page-requires-clause-inside g c = omega (arith, c.count.ensures.value, c.if-last-count.false, ap (λ (h : Held). h.files.count) c.in_ok-read.ensures.same)
+put_page-requires-clause-inside g c = omega (arith, c.count.ensures.value, c.if-last-count.false, ap (λ (h : Held). h.files.count) c.in_ok-read.ensures.looks.same)

@@ -1,21 +1,10 @@
-use Rattle.std.proofs.Common.{◌≡◌, ◌+◌, ◌*◌, ◌<◌, ◌≤◌, ℕ, List, length, drop, sym, ap, subst, ◌∙◌, arith}
-use Rattle.std.specs.Prelude.{IsTrue}
-use Rattle.nb_fields.specs.Bytes.{with_part}
-use Rattle.nb_fields.specs.Page.{with_payload}
-use Rattle.nb_fields.specs.Places.{is_page_size}
-use Rattle.nb_model.specs.Image.{Page, page_at, image_size}
-use Rattle.nb_model.specs.Forms.{old_page}
-use Rattle.nb_model.specs.Chains.{Slot, backup_slot}
-use Rattle.nb_alloc.specs.Put.{entry_cause}
-use Rattle.nb_alloc.proofs.DoesLaws.{tries_after, tries_these}
-use Rattle.nb_alloc.proofs.MakeLaws.{tries_fault}
-use Rattle.nb_alloc.proofs.PutLaws.{old_below}
-use Rattle.nb_state.specs.Open.{Held}
+use Rattle.std.proofs.Common.{◌≡◌, ◌+◌, ◌*◌, ◌<◌, ◌≤◌, ℕ, List, length, drop, sym, ap, subst, ◌∙◌, arith, IsTrue}
+use Rattle.nb_engine.proofs.Common.{with_part, with_payload, is_page_size, Page, page_at, image_size, old_page, Slot, backup_slot, entry_cause, tries_after, tries_these, tries_fault, old_below, Held}
 use Rattle.nb_engine.proofs.LinkLaws.{written_payload, payload_inside, slot_strokes}
 use Rattle.nb_engine.proofs.room.add_row.Goals as goal
 
 pub returns-in_err-read-clause-tries : goal.returns-in_err-read-clause-tries
-returns-in_err-read-clause-tries g c t tells is = tries_fault _ _ _ _ _ t (entry_cause t.base.image c.args.room.now.page) _ c.from_residual.ensures c.in_err-read.ensures.same c.in_err-read.ensures.quiet is
+returns-in_err-read-clause-tries g c t tells is = tries_fault _ _ _ _ _ t (entry_cause t.base.image c.args.room.now.page) _ c.from_residual.ensures c.in_err-read.ensures.looks.same c.in_err-read.ensures.looks.quiet is
 
 pub returns-clause-tries : goal.returns-clause-tries
 returns-clause-tries g c t tells is =
@@ -36,8 +25,8 @@ returns-clause-tries g c t tells is =
     let room : 16 + length payload ≤ length (old_page p image) = omega (arith, payload_inside at bytes (page_at image p) (omega arith) inside long, ap length here) in
     let size : IsTrue (is_page_size (image_size image)) = subst (λ (n : ℕ). IsTrue (is_page_size n)) (c.requires.page_room ∙ is.files.agrees.page_size) c.requires.size in
     tries_these c.put_page.result _ _ _ _ t _ _ _ (λ none. slot_strokes t.base p c.args.room.now.slot bytes size none)
-    (tries_after c.put_page.result _ (g.H.Host.world c.read.new.host) _ _ c.read.new.self _ t _ _ old.same old.quiet is
-    (c.put_page.ensures.tries t payload tells (old.open t tells is) room filled))
+    (tries_after c.put_page.result _ (g.H.Host.world c.read.new.host) _ _ c.read.new.self _ t _ _ old.looks.same old.looks.quiet is
+    (c.put_page.ensures.tries t payload tells (old.looks.opened t tells is) room filled))
 
 pub put_page-requires-clause-inside : goal.put_page-requires-clause-inside
-put_page-requires-clause-inside g c = omega (arith, c.requires.inside, ap (λ (h : Held). h.files.count) c.in_ok-read.ensures.same)
+put_page-requires-clause-inside g c = omega (arith, c.requires.inside, ap (λ (h : Held). h.files.count) c.in_ok-read.ensures.looks.same)

@@ -1,12 +1,5 @@
-use Rattle.std.proofs.Common.{ℕ, [], ◌∷◌, sym, subst, ◌∙◌}
-use Rattle.std.specs.Prelude.{Bool, IsTrue}
-use Rattle.nb_fields.specs.Places.{is_page_size}
-use Rattle.nb_fields.specs.Kinds.{inventory_kind, scn_kind}
-use Rattle.nb_model.specs.Image.{image_size}
-use Rattle.nb_model.specs.Forms.{inventory_of, scn_page_of}
-use Rattle.nb_model.specs.Causes.{first_cause, not_kind, not_of_form, no_scn}
-use Rattle.nb_engine.specs.Room.{taken_draft}
-use Rattle.nb_alloc.proofs.DoesLaws.{tested_on, tested_by_name}
+use Rattle.std.proofs.Common.{ℕ, [], ◌∷◌, sym, subst, ◌∙◌, Bool, IsTrue}
+use Rattle.nb_engine.proofs.Common.{is_page_size, inventory_kind, scn_kind, image_size, inventory_of, scn_page_of, first_cause, not_kind, not_of_form, no_scn, taken_draft, tested_on, tested_by_name, looks_then}
 use Rattle.nb_engine.proofs.RoomLaws.{inventory_refused, scn_refused, free_refused, room_cause}
 use Rattle.nb_engine.proofs.room.check_room.Goals as goal
 
@@ -23,7 +16,7 @@ returns-in_err-check_scn_page-clause-test g c t tells is kind =
     let p : ℕ = c.args.number in
     let size : IsTrue (is_page_size (image_size image)) = subst (λ (n : ℕ). IsTrue (is_page_size n)) is.files.agrees.page_size c.requires.size in
     let free = c.in_ok-free.ensures in
-    let here = free.open t tells is in
+    let here = free.looks.opened t tells is in
     tested_on (Unit {0}) (Unit {0}) _ _ (not_kind image scn_kind (scn_page_of image p)) (first_cause (not_of_form (taken_draft image p) ∷ no_scn image ∷ [])) c.from_residual-in_err-check_scn_page.ensures
     (scn_refused image p size c.requires.low kind (free.test t tells is)) (c.in_err-check_scn_page.ensures.test t tells here)
 
@@ -33,7 +26,7 @@ returns-then-free-clause-test g c t tells is kind =
     let p : ℕ = c.args.number in
     let size : IsTrue (is_page_size (image_size image)) = subst (λ (n : ℕ). IsTrue (is_page_size n)) is.files.agrees.page_size c.requires.size in
     let free = c.in_ok-free.ensures in
-    let here = free.open t tells is in
+    let here = free.looks.opened t tells is in
     free_refused image p size c.requires.low kind (free.test t tells is) (c.in_ok-check_scn_page.ensures.test t tells here) (sym (free.value t tells is) ∙ c.if-free.true)
 
 pub returns-clause-test : goal.returns-clause-test
@@ -42,6 +35,15 @@ returns-clause-test g c t tells is kind =
     let p : ℕ = c.args.number in
     let size : IsTrue (is_page_size (image_size image)) = subst (λ (n : ℕ). IsTrue (is_page_size n)) is.files.agrees.page_size c.requires.size in
     let free = c.in_ok-free.ensures in
-    let here = free.open t tells is in
+    let here = free.looks.opened t tells is in
     tested_by_name c.check_scn.result _ _ (room_cause image p size c.requires.low kind (free.test t tells is) (c.in_ok-check_scn_page.ensures.test t tells here) (sym (free.value t tells is) ∙ c.if-free.false))
     (c.check_scn.ensures.test image (c.scn-scn.ensures ∙ is.agrees.scn))
+
+pub returns-in_err-check_scn_page-clause-looks : goal.returns-in_err-check_scn_page-clause-looks
+returns-in_err-check_scn_page-clause-looks g c = looks_then c.in_ok-free.ensures.looks c.in_err-check_scn_page.ensures.looks
+
+pub returns-then-free-clause-looks : goal.returns-then-free-clause-looks
+returns-then-free-clause-looks g c = looks_then c.in_ok-free.ensures.looks c.in_ok-check_scn_page.ensures.looks
+
+pub returns-clause-looks : goal.returns-clause-looks
+returns-clause-looks g c = looks_then c.in_ok-free.ensures.looks c.in_ok-check_scn_page.ensures.looks

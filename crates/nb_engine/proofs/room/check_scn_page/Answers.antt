@@ -1,7 +1,5 @@
 use Rattle.std.proofs.Common.{ℕ, sym, ap, ◌∙◌}
-use Rattle.nb_fields.specs.Kinds.{scn_kind}
-use Rattle.nb_model.specs.Causes.{not_kind}
-use Rattle.nb_alloc.proofs.DoesLaws.{tested_by_name}
+use Rattle.nb_engine.proofs.Common.{scn_kind, not_kind, tested_by_name}
 use Rattle.nb_alloc.proofs.RaiseLaws.{scn_page-is}
 use Rattle.nb_engine.proofs.room.check_scn_page.Goals as goal
 

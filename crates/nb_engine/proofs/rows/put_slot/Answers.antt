@@ -1,7 +1,5 @@
 use Rattle.std.proofs.Common.{◌+◌, ◌-◌, ◌*◌, ℕ, List, length, ap, ◌∙◌, arith}
-use borrow.Rule.Slice.PartMut.{put_mid}
-use Rattle.nb_fields.proofs.PartLaws.{put_mid-with_part}
-use Rattle.nb_model.specs.Chains.{backup_slot}
+use Rattle.nb_engine.proofs.Common.{put_mid, put_mid-with_part, backup_slot}
 use Rattle.nb_engine.proofs.rows.put_slot.Goals as goal
 
 pub returns : goal.returns

@@ -1,5 +1,5 @@
 use Rattle.std.proofs.Common.{◌∙◌}
-use Rattle.nb_walk.proofs.SlotLaws.{byte_at}
+use Rattle.nb_engine.proofs.Common.{byte_at}
 use Rattle.nb_engine.proofs.SlotLaws.{row_is}
 use Rattle.nb_engine.proofs.rows.read_row.Goals as goal
 

@@ -1,10 +1,5 @@
-use Rattle.std.proofs.Common.{◌≡◌, ◌≢◌, sym, ap, ◌∙◌}
-use Rattle.std.specs.Prelude.{true, Some, not, slice_index}
-use Rattle.std.proofs.lemmas.Bool.{false≢true, eqb-true}
-use Rattle.nb_model.specs.Chains.{History, Slot, Spot, is_slot}
-use Rattle.nb_walk.proofs.SlotLaws.{used_of, filled_of}
-use Rattle.nb_engine.specs.declared.rows.HistoryRow.{HistoryRow}
-use Rattle.nb_engine.specs.History.{meets}
+use Rattle.std.proofs.Common.{◌≡◌, ◌≢◌, sym, ap, ◌∙◌, true, Some, not, slice_index}
+use Rattle.nb_engine.proofs.Common.{false≢true, eqb-true, History, Slot, Spot, is_slot, used_of, filled_of, HistoryRow, meets}
 use Rattle.nb_engine.proofs.SlotLaws.{walked_of, free_first, free_more, used_met, used_other}
 use Rattle.nb_engine.proofs.walk.add_slot.Goals as goal
 

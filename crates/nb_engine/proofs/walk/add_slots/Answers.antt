@@ -1,9 +1,5 @@
-use Rattle.std.proofs.Common.{◌≡◌, ℕ, [], ◌∷◌, ◌++◌, length, sym, ap, ◌∙◌, arith}
-use Rattle.std.specs.Prelude.{Bool}
-use Rattle.nb_model.specs.Chains.{History, Slot, is_slot}
-use Rattle.nb_walk.proofs.SlotLaws.{slot_inside, test_first, passes_here, passes_next}
-use Rattle.nb_walk.proofs.SpotLaws.{comes_first, comes_next, comes_last}
-use Rattle.nb_engine.specs.History.{gathered, IsPlaced}
+use Rattle.std.proofs.Common.{◌≡◌, ℕ, [], ◌∷◌, ◌++◌, length, sym, ap, ◌∙◌, arith, Bool}
+use Rattle.nb_engine.proofs.Common.{History, Slot, is_slot, slot_inside, test_first, passes_here, passes_next, comes_first, comes_next, comes_last, gathered, IsPlaced}
 use Rattle.nb_engine.proofs.walk.add_slots.Goals as goal
 
 abbrev test : Slot → Bool

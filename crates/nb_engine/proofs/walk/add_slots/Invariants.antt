@@ -1,9 +1,5 @@
-use Rattle.std.proofs.Common.{◌≡◌, ◌+◌, ◌-◌, ◌*◌, ◌/◌, List, length}
-use Rattle.std.specs.Prelude.{IfSome, true}
-use Rattle.std.specs.List.{list_all}
-use Rattle.nb_model.specs.Chains.{History, Spot, is_slot, slots_from}
-use Rattle.nb_walk.proofs.SpotLaws.{Comes}
-use Rattle.nb_engine.specs.History.{gathered, IsPlaced}
+use Rattle.std.proofs.Common.{◌≡◌, ◌+◌, ◌-◌, ◌*◌, ◌/◌, List, length, IfSome, true}
+use Rattle.nb_engine.proofs.Common.{list_all, History, Spot, is_slot, slots_from, Comes, gathered, IsPlaced}
 use Rattle.nb_engine.proofs.walk.add_slots.Given as goal
 
 abbrev pub invariant-loop-slot : goal.invariant-loop-slot

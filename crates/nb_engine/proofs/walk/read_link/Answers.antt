@@ -1,10 +1,5 @@
 use Rattle.std.proofs.Common.{ℕ, List, ◌++◌, sym, ap, ◌∙◌}
-use Rattle.nb_model.specs.Image.{Page}
-use Rattle.nb_model.specs.Chains.{History, Spot, slots_in, spots_on, spots_of, next_in}
-use Rattle.nb_alloc.proofs.DoesLaws.{tested_on}
-use Rattle.nb_walk.specs.Walks.{not_linked}
-use Rattle.nb_walk.proofs.SpotLaws.{spots_more}
-use Rattle.nb_engine.specs.History.{gathered}
+use Rattle.nb_engine.proofs.Common.{Page, History, Spot, slots_in, spots_on, spots_of, next_in, tested_on, not_linked, spots_more, gathered}
 use Rattle.nb_engine.proofs.walk.read_link.Goals as goal
 
 pub returns-in_err-next-clause-test : goal.returns-in_err-next-clause-test

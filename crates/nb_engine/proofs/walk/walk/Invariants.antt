@@ -1,11 +1,5 @@
-use Rattle.std.proofs.Common.{◌≡◌, ◌⊎◌, ◌+◌, ◌-◌, ◌<◌, ◌≤◌, length}
-use Rattle.std.specs.Prelude.{IsTrue, IfSome}
-use Rattle.nb_page.specs.Quiet.{Quiet}
-use Rattle.nb_model.specs.Chains.{History}
-use Rattle.nb_model.specs.Trail.{Trail}
-use Rattle.nb_state.specs.Open.{IsOpen, but_pages}
-use Rattle.nb_walk.proofs.WalkLaws.{Walks}
-use Rattle.nb_engine.specs.History.{IsPlaced}
+use Rattle.std.proofs.Common.{◌≡◌, ◌⊎◌, ◌+◌, ◌-◌, ◌<◌, ◌≤◌, length, IsTrue, IfSome}
+use Rattle.nb_engine.proofs.Common.{History, Trail, IsOpen, Walks, IsPlaced, Looks}
 use Rattle.nb_engine.proofs.SlotLaws.{Gathers}
 use Rattle.nb_engine.proofs.walk.walk.Given as goal
 
@@ -16,9 +10,7 @@ invariant-loop-left g l = record {
   seen : (l.number ≡ 4) ⊎ (4 < l.fn.store.files.count);
   few : l.left ≤ l.fn.store.files.count;
   room : length l.page ≡ length l.fn.page;
-  opened : (t : Trail) → IsTrue g.H.Host.tells → IsOpen (g.H.Host.world l.fn.host) l.fn.store t → IsOpen (g.H.Host.world l.host) l.store t;
-  same : but_pages l.store ≡ but_pages l.fn.store;
-  quiet : Quiet (g.H.Host.world l.fn.host) (g.H.Host.world l.host);
+  looks : Looks g.H.Host.tells (g.H.Host.world l.fn.host) (g.H.Host.world l.host) l.fn.store l.store;
   once : IsTrue g.H.Host.tells → (g.H.Host.world l.host).reads ≤ (g.H.Host.world l.fn.host).reads + (l.fn.store.files.count - l.left);
   cause : g.H.Host.faults l.host ≡ g.H.Host.faults l.fn.host;
 }

@@ -1,5 +1,5 @@
 use Rattle.std.proofs.Common.{◌∙◌, sym}
-use Rattle.nb_alloc.proofs.TestLaws.{write_closed, write_long, write_fits}
+use Rattle.nb_engine.proofs.Common.{write_closed, write_long, write_fits}
 use Rattle.nb_engine.proofs.write.check_write.Goals as goal
 
 pub returns-then-closed-clause-test : goal.returns-then-closed-clause-test

@@ -1,5 +1,5 @@
 use Rattle.std.proofs.Common.{◌≡◌, ℕ, ◌≤◌, List, ◌++◌, length, take, drop, replicate, ap, ◌∙◌, arith, length-append, length-drop}
-use Rattle.nb_fields.specs.Bytes.{number_of, part, number_in}
+use Rattle.nb_fields.proofs.Common.{number_of, part, number_in}
 use Rattle.nb_fields.proofs.NumberLaws.{from_eight_bytes, number_of-append, number_of-drop_zeros}
 use Rattle.nb_fields.proofs.PartLaws.{length-part, number_in-lt}
 use Rattle.nb_fields.proofs.bytes.number_at.Goals as goal

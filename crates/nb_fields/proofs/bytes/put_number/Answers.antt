@@ -1,7 +1,7 @@
 use Rattle.std.proofs.Common.{◌≡◌, ℕ, ◌+◌, ◌-◌, List, length, take, refl, ap, ◌∙◌, arith}
+use Rattle.nb_fields.proofs.Common.{bytes_of, number_in, part}
 use Rattle.std.proofs.lemmas.Slice.{put_mid-paste}
 use Rattle.std.proofs.lemmas.List.Edits.{paste_all}
-use Rattle.nb_fields.specs.Bytes.{bytes_of, number_in, part}
 use Rattle.nb_fields.proofs.NumberLaws.{to_eight_bytes, take-bytes_of, length-bytes_of}
 use Rattle.nb_fields.proofs.PartLaws.{number_in-with_part, number_in-with_part_other, part-with_part_other}
 use Rattle.nb_fields.proofs.bytes.put_number.Goals as goal

@@ -1,7 +1,5 @@
 use Rattle.std.proofs.Common.{◌≡◌, ◌∙◌, ◌+◌, ◌<◌, ◌≤◌, ◌⊎◌, inl, inr, ℕ, List, length, refl, sym, ap, subst, arith, IsTrue, OnOk}
-use Rattle.nb_host.specs.Files.{put_at}
-use Rattle.nb_file.specs.Resized.{resized, IsBegun}
-use Rattle.nb_file.specs.Whole.{IsWhole}
+use Rattle.nb_file.proofs.Common.{put_at, resized, IsBegun, IsWhole}
 use Rattle.nb_file.proofs.GrowthLaws.{put_at-resized, whole-within, same-within, whole-set_back, undone-set_back}
 use Rattle.nb_file.proofs.PutLaws.{length-put_at}
 use Rattle.nb_file.proofs.growth.put_whole.Goals as goal

@@ -1,8 +1,5 @@
-use Rattle.std.proofs.Common.{◌≡◌, ℕ, ◌/◌, ◌<◌, sym, ap, ◌∙◌, arith}
-use Rattle.std.specs.Prelude.{Some, min}
-use Rattle.nb_fields.proofs.SizeLaws.{size_facts}
-use Rattle.nb_fields.specs.Places.{most_pages}
-use Rattle.nb_host.specs.declared.refusals.Refusal.TheVariants.{NotDatabase}
+use Rattle.std.proofs.Common.{◌≡◌, ℕ, ◌/◌, ◌<◌, sym, ap, ◌∙◌, arith, Some, min}
+use Rattle.nb_fixup.proofs.Common.{size_facts, most_pages, NotDatabase}
 use Rattle.nb_fixup.proofs.CauseLaws.{parted, too_few, too_many, fits}
 use Rattle.nb_fixup.proofs.copy.broken_page.Goals.{then-len-size-ne0-via-then-len-size-ne0, then-len-size-ne0-via-else-len-size-ne0+then-pages-lt-LEAST_PAGES, then-len-size-ne0-via-else-len-size-ne0+else-pages-lt-LEAST_PAGES+then-pages-most}
 use Rattle.nb_fixup.proofs.copy.broken_page.Goals as goal

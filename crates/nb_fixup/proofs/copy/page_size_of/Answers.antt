@@ -1,14 +1,10 @@
-use Rattle.std.proofs.Common.{◌≡◌, ℕ, [], sym, ap, subst, ◌∙◌, rules}
-use Rattle.std.specs.Prelude.{true, Some, None}
+use Rattle.std.proofs.Common.{◌≡◌, ℕ, [], sym, ap, subst, ◌∙◌, rules, true, Some, None}
+use Rattle.nb_fixup.proofs.Common.{is_header, WrongState, not_database, OnFixup, unheaded}
 use denote.Enum.Bare.{same_true, same_false}
-use Rattle.nb_fields.specs.Header.{is_header}
-use Rattle.nb_host.specs.declared.refusals.Refusal.TheVariants.{WrongState}
-use Rattle.nb_model.specs.Causes.{not_database}
-use Rattle.nb_cases.specs.Events.{OnFixup}
 use Rattle.nb_cases.specs.contracts.events.Case.{the_type}
 use Rattle.nb_cases.specs.declared.events.Case.TheVariants as case
 use Rattle.nb_fixup.proofs.AnswerLaws.{refused}
-use Rattle.nb_fixup.proofs.CauseLaws.{unheaded, first_header, too_short, size_is, state_is, page_short, broken, alone}
+use Rattle.nb_fixup.proofs.CauseLaws.{first_header, too_short, size_is, state_is, page_short, broken, alone}
 use Rattle.nb_fixup.proofs.StateLaws.{may_be_fixed}
 use Rattle.nb_fixup.proofs.copy.page_size_of.Goals as goal
 

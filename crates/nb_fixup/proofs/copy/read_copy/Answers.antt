@@ -1,11 +1,6 @@
-use Rattle.std.proofs.Common.{◌≡◌, ℕ, ap, sym, ◌∙◌}
-use Rattle.std.specs.Prelude.{Some, is_some}
-use Rattle.nb_host.specs.Files.{Files}
-use Rattle.nb_host.specs.declared.refusals.Refusal.TheVariants.{DeltaPresent}
-use Rattle.nb_model.specs.Owner.{delta_name}
-use Rattle.nb_fixup.specs.Fixup.{fixup_cause}
-use Rattle.nb_fixup.specs.Tests.{Tested, file_cause}
-use Rattle.nb_fixup.proofs.AnswerLaws.{passed, tested_by, some_length}
+use Rattle.std.proofs.Common.{◌≡◌, ℕ, ap, sym, ◌∙◌, Some, is_some}
+use Rattle.nb_fixup.proofs.Common.{Files, DeltaPresent, delta_name, fixup_cause, Tested, file_cause, passed}
+use Rattle.nb_fixup.proofs.AnswerLaws.{tested_by, some_length}
 use Rattle.nb_fixup.proofs.CauseLaws.{file_unfit, file_beside, file_alone}
 use Rattle.nb_fixup.proofs.copy.read_copy.Goals as goal
 

@@ -1,8 +1,5 @@
 use Rattle.std.proofs.Common.{ℕ, take, ap, ◌∙◌}
-use Rattle.nb_host.specs.declared.faults.Fault.TheVariants.{Device}
-use Rattle.nb_restore.proofs.FinishLaws.{normal_page}
-use Rattle.nb_fixup.specs.Fixup.{Fixes}
-use Rattle.nb_fixup.proofs.AnswerLaws.{passed}
+use Rattle.nb_fixup.proofs.Common.{Device, normal_page, Fixes, passed}
 use Rattle.nb_fixup.proofs.FixupLaws.{copy_there, fix_refused, fix_fails, fix_done}
 use Rattle.nb_fixup.proofs.fixing.fix_up.Goals as goal
 

@@ -1,12 +1,6 @@
-use Rattle.std.proofs.Common.{List, sym, ap, subst, ◌∙◌, ◌+◌}
-use Rattle.std.specs.Prelude.{Err}
-use Rattle.nb_level.specs.Heads.{head_of}
-use Rattle.nb_fold.specs.Fold.{Folds, fold_reads}
-use Rattle.nb_fold.specs.Folding.{folded}
-use Rattle.nb_fold.specs.Merging.{IsReady}
-use Rattle.nb_fold.specs.Sources.{Held}
+use Rattle.std.proofs.Common.{List, sym, ap, subst, ◌∙◌, ◌+◌, Err}
+use Rattle.nb_fold.proofs.Common.{head_of, Folds, fold_reads, folded, IsReady, Held, passed}
 use Rattle.nb_fold.proofs.FoldLaws.{fold_done, fold_fails, not_prepared}
-use Rattle.nb_chain.proofs.AnswerLaws.{passed}
 use Rattle.nb_fold.proofs.folding.fold.Goals as goal
 
 pub returns-in_err-sources-clause-folds : goal.returns-in_err-sources-clause-folds

@@ -1,5 +1,5 @@
 use Rattle.std.proofs.Common.{ap, ◌∙◌}
-use Rattle.nb_level.specs.Heads.{head_of}
+use Rattle.nb_fold.proofs.Common.{head_of}
 use Rattle.nb_fold.proofs.FoldLaws.{first_there, last_there, head_is}
 use Rattle.nb_fold.proofs.folding.folded_head.Goals as goal
 

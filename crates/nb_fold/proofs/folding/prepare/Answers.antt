@@ -1,12 +1,5 @@
-use Rattle.std.proofs.Common.{List, sym, ap, subst, ◌∙◌, arith}
-use Rattle.std.specs.Prelude.{IsTrue, Err}
-use Rattle.nb_fields.specs.Places.{is_page_size}
-use Rattle.nb_host.specs.Files.{Files}
-use Rattle.nb_level.specs.Heads.{head_of}
-use Rattle.nb_level.specs.declared.head.LevelHead.{LevelHead}
-use Rattle.nb_fold.specs.Checking.{AreAlike, first_size}
-use Rattle.nb_fold.specs.Sources.{Held, AreOfPages, AreOpened}
-use Rattle.nb_fold.specs.Verdict.{chained}
+use Rattle.std.proofs.Common.{List, sym, ap, subst, ◌∙◌, arith, IsTrue, Err}
+use Rattle.nb_fold.proofs.Common.{is_page_size, Files, head_of, LevelHead, AreAlike, first_size, Held, AreOfPages, AreOpened, chained}
 use Rattle.nb_fold.proofs.FoldLaws.{due_few, prepared, verdict_free, verdict_taken}
 use Rattle.nb_fold.proofs.OpenLaws.{fault_is}
 use Rattle.nb_fold.proofs.folding.prepare.Goals as goal

@@ -1,7 +1,5 @@
-use Rattle.std.proofs.Common.{◌≡◌, List, ◌∷◌, sym, subst}
-use Rattle.std.specs.Prelude.{Some}
-use Rattle.nb_model.specs.Image.{Page}
-use Rattle.nb_fold.specs.Sources.{Held, AreOfPages, IsLeast, waiting_page}
+use Rattle.std.proofs.Common.{◌≡◌, List, ◌∷◌, sym, subst, Some}
+use Rattle.nb_fold.proofs.Common.{Page, Held, AreOfPages, IsLeast, waiting_page}
 use Rattle.nb_fold.proofs.NextLaws.{first_alone, first_lower}
 use Rattle.nb_fold.proofs.merging.+next_page.Goals as goal
 

@@ -1,10 +1,6 @@
-use Rattle.std.proofs.Common.{refl, ap, arith}
-use Rattle.std.specs.Prelude.{Bool}
-use Rattle.nb_gather.specs.Gathering.{LevelWriting}
-use Rattle.nb_gather.specs.Making.{IsUnfinished}
-use Rattle.nb_fold.specs.Sources.{IsTaken}
+use Rattle.std.proofs.Common.{refl, ap, arith, Bool}
+use Rattle.nb_fold.proofs.Common.{LevelWriting, IsUnfinished, IsTaken, passed}
 use Rattle.nb_fold.proofs.MergeLaws.{falls_by, folds_end, folds_on, makes_none, makes_quiet, may_take, waits_mid}
-use Rattle.nb_chain.proofs.AnswerLaws.{passed}
 use Rattle.nb_fold.proofs.PassLaws.{fails_alike}
 use Rattle.nb_fold.proofs.merging.fold_page.Goals as goal
 

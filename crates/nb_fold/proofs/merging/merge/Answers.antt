@@ -1,12 +1,6 @@
-use Rattle.std.proofs.Common.{ℕ, List, refl, ap, subst, ◌∙◌, arith}
-use Rattle.std.specs.Prelude.{Bool}
-use Rattle.nb_change.proofs.GaveLaws.{gave_begun, nothing_joined}
-use Rattle.nb_gather.specs.Gathering.{LevelWriting}
-use Rattle.nb_gather.specs.Making.{IsUnfinished}
-use Rattle.nb_fold.specs.Merging.{FallsOn, FoldsOn, Makes}
-use Rattle.nb_fold.specs.Sources.{AreOfPages, IsTaken}
+use Rattle.std.proofs.Common.{ℕ, List, refl, ap, subst, ◌∙◌, arith, Bool}
+use Rattle.nb_fold.proofs.Common.{gave_begun, nothing_joined, LevelWriting, IsUnfinished, FallsOn, FoldsOn, Makes, AreOfPages, IsTaken, passed}
 use Rattle.nb_fold.proofs.MergeLaws.{makes_none, makes_then}
-use Rattle.nb_chain.proofs.AnswerLaws.{passed}
 use Rattle.nb_fold.proofs.PassLaws.{fails_alike}
 use Rattle.nb_fold.proofs.merging.merge.Goals as goal
 

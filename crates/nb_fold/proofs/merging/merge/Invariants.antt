@@ -1,10 +1,5 @@
-use Rattle.std.proofs.Common.{◌≡◌, ℕ, ◌+◌, ◌<◌, List}
-use Rattle.std.specs.Prelude.{IsTrue}
-use Rattle.nb_change.specs.Gave.{GaveNothing}
-use Rattle.nb_model.specs.Image.{Numbered}
-use Rattle.nb_gather.specs.Making.{IsUnfinished}
-use Rattle.nb_fold.specs.Merging.{IsFolding, Makes}
-use Rattle.nb_fold.specs.Sources.{AreOfPages, due}
+use Rattle.std.proofs.Common.{◌≡◌, ℕ, ◌+◌, ◌<◌, List, IsTrue}
+use Rattle.nb_fold.proofs.Common.{GaveNothing, Numbered, IsUnfinished, IsFolding, Makes, AreOfPages, due}
 use Rattle.nb_fold.proofs.merging.merge.Given as goal
 
 -- the pages so far were folded

@@ -1,11 +1,6 @@
-use Rattle.std.proofs.Common.{◌+◌, ◌≤◌, List, get_or, refl, sym, ap, subst, ◌∙◌, arith}
-use Rattle.std.specs.Prelude.{Err}
-use Rattle.std.proofs.lemmas.List.{take_all}
-use Rattle.nb_host.specs.Files.{Files}
+use Rattle.std.proofs.Common.{◌+◌, ◌≤◌, List, get_or, refl, sym, ap, subst, ◌∙◌, arith, Err}
+use Rattle.nb_fold.proofs.Common.{take_all, Files, quiet_begun, quiet_joined, Held, IsTaken, Waits, rest_after, counts_at, due, passed}
 use Rattle.nb_host.specs.Causes.{CountsDevice}
-use Rattle.nb_page.proofs.QuietLaws.{quiet_begun, quiet_joined}
-use Rattle.nb_fold.specs.Sources.{Held, IsTaken, Waits, rest_after, counts_at, due}
-use Rattle.nb_chain.proofs.AnswerLaws.{passed}
 use Rattle.nb_fold.proofs.PassLaws.{found, passed_all, due_set, pages_set, apart_set, behind_still, counts_upto, counts_front, fails_alike}
 use Rattle.nb_fold.proofs.merging.pass_all.Goals as goal
 

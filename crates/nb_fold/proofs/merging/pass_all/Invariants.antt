@@ -1,9 +1,5 @@
-use Rattle.std.proofs.Common.{◌≡◌, ℕ, ◌+◌, ◌≤◌, List, take, drop}
-use Rattle.std.specs.Prelude.{IsTrue}
-use Rattle.nb_model.specs.Image.{Numbered}
-use Rattle.nb_page.specs.Quiet.{Quiet}
-use Rattle.nb_fold.specs.Sources.{AllWait, AreOfPages, counts_at, due}
-use Rattle.nb_fold.specs.Merging.{AreApart}
+use Rattle.std.proofs.Common.{◌≡◌, ℕ, ◌+◌, ◌≤◌, List, take, drop, IsTrue}
+use Rattle.nb_fold.proofs.Common.{Numbered, Quiet, AllWait, AreOfPages, counts_at, due, AreApart}
 use Rattle.nb_fold.proofs.PassLaws.{rests_upto}
 use Rattle.nb_fold.proofs.merging.pass_all.Given as goal
 

@@ -1,11 +1,6 @@
 use Rattle.std.proofs.Common.{◌<◌, List, sym, ap, subst, ◌∙◌, length}
-use Rattle.nb_host.specs.Files.{Files}
-use Rattle.nb_level.specs.Heads.{head_of}
-use Rattle.nb_level.specs.declared.head.LevelHead.{LevelHead}
-use Rattle.nb_fold.specs.Checking.{AddSays, AreAlike, IsLast, first_size}
-use Rattle.nb_fold.specs.Sources.{Held, IsOpened}
+use Rattle.nb_fold.proofs.Common.{Files, head_of, LevelHead, AddSays, AreAlike, IsLast, first_size, Held, IsOpened, passed}
 use Rattle.nb_fold.proofs.AddLaws.{add_unread, add_unopened, add_apart, add_done, alike_more}
-use Rattle.nb_chain.proofs.AnswerLaws.{passed}
 use Rattle.nb_fold.proofs.opening.add.Goals as goal
 
 pub returns-in_err-whole-clause-answer : goal.returns-in_err-whole-clause-answer

@@ -1,14 +1,6 @@
-use Rattle.std.proofs.Common.{◌≡◌, ℕ, ◌+◌, sym, ap, subst, ◌∙◌, length}
-use Rattle.std.proofs.lemmas.Bool.{eqb-true}
+use Rattle.std.proofs.Common.{◌≡◌, ℕ, ◌+◌, sym, ap, subst, ◌∙◌, length, Option}
+use Rattle.nb_fold.proofs.Common.{eqb-true, head_of, LevelHead, Cause, Head, Contents, Tested, first_size, not_after}
 use Rattle.nb_change.proofs.ResultLaws.{on_ok_then}
-use Rattle.nb_level.specs.Heads.{head_of}
-use Rattle.nb_level.specs.declared.head.LevelHead.{LevelHead}
-use Rattle.nb_model.specs.Causes.{Cause}
-use Rattle.nb_model.specs.Levels.{Head, Contents}
-use Rattle.std.specs.Prelude.{Option}
-use Rattle.nb_chain.specs.First.{Tested}
-use Rattle.nb_fold.specs.Checking.{first_size}
-use Rattle.nb_fold.specs.Verdict.{not_after}
 use Rattle.nb_fold.proofs.AddLaws.{last_there, last_alike, no_last, some_of, same_test}
 use Rattle.nb_fold.proofs.opening.goes_on_from.Goals as goal
 

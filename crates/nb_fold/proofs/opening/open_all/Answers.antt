@@ -1,12 +1,8 @@
-use Rattle.std.proofs.Common.{ℕ, ◌+◌, List, refl, sym, ap, subst, ◌∙◌, arith, drop, length}
-use Rattle.std.specs.Prelude.{Err}
-use Rattle.nb_host.specs.Files.{Files}
-use Rattle.nb_host.specs.declared.faults.Fault.{Fault}
-use Rattle.nb_page.proofs.QuietLaws.{quiet_begun, quiet_joined}
-use Rattle.nb_fold.specs.Checking.{AddSays, AreAlike, IsAdded}
-use Rattle.nb_fold.specs.Sources.{Held}
-use Rattle.nb_fold.proofs.AddLaws.{SoFarOpened, opened_none, opened_refused, opened_one, opened_all, left_there}
+use Rattle.std.proofs.Common.{ℕ, ◌+◌, List, refl, sym, ap, subst, ◌∙◌, arith, drop, length, Err}
+use Rattle.nb_fold.proofs.Common.{Files, Fault, quiet_begun, quiet_joined, AddSays, AreAlike, IsAdded, Held}
+use Rattle.nb_fold.proofs.AddLaws.{SoFarOpened, opened_none, opened_refused, opened_one, opened_all}
 use Rattle.nb_fold.proofs.OpenLaws.{fault_is}
+use Rattle.nb_restore.proofs.SourceLaws.{names_from}
 use Rattle.nb_fold.proofs.opening.open_all.Goals as goal
 
 pub loop-name-init : goal.loop-name-init
@@ -31,7 +27,7 @@ loop-name-preserved g c =
     let low = c.loop-name-test.true in
     record {
       so_far = λ tells.
-          let so_far = subst (λ (left : List (List ℕ)). SoFarOpened files c.args.files.now left old before mid) (left_there c.args.files.now c.loop-name.name-index name (omega (arith, low)) c.name-item.is) (loop.so_far tells) in
+          let so_far = subst (λ (left : List (List ℕ)). SoFarOpened files c.args.files.now left old before mid) (names_from c.args.files.now c.loop-name.name-index name (omega (arith, low)) c.name-item.is) (loop.so_far tells) in
           opened_one files c.args.files.now (drop (c.loop-name.name-index + 1) c.args.files.now) name old before mid so_far c.add.new.sources.items (g.H.Host.world c.add.new.host).reads
           (subst (λ (f : Files). IsAdded f name so_far.last old c.add.new.sources.items mid (g.H.Host.world c.add.new.host).reads) same (add.answer tells so_far.last so_far.is_last));
       alike = add.alike loop.alike;
@@ -50,7 +46,7 @@ returns-in_err-add-clause-refused g c tells refusal is =
     let mid : ℕ = (g.H.Host.world c.loop-name.host).reads in
     let files : Files = (g.H.Host.world c.args.host.now).files in
     let low = c.loop-name-test.true in
-    let so_far = subst (λ (left : List (List ℕ)). SoFarOpened files c.args.files.now left old before mid) (left_there c.args.files.now c.loop-name.name-index name (omega (arith, low)) c.name-item.is) (loop.so_far tells) in
+    let so_far = subst (λ (left : List (List ℕ)). SoFarOpened files c.args.files.now left old before mid) (names_from c.args.files.now c.loop-name.name-index name (omega (arith, low)) c.name-item.is) (loop.so_far tells) in
     let new : List Held = c.add.new.sources.items in
     let after : ℕ = (g.H.Host.world c.add.new.host).reads in
     opened_refused files c.args.files.now (drop (c.loop-name.name-index + 1) c.args.files.now) name old before mid so_far new after refusal

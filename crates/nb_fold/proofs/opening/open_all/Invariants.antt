@@ -1,7 +1,5 @@
-use Rattle.std.proofs.Common.{◌≡◌, length, drop}
-use Rattle.std.specs.Prelude.{IsTrue}
-use Rattle.nb_page.specs.Quiet.{Quiet}
-use Rattle.nb_fold.specs.Checking.{AreAlike}
+use Rattle.std.proofs.Common.{◌≡◌, length, drop, IsTrue}
+use Rattle.nb_fold.proofs.Common.{Quiet, AreAlike}
 use Rattle.nb_fold.proofs.AddLaws.{SoFarOpened}
 use Rattle.nb_fold.proofs.opening.open_all.Given as goal
 

@@ -1,7 +1,5 @@
 use Rattle.std.proofs.Common.{List, ℕ, sym, subst}
-use Rattle.nb_gather.specs.Making.{IsMade, IsUnfinished}
-use Rattle.nb_gather.proofs.QuietLaws.{is_made}
-use Rattle.nb_fold.specs.Merging.{Makes}
+use Rattle.nb_fold.proofs.Common.{IsMade, IsUnfinished, is_made, Makes}
 use Rattle.nb_fold.proofs.MergeLaws.{made_first, makes_or}
 use Rattle.nb_fold.proofs.writing.begin.Goals as goal
 

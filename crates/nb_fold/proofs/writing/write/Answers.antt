@@ -1,11 +1,6 @@
 use Rattle.std.proofs.Common.{inl, ℕ, List, ap, subst, ◌∙◌, arith}
-use Rattle.nb_level.specs.Heads.{head_of}
-use Rattle.nb_model.specs.Levels.{level_bytes}
-use Rattle.nb_gather.specs.Gathering.{LevelWriting}
-use Rattle.nb_gather.specs.Making.{IsKept, IsUnfinished}
-use Rattle.nb_fold.specs.Sources.{IsTaken}
+use Rattle.nb_fold.proofs.Common.{head_of, level_bytes, LevelWriting, IsKept, IsUnfinished, IsTaken, passed}
 use Rattle.nb_fold.proofs.MergeLaws.{folding_made, folded_or, closed_or, makes_weaker}
-use Rattle.nb_chain.proofs.AnswerLaws.{passed}
 use Rattle.nb_fold.proofs.writing.write.Goals as goal
 
 pub returns-in_err-begin-clause-makes : goal.returns-in_err-begin-clause-makes

@@ -1,6 +1,5 @@
 use Rattle.std.proofs.Common.{◌∙◌, ℕ, List, ◌++◌, ap, codes}
-use Rattle.std.specs.Fmt.{decimal}
-use Rattle.nb_model.specs.Generated.{ended, generated, lines_from}
+use Rattle.nb_gen.proofs.Common.{decimal, ended, generated, lines_from}
 use Rattle.nb_gen.proofs.LineLaws.{all_parts}
 use Rattle.nb_gen.proofs.script.generate.Goals as goal
 

@@ -1,5 +1,5 @@
 use Rattle.std.proofs.Common.{◌∙◌, ℕ, List, ◌++◌, ap, codes}
-use Rattle.std.specs.Fmt.{decimal}
+use Rattle.nb_gen.proofs.Common.{decimal}
 use Rattle.nb_gen.proofs.LineLaws.{with_number}
 use Rattle.nb_gen.proofs.script.put_head.Goals as goal
 

@@ -1,5 +1,5 @@
 use Rattle.std.proofs.Common.{◌≡◌, ◌++◌, ◌+◌, ◌-◌}
-use Rattle.nb_model.specs.Generated.{lines_from}
+use Rattle.nb_gen.proofs.Common.{lines_from}
 use Rattle.nb_gen.proofs.script.put_lines.Given as goal
 
 abbrev pub invariant-loop-before : goal.invariant-loop-before

@@ -1,4 +1,4 @@
-use Rattle.nb_gather.specs.Making.{IsUnfinishedOr}
+use Rattle.nb_gen.proofs.Common.{IsUnfinishedOr}
 use Rattle.nb_gather.proofs.QuietLaws.{sync_then, sync_kept}
 use Rattle.nb_gen.proofs.WrittenLaws.{script_made, script_left, script_reads}
 use Rattle.nb_gen.proofs.writing.write_script.Goals as goal

@@ -1,11 +1,5 @@
 use Rattle.std.proofs.Common.{sym, ap, ◌∙◌}
-use Rattle.nb_host.specs.Files.{Files}
-use Rattle.nb_model.specs.InPlace.{not_standby}
-use Rattle.nb_level.specs.Heads.{head_of}
-use Rattle.nb_level.specs.Reading.{Reading}
-use Rattle.nb_inplace.specs.declared.standby.Standby.{Standby}
-use Rattle.nb_fixup.proofs.AnswerLaws.{passed}
-use Rattle.nb_inplace.specs.Accepted.{AcceptSays}
+use Rattle.nb_inplace.proofs.Common.{Files, not_standby, head_of, Reading, Standby, AcceptSays, passed}
 use Rattle.nb_inplace.proofs.AcceptLaws.{standby_fails, standby_there, reader_fails, level_fails, reader_of, head_fails}
 use Rattle.nb_inplace.proofs.VerdictLaws.{standby_state}
 use Rattle.nb_inplace.proofs.accepting.accept.Goals as goal

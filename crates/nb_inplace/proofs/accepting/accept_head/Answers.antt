@@ -1,10 +1,5 @@
-use Rattle.std.proofs.Common.{List, ℕ, sym, ap, subst}
-use Rattle.std.specs.Prelude.{Bool, true, false}
-use Rattle.nb_model.specs.Causes.{Cause}
-use Rattle.nb_model.specs.Levels.{Contents}
-use Rattle.nb_fixup.specs.Tests.{Tested}
-use Rattle.nb_inplace.specs.declared.standby.Standby.{Standby}
-use Rattle.nb_inplace.specs.Tests.{not_the_same, not_behind}
+use Rattle.std.proofs.Common.{List, ℕ, sym, ap, subst, Bool, true, false}
+use Rattle.nb_inplace.proofs.Common.{Cause, Contents, Tested, Standby, not_the_same, not_behind}
 use Rattle.nb_inplace.proofs.accepting.accept_head.Goals as goal
 
 -- the tests by whether a merge was begun

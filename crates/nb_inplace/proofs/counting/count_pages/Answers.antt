@@ -1,7 +1,5 @@
 use Rattle.std.proofs.Common.{◌≡◌, ℕ, ◌-◌, ◌∷◌, drop, ap, sym, subst, ◌∙◌, arith, length-drop}
-use Rattle.nb_host.specs.Files.{Files}
-use Rattle.nb_model.specs.Sound.{IsOfSize}
-use Rattle.nb_page.proofs.QuietLaws.{quiet_joined}
+use Rattle.nb_inplace.proofs.Common.{Files, IsOfSize, quiet_joined}
 use Rattle.nb_inplace.proofs.CountingLaws.{blank_there, count_found, count_on, count_first}
 use Rattle.nb_inplace.proofs.counting.count_pages.Goals as goal
 

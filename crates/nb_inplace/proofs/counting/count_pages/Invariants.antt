@@ -1,10 +1,5 @@
-use Rattle.std.proofs.Common.{◌≡◌, ◌≤◌, ◌∷◌, length, drop}
-use Rattle.std.specs.Prelude.{IsTrue, Some}
-use Rattle.nb_page.specs.Quiet.{Quiet}
-use Rattle.nb_model.specs.Image.{Page, Image}
-use Rattle.nb_model.specs.Levels.{joined}
-use Rattle.nb_model.specs.Sound.{IsOfSize}
-use Rattle.nb_chain.specs.Overlay.{without_blank}
+use Rattle.std.proofs.Common.{◌≡◌, ◌≤◌, ◌∷◌, length, drop, IsTrue, Some}
+use Rattle.nb_inplace.proofs.Common.{Quiet, Page, Image, joined, IsOfSize, without_blank}
 use Rattle.nb_inplace.proofs.CountingLaws.{blank}
 use Rattle.nb_inplace.proofs.counting.count_pages.Given as goal
 

@@ -1,5 +1,5 @@
 use Rattle.std.proofs.Common.{length, refl, sym, ◌∙◌}
-use Rattle.std.proofs.lemmas.Bool.{true≢false}
+use Rattle.nb_inplace.proofs.Common.{true≢false}
 use Rattle.nb_inplace.proofs.CountingLaws.{read_there, blank_read}
 use Rattle.nb_inplace.proofs.counting.is_blank.Goals as goal
 

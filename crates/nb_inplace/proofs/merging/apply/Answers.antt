@@ -1,21 +1,7 @@
-use Rattle.std.proofs.Common.{◌≡◌, ℕ, List, length, take, length-take-le, sym, ap, subst, ◌∙◌, arith}
-use Rattle.std.specs.Prelude.{Ok, Err, IsTrue}
+use Rattle.std.proofs.Common.{◌≡◌, ℕ, List, length, take, length-take-le, sym, ap, subst, ◌∙◌, arith, Ok, Err, IsTrue}
+use Rattle.nb_inplace.proofs.Common.{with_items_is, is_page_size, size_facts, Leaves, IsDurable, Files, Memory, LevelHead, first_page, quiet_begun, quiet_joined, Applies, applying_page, ReadySays, stamp_cause, passed}
 use Rattle.std.specs.Global.{Vec}
 use Rattle.std.specs.Vec.{with_items}
-use Rattle.std.proofs.lemmas.List.{with_items_is}
-use Rattle.nb_fields.specs.Places.{is_page_size}
-use Rattle.nb_fields.proofs.SizeLaws.{size_facts}
-use Rattle.nb_host.specs.Crash.{Leaves, IsDurable}
-use Rattle.nb_host.specs.Files.{Files}
-use Rattle.nb_host.specs.declared.faults.Fault.TheVariants.{Memory}
-use Rattle.nb_level.specs.declared.head.LevelHead.{LevelHead}
-use Rattle.nb_model.specs.Image.{first_page}
-use Rattle.nb_page.proofs.QuietLaws.{quiet_begun, quiet_joined}
-use Rattle.nb_fixup.proofs.AnswerLaws.{passed}
-use Rattle.nb_inplace.specs.Apply.{Applies}
-use Rattle.nb_inplace.specs.Half.{applying_page}
-use Rattle.nb_inplace.specs.Ready.{ReadySays}
-use Rattle.nb_inplace.specs.Tests.{stamp_cause}
 use Rattle.nb_inplace.proofs.ApplyLaws.{pages, sizes, there, long, apply_memory, apply_refused, ready_fails, apply_done}
 use Rattle.nb_inplace.proofs.merging.apply.Goals as goal
 

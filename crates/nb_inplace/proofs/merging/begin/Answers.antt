@@ -1,14 +1,6 @@
-use Rattle.std.proofs.Common.{ℕ, ◌*◌, List, length, refl, sym, ap, subst}
-use Rattle.std.specs.Prelude.{Bool, OnOk}
-use Rattle.nb_host.specs.Files.{File}
-use Rattle.nb_host.specs.World.{World}
-use Rattle.nb_host.specs.Crash.{PageLeft}
-use Rattle.nb_change.specs.Changes.{Only}
-use Rattle.nb_change.proofs.MovedLaws.{remade_begun}
-use Rattle.nb_restore.specs.Target.{IsKept}
-use Rattle.nb_restore.proofs.FrontLaws.{named}
+use Rattle.std.proofs.Common.{ℕ, ◌*◌, List, length, refl, sym, ap, subst, Bool, OnOk}
+use Rattle.nb_inplace.proofs.Common.{File, World, PageLeft, Only, remade_begun, IsKept, begun_file, with_file-named}
 use Rattle.nb_restore.proofs.TargetLaws.{page_last, sync_more, sync_kept}
-use Rattle.nb_inplace.specs.Merging.{begun_file}
 use Rattle.nb_inplace.proofs.merging.begin.Goals as goal
 
 -- what a write of page 0 leaves
@@ -41,4 +33,4 @@ returns-clause-done g c tells durable =
     let w : World = g.H.Host.world c.args.host.now in
     let name = c.args.standby.now in
     subst (λ (f : File). OnOk c.sync.result (IsKept (g.H.Host.world c.sync.new.self) name f)) (sym (ap (λ (t : Bool). begun_file t (w.files name) c.args.first.now) c.if-is_begun.false))
-    (sync_kept _ _ _ _ _ _ tells (named _ _ name _ (c.in_ok-write_page.ensures.files.files tells)) c.sync.ensures.files)
+    (sync_kept _ _ _ _ _ _ tells (with_file-named _ _ name _ (c.in_ok-write_page.ensures.files.files tells)) c.sync.ensures.files)

@@ -1,16 +1,10 @@
-use Rattle.std.proofs.Common.{◌≡◌, ℕ, List, [], ◌∷◌, length, refl, ap, ◌∙◌}
-use Rattle.std.specs.Prelude.{replicate, IsTrue}
-use Rattle.nb_fields.specs.Bytes.{bytes_of, with_part}
-use Rattle.nb_model.specs.Image.{Page, Numbered}
-use Rattle.nb_model.specs.Strokes.{standby_page}
-use Rattle.nb_fixup.proofs.AnswerLaws.{passed}
-use Rattle.nb_inplace.specs.Merging.{IsDoneBy, KeepsMerged}
+use Rattle.std.proofs.Common.{◌≡◌, ℕ, List, [], ◌∷◌, length, refl, ap, ◌∙◌, replicate, IsTrue}
+use Rattle.nb_inplace.proofs.Common.{with_part, Page, Numbered, standby_page, IsDoneBy, KeepsMerged, IsDurable, IsPlan, passed}
+use Rattle.nb_fields.specs.Bytes.{bytes_of}
 use Rattle.nb_inplace.proofs.MergeLaws.{begun_on, records_on, level_there, counted_on, written, part_left, ended_on, ended_kept, IsWritten}
 use Rattle.nb_inplace.proofs.RecordLaws.{fails_so}
 use Rattle.nb_inplace.proofs.merging.merge.Goals as goal
 use Rattle.nb_inplace.proofs.merging.merge.Goals.{After-put-3}
-use Rattle.nb_host.specs.Crash.{IsDurable}
-use Rattle.nb_inplace.specs.Plan.{IsPlan}
 
 pub returns-in_err-begin-clause-left : goal.returns-in_err-begin-clause-left
 returns-in_err-begin-clause-left g c tells guid ps records plan durable =

@@ -1,8 +1,6 @@
 use Rattle.std.proofs.Common.{length, refl, arith}
-use Rattle.nb_fields.proofs.SizeLaws.{size_facts}
+use Rattle.nb_inplace.proofs.Common.{size_facts, overwrites_page, overwrites_first, put_on_ok}
 use Rattle.nb_change.proofs.ResultLaws.{on_ok_then}
-use Rattle.nb_restore.proofs.CopiedLaws.{overwrites_page, overwrites_first}
-use Rattle.nb_restore.proofs.FrontLaws.{put_on_ok}
 use Rattle.nb_inplace.proofs.RecordLaws.{half_none, half_record}
 use Rattle.nb_inplace.proofs.records.put_page.Goals as goal
 

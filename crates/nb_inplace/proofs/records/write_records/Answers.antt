@@ -1,14 +1,5 @@
-use Rattle.std.proofs.Common.{◌≡◌, ℕ, List, length, refl, ap, subst, ◌∙◌, arith}
-use Rattle.std.specs.Prelude.{Contains}
-use Rattle.nb_host.specs.Files.{Files}
-use Rattle.nb_host.specs.World.{World}
-use Rattle.nb_change.specs.Changes.{Changes, Only, Moved}
-use Rattle.nb_change.proofs.GaveLaws.{gave_begun, nothing_joined}
-use Rattle.nb_model.specs.Image.{Numbered}
-use Rattle.nb_level.specs.Reading.{Reading}
-use Rattle.nb_restore.specs.Copied.{Overwrites}
-use Rattle.nb_fixup.proofs.AnswerLaws.{passed}
-use Rattle.nb_inplace.specs.Merging.{IsDoneBy, KeepsHalf, pages_with}
+use Rattle.std.proofs.Common.{◌≡◌, ℕ, List, length, refl, ap, subst, ◌∙◌, arith, Contains}
+use Rattle.nb_inplace.proofs.Common.{Files, World, Changes, Only, Moved, gave_begun, nothing_joined, Numbered, Reading, Overwrites, IsDoneBy, KeepsHalf, pages_with, passed}
 use Rattle.nb_inplace.proofs.RecordLaws.{half_none, half_joined, half_still, none_written, is_record, one_written, all_written, reader_stops, number_low}
 use Rattle.nb_inplace.proofs.records.write_records.Goals as goal
 

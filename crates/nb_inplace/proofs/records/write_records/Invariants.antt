@@ -1,12 +1,5 @@
-use Rattle.std.proofs.Common.{◌≡◌, ◌≢◌, ◌-◌, ◌≤◌, List, length}
-use Rattle.std.specs.Prelude.{IsTrue, Ok}
-use Rattle.nb_fields.specs.Places.{most_pages}
-use Rattle.nb_host.specs.Files.{bytes_of}
-use Rattle.nb_change.specs.Changes.{Changes, Only, Moved}
-use Rattle.nb_change.specs.Gave.{GaveNothing}
-use Rattle.nb_model.specs.Image.{Numbered}
-use Rattle.nb_level.specs.Reading.{still_to_come}
-use Rattle.nb_inplace.specs.Merging.{KeepsHalf}
+use Rattle.std.proofs.Common.{◌≡◌, ◌≢◌, ◌-◌, ◌≤◌, List, length, IsTrue, Ok}
+use Rattle.nb_inplace.proofs.Common.{most_pages, bytes_of, Changes, Only, Moved, GaveNothing, Numbered, still_to_come, KeepsHalf}
 use Rattle.nb_inplace.proofs.RecordLaws.{SoFar}
 use Rattle.nb_inplace.proofs.records.write_records.Given as goal
 

@@ -1,6 +1,5 @@
 use Rattle.std.proofs.Common.{◌≡◌, ◌*◌, ◌+◌, ◌≤◌, length, take, drop, ap, ◌∙◌, arith, add-mul, mul-le-mul_right}
-use Rattle.nb_model.specs.Levels.{joined}
-use Rattle.nb_model.proofs.ImageLaws.{length-joined}
+use Rattle.nb_inplace.proofs.Common.{joined, length-joined}
 use Rattle.nb_restore.proofs.PieceLaws.{piece_short, piece_whole}
 use Rattle.nb_inplace.proofs.StampLaws.{read_part}
 use Rattle.nb_inplace.proofs.stamps.read_pages.Goals as goal

@@ -1,5 +1,5 @@
 use Rattle.std.proofs.Common.{arith}
-use Rattle.nb_fields.proofs.SizeLaws.{size_facts}
+use Rattle.nb_inplace.proofs.Common.{size_facts}
 use Rattle.nb_inplace.proofs.StampLaws.{page_late, page_early, pages_early}
 use Rattle.nb_inplace.proofs.stamps.stamp_above.Goals as goal
 

@@ -1,8 +1,5 @@
 use Rattle.std.proofs.Common.{◌≡◌, ℕ, List, drop}
-use Rattle.nb_model.specs.Image.{Page}
-use Rattle.nb_model.specs.InPlace.{written_since}
-use Rattle.nb_model.specs.Levels.{joined}
-use Rattle.nb_model.specs.Sound.{IsOfSize}
+use Rattle.nb_inplace.proofs.Common.{Page, written_since, joined, IsOfSize}
 use Rattle.nb_inplace.proofs.stamps.stamp_above.Given as goal
 
 -- none of the pages so far is stamped above

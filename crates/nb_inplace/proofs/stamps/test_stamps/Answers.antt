@@ -1,16 +1,5 @@
-use Rattle.std.proofs.Common.{◌≡◌, ℕ, ◌*◌, ◌≤◌, List, length, take, drop, ap, sym, ◌∙◌, arith}
-use Rattle.std.specs.Prelude.{Option, Some, None, option_map}
-use Rattle.std.proofs.lemmas.List.{length-take-le}
-use Rattle.nb_host.specs.Files.{Files}
-use Rattle.nb_host.specs.declared.refusals.Refusal.{Refusal}
-use Rattle.nb_host.specs.declared.refusals.Refusal.TheVariants.{ChainScn}
-use Rattle.nb_page.proofs.QuietLaws.{quiet_joined}
-use Rattle.nb_model.specs.Image.{Page}
-use Rattle.nb_model.specs.InPlace.{written_since}
-use Rattle.nb_model.specs.Sound.{IsOfSize}
-use Rattle.nb_model.proofs.ImageLaws.{all-take, all-drop}
-use Rattle.nb_fixup.specs.Tests.{Tested}
-use Rattle.nb_fixup.proofs.AnswerLaws.{passed}
+use Rattle.std.proofs.Common.{◌≡◌, ℕ, ◌*◌, ◌≤◌, List, length, take, drop, ap, sym, ◌∙◌, arith, Option, Some, None, option_map}
+use Rattle.nb_inplace.proofs.Common.{length-take-le, Files, Refusal, ChainScn, quiet_joined, Page, written_since, IsOfSize, all-take, all-drop, Tested, passed}
 use Rattle.nb_inplace.proofs.StampLaws.{room_for, piece_late, piece_early, none_left, done_tested}
 use Rattle.nb_inplace.proofs.stamps.test_stamps.Goals as goal
 

@@ -1,10 +1,5 @@
-use Rattle.std.proofs.Common.{◌≡◌, ◌-◌, List, length, drop}
-use Rattle.std.specs.Prelude.{IsTrue, Some}
-use Rattle.nb_model.specs.Image.{Page}
-use Rattle.nb_model.specs.InPlace.{written_since}
-use Rattle.nb_model.specs.Levels.{joined}
-use Rattle.nb_model.specs.Sound.{IsOfSize}
-use Rattle.nb_page.specs.Quiet.{Quiet}
+use Rattle.std.proofs.Common.{◌≡◌, ◌-◌, List, length, drop, IsTrue, Some}
+use Rattle.nb_inplace.proofs.Common.{Page, written_since, joined, IsOfSize, Quiet}
 use Rattle.nb_inplace.proofs.stamps.test_stamps.Given as goal
 
 -- none of the pages so far is stamped above

@@ -1,18 +1,8 @@
-use Rattle.std.proofs.Common.{◌≡◌, ℕ, sym, ap, subst, ◌∙◌, rules}
-use Rattle.std.specs.Prelude.{true, not, nat_eq, ◌==◌, Some, None}
+use Rattle.std.proofs.Common.{◌≡◌, ℕ, sym, ap, subst, ◌∙◌, rules, true, not, nat_eq, ◌==◌, Some, None}
+use Rattle.nb_inplace.proofs.Common.{is_header, WrongState, not_database, not_standby, OnApply, size_is, state_is, refused, tested_by, Tested, Standby, unheaded, passed}
 use denote.Enum.Bare.{same_true, same_false}
-use Rattle.nb_fields.specs.Header.{is_header}
-use Rattle.nb_host.specs.declared.refusals.Refusal.TheVariants.{WrongState}
-use Rattle.nb_model.specs.Causes.{not_database}
-use Rattle.nb_model.specs.InPlace.{not_standby}
-use Rattle.nb_cases.specs.Events.{OnApply}
 use Rattle.nb_cases.specs.contracts.events.Case.{the_type}
 use Rattle.nb_cases.specs.declared.events.Case.TheVariants as case
-use Rattle.nb_chain.proofs.StartLaws.{size_is, state_is}
-use Rattle.nb_fixup.proofs.AnswerLaws.{passed, refused, tested_by}
-use Rattle.nb_fixup.proofs.CauseLaws.{unheaded}
-use Rattle.nb_fixup.specs.Tests.{Tested}
-use Rattle.nb_inplace.specs.declared.standby.Standby.{Standby}
 use Rattle.nb_inplace.proofs.StandbyLaws.{unformed, first_header, too_short, header_is, access_is, case_is, begun_is}
 use Rattle.nb_inplace.proofs.standby.standby_in.Goals as goal
 

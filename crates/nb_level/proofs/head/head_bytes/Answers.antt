@@ -1,5 +1,6 @@
 use Rattle.std.proofs.Common.{ap, ◌∙◌, replicate, arith}
-use Rattle.nb_fields.specs.Bytes.{bytes_of, with_part}
+use Rattle.nb_level.proofs.Common.{with_part}
+use Rattle.nb_fields.specs.Bytes.{bytes_of}
 use Rattle.nb_level.proofs.HeadLaws.{head_written}
 use Rattle.nb_level.proofs.head.head_bytes.Goals as goal
 

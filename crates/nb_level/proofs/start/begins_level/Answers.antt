@@ -1,6 +1,5 @@
 use Rattle.std.proofs.Common.{ap, sym, ◌∙◌, take, nat_eq}
-use Rattle.std.specs.Cmp.Lexicographic.{pointwise}
-use Rattle.nb_model.specs.Levels.{begins_level}
+use Rattle.nb_level.proofs.Common.{pointwise, begins_level}
 use Rattle.nb_level.proofs.StartLaws.{begins-short}
 use Rattle.nb_level.proofs.start.begins_level.Goals as goal
 

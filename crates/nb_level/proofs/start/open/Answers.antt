@@ -1,5 +1,5 @@
 use Rattle.std.proofs.Common.{ℕ, List, take, arith, sym, ◌∙◌}
-use Rattle.nb_host.specs.Files.{bytes_of}
+use Rattle.nb_level.proofs.Common.{bytes_of}
 use Rattle.nb_level.proofs.StartLaws.{start-broken, start-begun, front_whole}
 use Rattle.nb_level.proofs.start.open.Goals as goal
 

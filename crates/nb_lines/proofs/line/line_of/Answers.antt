@@ -1,6 +1,6 @@
 use Rattle.std.proofs.Common.{◌∙◌, ap, List, ℕ, ◌++◌, ◌∷◌, [], append_assoc}
+use Rattle.nb_lines.proofs.Common.{line_text, spaced, reply_words}
 use Rattle.std.specs.Fmt.{decimal}
-use Rattle.nb_model.specs.Lines.{line_text, spaced, reply_words}
 use Rattle.nb_lines.proofs.line.line_of.Goals as goal
 
 pub returns : goal.returns

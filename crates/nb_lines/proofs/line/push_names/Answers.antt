@@ -1,6 +1,5 @@
 use Rattle.std.proofs.Common.{◌≡◌, ℕ, List, [], ◌∷◌, ◌++◌, sym, subst, arith}
-use Rattle.std.proofs.lemmas.List.{append-nil}
-use Rattle.nb_model.specs.Lines.{spaced, is}
+use Rattle.nb_lines.proofs.Common.{append-nil, spaced, is}
 use Rattle.nb_lines.proofs.WordLaws.{one_name_more}
 use Rattle.nb_lines.proofs.line.push_names.Goals as goal
 

@@ -1,5 +1,5 @@
 use Rattle.std.proofs.Common.{◌≡◌, ◌++◌, take}
-use Rattle.nb_model.specs.Lines.{spaced, name_words}
+use Rattle.nb_lines.proofs.Common.{spaced, name_words}
 use Rattle.nb_lines.proofs.line.push_names.Given as goal
 
 abbrev pub invariant-loop-name : goal.invariant-loop-name

@@ -1,6 +1,5 @@
 use Rattle.std.proofs.Common.{sym, arith}
-use Rattle.std.proofs.lemmas.List.{append-nil}
-use Rattle.nb_model.specs.Lines.{spaced}
+use Rattle.nb_lines.proofs.Common.{append-nil, spaced}
 use Rattle.nb_lines.proofs.WordLaws.{one_page_more}
 use Rattle.nb_lines.proofs.line.push_pages.Goals as goal
 

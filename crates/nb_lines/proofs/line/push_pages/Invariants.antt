@@ -1,5 +1,5 @@
 use Rattle.std.proofs.Common.{◌≡◌, ◌++◌, take}
-use Rattle.nb_model.specs.Lines.{spaced, page_words}
+use Rattle.nb_lines.proofs.Common.{spaced, page_words}
 use Rattle.nb_lines.proofs.line.push_pages.Given as goal
 
 abbrev pub invariant-loop-page : goal.invariant-loop-page

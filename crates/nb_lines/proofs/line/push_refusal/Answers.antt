@@ -1,4 +1,4 @@
-use Rattle.nb_model.specs.Lines.{refusal_words}
+use Rattle.nb_lines.proofs.Common.{refusal_words}
 use Rattle.nb_lines.proofs.WordLaws.{all_then}
 use Rattle.nb_lines.proofs.line.push_refusal.Goals as goal
 

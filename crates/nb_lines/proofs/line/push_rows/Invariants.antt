@@ -1,5 +1,5 @@
 use Rattle.std.proofs.Common.{◌≡◌, ◌++◌, take}
-use Rattle.nb_model.specs.Lines.{spaced, row_words}
+use Rattle.nb_lines.proofs.Common.{spaced, row_words}
 use Rattle.nb_lines.proofs.line.push_rows.Given as goal
 
 abbrev pub invariant-loop-i : goal.invariant-loop-i

@@ -1,8 +1,7 @@
 use Rattle.std.proofs.Common.{◌≡◌, ◌++◌, ℕ, List, subst}
+use Rattle.nb_lines.proofs.Common.{spaced, named}
 use Rattle.std.specs.Borrow.{Bor}
-use Rattle.nb_model.specs.Lines.{spaced}
 use Rattle.nb_lines.specs.declared.word.Word.{Word}
-use Rattle.nb_lines.specs.Words.{named}
 use Rattle.nb_lines.proofs.WordLaws.{one_field_more}
 use Rattle.nb_lines.proofs.word.push_ok.Goals as goal
 

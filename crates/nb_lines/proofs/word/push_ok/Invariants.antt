@@ -1,7 +1,5 @@
-use Rattle.std.proofs.Common.{◌≡◌, ◌++◌, ◌∷◌, take}
-use Rattle.std.specs.Prelude.{flat_map, codes}
-use Rattle.nb_model.specs.Lines.{spaced, is}
-use Rattle.nb_lines.specs.Words.{named}
+use Rattle.std.proofs.Common.{◌≡◌, ◌++◌, ◌∷◌, take, flat_map, codes}
+use Rattle.nb_lines.proofs.Common.{spaced, is, named}
 use Rattle.nb_lines.proofs.word.push_ok.Given as goal
 
 abbrev pub invariant-loop-name : goal.invariant-loop-name

@@ -1,6 +1,5 @@
 use Rattle.std.proofs.Common.{◌≡◌, ◌++◌, take, map}
-use Rattle.nb_model.specs.Lines.{spaced}
-use Rattle.nb_lines.specs.Words.{seen}
+use Rattle.nb_lines.proofs.Common.{spaced, seen}
 use Rattle.nb_lines.proofs.word.push_words.Given as goal
 
 abbrev pub invariant-loop-word : goal.invariant-loop-word

@@ -1,5 +1,6 @@
 use Rattle.std.proofs.Common.{◌∙◌, sym, vec_len, arith}
-use Rattle.nb_mem.proofs.PutLaws.{padded-short, padded-long}
+use Rattle.nb_mem.proofs.Common.{padded-short}
+use Rattle.nb_mem.proofs.PutLaws.{padded-long}
 use Rattle.nb_mem.proofs.bytes.extend_to.Goals as goal
 
 pub returns-in_ok-resize-clause-ok : goal.returns-in_ok-resize-clause-ok

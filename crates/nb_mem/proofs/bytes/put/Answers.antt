@@ -1,5 +1,5 @@
 use Rattle.std.proofs.Common.{◌≡◌, ℕ, ◌+◌, List, ◌++◌, length, take, drop, ◌∙◌, ap, arith, vec_len}
-use Rattle.nb_host.specs.Files.{padded}
+use Rattle.nb_mem.proofs.Common.{padded}
 use Rattle.nb_mem.proofs.PutLaws.{length-padded, put_at-padded, written}
 use Rattle.nb_mem.proofs.bytes.put.Goals as goal
 

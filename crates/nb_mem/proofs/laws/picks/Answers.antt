@@ -1,6 +1,5 @@
 use Rattle.std.proofs.Common.{ap}
-use Rattle.nb_mem.specs.declared.choices.Choices.{Choices}
-use Rattle.nb_mem.specs.declared.outcome.Outcome.{Outcome}
+use Rattle.nb_mem.proofs.Common.{Choices, Outcome}
 use Rattle.nb_mem.proofs.PickLaws.{picks_reach, keeps_all, loses_all}
 use Rattle.nb_mem.proofs.laws.picks.Goals as goal
 

@@ -1,7 +1,5 @@
-use Rattle.std.proofs.Common.{◌≡◌, take}
-use Rattle.std.specs.Prelude.{reverse}
-use Rattle.nb_mem.specs.Histories.{files_of}
-use Rattle.nb_mem.specs.Chosen.{outcome_by}
+use Rattle.std.proofs.Common.{◌≡◌, take, reverse}
+use Rattle.nb_mem.proofs.Common.{files_of, outcome_by}
 use Rattle.nb_mem.proofs.left.left_of.Given as goal
 
 abbrev pub invariant-loop-entry : goal.invariant-loop-entry

@@ -1,11 +1,5 @@
-use Rattle.std.specs.Prelude.{Some, None}
-use Rattle.std.specs.List.{position}
-use Rattle.nb_host.specs.Names.{same_name}
-use Rattle.nb_mem.specs.declared.slots.Slot.{Slot}
-use Rattle.std.proofs.Common.{◌≡◌, ◌∙◌, sym, ap, List, ℕ, ◌∷◌, ◌++◌, []}
-use Rattle.nb_host.specs.Files.{File, with_file}
-use Rattle.nb_mem.specs.Changes.{file_after}
-use Rattle.nb_mem.specs.Slots.{files_in, names_in}
+use Rattle.std.proofs.Common.{Some, None, ◌≡◌, ◌∙◌, sym, ap, List, ℕ, ◌∷◌, ◌++◌, []}
+use Rattle.nb_mem.proofs.Common.{position, same_name, Slot, File, with_file, file_after, files_in, names_in}
 use Rattle.nb_mem.proofs.SlotLaws.{found, changed, not_found, added}
 use Rattle.nb_mem.proofs.SlotNames.{names-changed, names-added}
 use Rattle.nb_mem.proofs.slots.change_slot.Goals as goal

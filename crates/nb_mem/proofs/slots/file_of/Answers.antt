@@ -1,5 +1,5 @@
 use Rattle.std.proofs.Common.{◌∙◌, sym, ap}
-use Rattle.nb_mem.specs.declared.slots.Slot.{Slot}
+use Rattle.nb_mem.proofs.Common.{Slot}
 use Rattle.nb_mem.proofs.SlotLaws.{found, not_found}
 use Rattle.nb_mem.proofs.slots.file_of.Goals as goal
 

@@ -1,8 +1,5 @@
 use Rattle.std.proofs.Common.{◌∙◌, ap, length, sym, subst, take}
-use Rattle.nb_model.specs.Owner.{delta_name}
-use Rattle.nb_model.specs.Steps.{steps_of, strokes_in}
-use Rattle.nb_model.specs.Strokes.{base_after}
-use Rattle.nb_model.specs.Trail.{Trail, StandsIn}
+use Rattle.nb_model.proofs.Common.{delta_name, steps_of, strokes_in, base_after, Trail, StandsIn}
 use Rattle.nb_model.proofs.ForcedLaws.{acked_made, forced_front, strokes_fronted}
 use Rattle.nb_model.proofs.GuidLaws.{strokes_in_steps}
 use Rattle.nb_model.proofs.TrailLaws.{settled_shows, shows_settled}

@@ -1,4 +1,4 @@
-use Rattle.nb_model.specs.Forms.{drafted}
+use Rattle.nb_model.proofs.Common.{drafted}
 use Rattle.nb_model.proofs.DraftLaws.{IsOf, drafted_is, drafts_are, put_keeps, set_bit_keeps, new_keeps}
 use Rattle.nb_model.proofs.laws.forms_are_their_strokes.Goals as goal
 

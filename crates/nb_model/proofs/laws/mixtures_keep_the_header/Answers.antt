@@ -1,4 +1,4 @@
-use Rattle.nb_model.specs.Trail.{bases_of}
+use Rattle.nb_model.proofs.Common.{bases_of}
 use Rattle.nb_model.proofs.MixtureLaws.{mixed_size, mixed_state, mixed_scn, mixed_guid, mixed_forced, mixed_read_only}
 use Rattle.nb_model.proofs.laws.mixtures_keep_the_header.Goals as goal
 

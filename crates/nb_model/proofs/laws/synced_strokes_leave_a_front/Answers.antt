@@ -1,4 +1,4 @@
-use Rattle.nb_model.specs.Owner.{delta_name}
+use Rattle.nb_model.proofs.Common.{delta_name}
 use Rattle.nb_model.proofs.TrailLaws.{synced_front, synced_shows, forced_synced, forced_settles, first_settles}
 use Rattle.nb_model.proofs.laws.synced_strokes_leave_a_front.Goals as goal
 

@@ -1,7 +1,5 @@
 use Rattle.std.proofs.Common.{nat_eq, subst}
-use Rattle.std.specs.List.{IsDistinct}
-use Rattle.std.specs.Map.{keys_of}
-use Rattle.nb_owner.specs.Open.{Held}
+use Rattle.nb_owner.proofs.Common.{IsDistinct, keys_of, Held}
 use Rattle.nb_owner.proofs.SeenLaws.{seen_over}
 use Rattle.nb_owner.proofs.laws.what_waits_is_seen.Goals as goal
 

@@ -1,7 +1,5 @@
 use Rattle.std.proofs.Common.{◌∙◌, ℕ, ◌+◌, ◌-◌, sym, ap, arith}
-use Rattle.nb_fields.specs.Fresh.{length_after}
-use Rattle.nb_fields.proofs.LengthLaws.{length_after-none, length_after-more, fresh_count-is}
-use Rattle.nb_fields.specs.Places.{is_system_place, plain_places}
+use Rattle.nb_page.proofs.Common.{length_after, length_after-none, length_after-more, fresh_count-is, is_system_place, plain_places}
 use Rattle.nb_fields.proofs.PlainLaws.{fresh_count-plain, fresh_count-last}
 use Rattle.nb_page.proofs.count.fresh_count.Goals as goal
 

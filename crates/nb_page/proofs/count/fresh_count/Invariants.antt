@@ -1,5 +1,5 @@
 use Rattle.std.proofs.Common.{◌≡◌, ◌+◌, ◌-◌, ◌*◌, ◌≤◌}
-use Rattle.nb_fields.specs.Fresh.{length_after, fresh_count}
+use Rattle.nb_page.proofs.Common.{length_after, fresh_count}
 use Rattle.nb_page.proofs.count.fresh_count.Given as goal
 
 abbrev pub invariant-loop : goal.invariant-loop

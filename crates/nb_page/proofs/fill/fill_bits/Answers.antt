@@ -1,9 +1,6 @@
-use Rattle.std.proofs.Common.{◌≡◌, ◌∙◌, ℕ, ◌+◌, ◌-◌, ◌*◌, ◌/◌, ◌%◌, ◌^◌, List, length, replicate, ap, arith}
-use Rattle.std.specs.Prelude.{slice_set}
-use Rattle.std.proofs.lemmas.List.{length-replicate, length-set}
+use Rattle.std.proofs.Common.{◌≡◌, ◌∙◌, ℕ, ◌+◌, ◌-◌, ◌*◌, ◌/◌, ◌%◌, ◌^◌, List, length, replicate, ap, arith, slice_set}
+use Rattle.nb_page.proofs.Common.{length-replicate, length-set, put_mid, length-part}
 use Rattle.std.proofs.lemmas.Nat.{pow_below}
-use borrow.Rule.Slice.PartMut.{put_mid}
-use Rattle.nb_fields.proofs.PartLaws.{length-part}
 use Rattle.nb_page.proofs.FillLaws.{bits_filled, bits_all}
 use Rattle.nb_page.proofs.fill.fill_bits.Goals as goal
 

@@ -1,8 +1,5 @@
-use Rattle.std.proofs.Common.{◌∙◌, ℕ, length, refl, ap, arith}
-use Rattle.std.specs.Prelude.{◌==◌, if◌then◌else◌}
-use Rattle.nb_fields.specs.Bytes.{bytes_of, with_part}
-use Rattle.nb_fields.specs.Payloads.{data_payload}
-use Rattle.nb_fields.proofs.SizeLaws.{size_facts}
+use Rattle.std.proofs.Common.{◌∙◌, ℕ, length, refl, ap, arith, ◌==◌, if◌then◌else◌}
+use Rattle.nb_page.proofs.Common.{bytes_of, with_part, data_payload, size_facts}
 use Rattle.nb_page.proofs.FillLaws.{owner_filled, number-of_test}
 use Rattle.nb_page.proofs.fill.fill_data.Goals as goal
 

@@ -1,8 +1,5 @@
 use Rattle.std.proofs.Common.{◌≡◌, ◌∙◌, ℕ, suc, ◌+◌, ◌*◌, List, ◌++◌, take, sym, ap, arith}
-use Rattle.nb_fields.specs.Bytes.{bytes_of, with_part}
-use Rattle.nb_fields.specs.Payloads.{same_entries}
-use Rattle.nb_fields.proofs.NumberLaws.{length-bytes_of}
-use Rattle.nb_fields.proofs.PartLaws.{take-with_part}
+use Rattle.nb_page.proofs.Common.{bytes_of, with_part, same_entries, length-bytes_of, take-with_part}
 use Rattle.nb_page.proofs.FillLaws.{same_entries-none, same_entries-push}
 use Rattle.nb_page.proofs.fill.fill_entries.Goals as goal
 

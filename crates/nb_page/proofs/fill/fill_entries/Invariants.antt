@@ -1,5 +1,5 @@
 use Rattle.std.proofs.Common.{◌≡◌, ◌*◌, take}
-use Rattle.nb_fields.specs.Payloads.{same_entries}
+use Rattle.nb_page.proofs.Common.{same_entries}
 use Rattle.nb_page.proofs.fill.fill_entries.Given as goal
 
 abbrev pub invariant-loop-index : goal.invariant-loop-index

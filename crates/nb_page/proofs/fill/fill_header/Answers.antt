@@ -1,7 +1,5 @@
 use Rattle.std.proofs.Common.{◌∙◌, ℕ, List, length, replicate, refl, ap, arith}
-use Rattle.nb_fields.specs.Bytes.{bytes_of, with_part}
-use Rattle.nb_fields.specs.Payloads.{control_block, header_payload}
-use Rattle.nb_fields.proofs.SizeLaws.{size_facts}
+use Rattle.nb_page.proofs.Common.{bytes_of, with_part, control_block, header_payload, size_facts}
 use Rattle.nb_page.proofs.HeaderLaws.{length-control_block}
 use Rattle.nb_page.proofs.FillLaws.{header_filled}
 use Rattle.nb_page.proofs.fill.fill_header.Goals as goal

@@ -1,11 +1,5 @@
 use Rattle.std.proofs.Common.{◌≡◌, ◌∙◌, ℕ, ◌-◌, ◌/◌, List, length, sym, ap, arith}
-use borrow.Rule.Slice.PartMut.{put_mid}
-use Rattle.nb_fields.specs.Bytes.{bytes_of, with_part}
-use Rattle.nb_fields.specs.Places.{entries_in}
-use Rattle.nb_fields.specs.Payloads.{same_entries, scn_payload}
-use Rattle.nb_fields.proofs.NumberLaws.{length-bytes_of}
-use Rattle.nb_fields.proofs.PartLaws.{length-part}
-use Rattle.nb_fields.proofs.SizeLaws.{size_facts}
+use Rattle.nb_page.proofs.Common.{put_mid, bytes_of, with_part, entries_in, same_entries, scn_payload, length-bytes_of, length-part, size_facts}
 use Rattle.nb_page.proofs.FillLaws.{numbered_filled}
 use Rattle.nb_page.proofs.fill.fill_scn_inventory.Goals as goal
 

@@ -1,6 +1,5 @@
 use Rattle.std.proofs.Common.{ℕ, List, ◌∙◌, sym, ap}
-use Rattle.nb_host.specs.Files.{Files}
-use Rattle.nb_page.specs.Free.{has_delta}
+use Rattle.nb_page.proofs.Common.{Files, has_delta}
 use Rattle.nb_page.proofs.FreeLaws.{is_free_file-start, is_free_name-true, is_free_name-false}
 use Rattle.nb_page.proofs.free.is_free.Goals as goal
 

@@ -1,8 +1,5 @@
-use Rattle.std.proofs.Common.{◌∙◌, sym, ap}
-use Rattle.std.specs.Prelude.{◌||◌}
-use Rattle.std.proofs.lemmas.List.{take_all}
-use Rattle.nb_fields.specs.Bytes.{is_zeros}
-use Rattle.nb_fields.specs.Free.{is_free_file, is_unfinished}
+use Rattle.std.proofs.Common.{◌∙◌, sym, ap, ◌||◌}
+use Rattle.nb_page.proofs.Common.{take_all, is_zeros, is_free_file, is_unfinished}
 use Rattle.nb_page.proofs.free.is_free_start.Goals as goal
 
 pub returns-then-are_zeros : goal.returns-then-are_zeros

@@ -1,10 +1,5 @@
-use Rattle.std.proofs.Common.{◌∙◌, sym, ap}
-use Rattle.std.specs.Prelude.{◌&&◌, ◌==◌}
-use Rattle.std.proofs.lemmas.Bool.{eq-eqb, ne_eqb}
-use Rattle.nb_fields.specs.Bytes.{is_zeros}
-use Rattle.nb_fields.specs.Header.{state_of, pending_of}
-use Rattle.nb_fields.proofs.HeaderLaws.{is_header-short}
-use Rattle.nb_fields.specs.States.{applying_state}
+use Rattle.std.proofs.Common.{◌∙◌, sym, ap, ◌&&◌, ◌==◌}
+use Rattle.nb_page.proofs.Common.{eq-eqb, ne_eqb, is_zeros, state_of, pending_of, is_header-short, applying_state}
 use Rattle.nb_page.proofs.HeaderLaws.{is_unfinished-fields}
 use Rattle.nb_page.proofs.free.is_unfinished.Goals as goal
 

@@ -1,10 +1,6 @@
 use Rattle.std.proofs.Common.{◌≡◌, ◌∙◌, ℕ, ◌-◌, List, [], length, drop, replicate, sym, subst, ap, arith}
+use Rattle.nb_page.proofs.Common.{page_of, with_payload, fresh_kind, fresh_payload, fresh_page, ShowsFresh, size_facts, drop-page_of-none, with_payload-page_of, fresh_count-most}
 use Rattle.nb_fields.specs.Kinds.{code_of}
-use Rattle.nb_fields.specs.Page.{page_of, with_payload}
-use Rattle.nb_fields.specs.Fresh.{fresh_kind, fresh_payload, fresh_page, ShowsFresh}
-use Rattle.nb_fields.proofs.SizeLaws.{size_facts}
-use Rattle.nb_fields.proofs.PageLaws.{drop-page_of-none, with_payload-page_of}
-use Rattle.nb_fields.proofs.LengthLaws.{fresh_count-most}
 use Rattle.nb_fields.proofs.FreshLaws.{fresh_shows}
 use Rattle.nb_page.proofs.FillLaws.{page_begun}
 use Rattle.nb_page.proofs.fresh_page.fresh.Goals as goal

@@ -1,5 +1,5 @@
 use Rattle.std.proofs.Common.{◌∙◌, sym}
-use Rattle.std.proofs.lemmas.Bool.{and_from, and_left, and_right}
+use Rattle.nb_page.proofs.Common.{and_from, and_left, and_right}
 use Rattle.nb_page.proofs.HeaderLaws.{is_header-fields}
 use Rattle.nb_page.proofs.header.read_header.Goals as goal
 use Rattle.nb_page.proofs.header.read_header.Goals.{else-is_marked-via-then-is_marked+else-is_sound, else-is_marked-via-else-is_marked}

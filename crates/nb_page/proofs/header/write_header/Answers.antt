@@ -1,10 +1,6 @@
 use Rattle.std.proofs.Common.{◌≡◌, ◌∙◌, ℕ, List, length, sym, ap, arith}
-use Rattle.nb_fields.specs.Bytes.{bytes_of, with_part}
-use Rattle.nb_fields.specs.Header.{is_header}
-use Rattle.nb_fields.proofs.SizeLaws.{size_facts}
+use Rattle.nb_page.proofs.Common.{bytes_of, with_part, is_header, size_facts, Header, header_in}
 use Rattle.nb_page.proofs.HeaderLaws.{control_block_written, header_in-control_block, is_header-control_block}
-use Rattle.nb_page.specs.declared.header.Header.{Header}
-use Rattle.nb_page.specs.Header.{header_in}
 use Rattle.nb_page.proofs.header.write_header.Goals as goal
 
 pub returns-clause-written : goal.returns-clause-written

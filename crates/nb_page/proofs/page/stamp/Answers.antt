@@ -1,8 +1,5 @@
 use Rattle.std.proofs.Common.{◌≡◌, ◌∙◌, ℕ, ◌+◌, ◌%◌, ◌^◌, ◌≤◌, List, length, drop, refl, ap, sym, arith, ◌-◌, length-drop}
-use Rattle.nb_fields.specs.Bytes.{bytes_of, with_part}
-use Rattle.nb_fields.specs.Page.{generation_of, stamped}
-use Rattle.nb_fields.proofs.SizeLaws.{size_facts}
-use Rattle.nb_fields.proofs.PageLaws.{head_written, stamped-rest, padded_whole, drop-page_of, kind_of-page_of, generation_of-page_of, stamp_of-page_of, number_of_page-page_of}
+use Rattle.nb_page.proofs.Common.{bytes_of, with_part, generation_of, stamped, size_facts, head_written, stamped-rest, padded_whole, drop-page_of, kind_of-page_of, generation_of-page_of, stamp_of-page_of, number_of_page-page_of}
 use Rattle.nb_page.specs.Head.{head_in}
 use Rattle.nb_page.proofs.page.stamp.Goals as goal
 

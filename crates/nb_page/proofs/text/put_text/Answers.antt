@@ -1,11 +1,5 @@
 use Rattle.std.proofs.Common.{◌≡◌, ◌∙◌, ℕ, ◌+◌, ◌-◌, ◌≤◌, List, ◌++◌, length, replicate, refl, ap, arith}
-use borrow.Rule.Slice.PartMut.{put_mid}
-use Rattle.nb_fields.specs.Bytes.{bytes_of, with_part}
-use Rattle.nb_fields.specs.Page.{with_payload}
-use Rattle.nb_fields.specs.Payloads.{text_payload, text_of}
-use Rattle.nb_fields.proofs.SizeLaws.{size_facts}
-use Rattle.nb_fields.proofs.PartLaws.{put_mid-with_part, length-part, length-with_part}
-use Rattle.nb_fields.proofs.PageLaws.{written_next, filled, text_of-with_payload}
+use Rattle.nb_page.proofs.Common.{put_mid, bytes_of, with_part, with_payload, text_payload, text_of, size_facts, put_mid-with_part, length-part, length-with_part, written_next, filled, text_of-with_payload}
 use Rattle.nb_page.proofs.text.put_text.Goals as goal
 
 pub returns-clause-written : goal.returns-clause-written

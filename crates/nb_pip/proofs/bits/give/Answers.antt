@@ -1,8 +1,5 @@
-use Rattle.std.proofs.Common.{ℕ, ◌+◌, ◌*◌, ◌/◌, ◌%◌, ◌^◌, ◌<◌, ap, arith, rules, bit_or}
-use Rattle.std.specs.Prelude.{slice_index}
-use Rattle.std.proofs.Math.ListN.{set}
-use Rattle.std.proofs.lemmas.Nat.{or_lt}
-use Rattle.nb_pip.specs.Bits.{byte_of}
+use Rattle.std.proofs.Common.{ℕ, ◌+◌, ◌*◌, ◌/◌, ◌%◌, ◌^◌, ◌<◌, ap, arith, rules, bit_or, slice_index}
+use Rattle.nb_pip.proofs.Common.{set, or_lt, byte_of}
 use Rattle.nb_pip.proofs.BitLaws.{SetsBit-or, bits-set, set_byte}
 use Rattle.nb_pip.proofs.bits.give.Goals as goal
 

@@ -1,4 +1,4 @@
-use Rattle.std.proofs.lemmas.Bool.{eqb-true, eq-eqb}
+use Rattle.nb_pip.proofs.Common.{eqb-true, eq-eqb}
 use Rattle.nb_pip.proofs.BitLaws.{shr_and_one-bits}
 use Rattle.nb_pip.proofs.bits.is_used.Goals as goal
 

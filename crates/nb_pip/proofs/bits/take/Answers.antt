@@ -1,5 +1,5 @@
 use Rattle.std.proofs.Common.{ℕ, ◌+◌, ◌%◌, ◌/◌, ap, arith, rules}
-use Rattle.std.proofs.Math.ListN.{set}
+use Rattle.nb_pip.proofs.Common.{set}
 use Rattle.nb_pip.proofs.BitLaws.{SetsBit-clear, bits-set, set_byte}
 use Rattle.nb_pip.proofs.bits.take.Goals as goal
 

@@ -1,9 +1,7 @@
 use Rattle.std.proofs.Common.{◌≡◌, ◌-◌, ◌∙◌, List, ℕ, length, take, drop, replicate, ap, sym, arith}
-use Rattle.std.proofs.lemmas.List.{length-replicate}
+use Rattle.nb_pip.proofs.Common.{length-replicate, bytes_of, with_part, size_facts}
 use borrow.Rule.Slice.PartMut.{put_mid}
-use Rattle.nb_fields.specs.Bytes.{bytes_of, with_part}
 use Rattle.nb_fields.proofs.PartLaws.{length-part, length-with_part, put_mid-with_part}
-use Rattle.nb_fields.proofs.SizeLaws.{size_facts}
 use Rattle.nb_pip.proofs.FillLaws.{filled}
 use Rattle.nb_pip.proofs.fresh.fill.Goals as goal
 

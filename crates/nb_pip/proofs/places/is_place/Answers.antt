@@ -1,6 +1,5 @@
 use Rattle.std.proofs.Common.{◌<◌, arith}
-use Rattle.nb_fields.specs.Places.{bits_in}
-use Rattle.nb_fields.proofs.SizeLaws.{size_facts}
+use Rattle.nb_pip.proofs.Common.{bits_in, size_facts}
 use Rattle.nb_pip.proofs.PlaceLaws.{place_found, found_place}
 use Rattle.nb_pip.proofs.places.is_place.Goals as goal
 

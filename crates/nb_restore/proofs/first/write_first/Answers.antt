@@ -1,8 +1,6 @@
 use Rattle.std.proofs.Common.{ℕ, ◌*◌, inl, inr, ⊎_elim, List, length, ap, ◌∙◌}
-use Rattle.nb_host.specs.Files.{File, Files, with_page}
-use Rattle.nb_host.specs.World.{World}
-use Rattle.nb_host.specs.Crash.{PageLeft}
-use Rattle.nb_restore.proofs.FrontLaws.{named, page_read}
+use Rattle.nb_restore.proofs.Common.{File, Files, with_page, World, PageLeft, with_file-named}
+use Rattle.nb_restore.proofs.FrontLaws.{page_read}
 use Rattle.nb_restore.proofs.TargetLaws.{sync_first, page_last, sync_more, sync_kept}
 use Rattle.nb_restore.proofs.first.write_first.Goals as goal
 
@@ -39,10 +37,10 @@ pub returns-clause-now : goal.returns-clause-now
 returns-clause-now g c tells =
     let synced = ap (λ (f : Files). f c.args.name.now) c.in_ok-sync.ensures.files.still.files in
     let last = ap (λ (f : Files). f c.args.name.now) c.sync-2.ensures.files.still.files in
-    inr (last ∙ named _ _ c.args.name.now _ (c.in_ok-write_page.ensures.files.files tells) ∙ ap (λ (f : File). with_page f (0 * length c.args.page.now) c.args.page.now) synced)
+    inr (last ∙ with_file-named _ _ c.args.name.now _ (c.in_ok-write_page.ensures.files.files tells) ∙ ap (λ (f : File). with_page f (0 * length c.args.page.now) c.args.page.now) synced)
 
 pub returns-clause-done : goal.returns-clause-done
 returns-clause-done g c tells =
     let sync = c.in_ok-sync.ensures in
     let write = c.in_ok-write_page.ensures in
-    sync_kept _ _ _ _ _ _ tells (named _ _ c.args.name.now _ (write.files.files tells) ∙ ap (λ (f : Files). with_page (f c.args.name.now) (0 * length c.args.page.now) c.args.page.now) sync.files.still.files) c.sync-2.ensures.files
+    sync_kept _ _ _ _ _ _ tells (with_file-named _ _ c.args.name.now _ (write.files.files tells) ∙ ap (λ (f : Files). with_page (f c.args.name.now) (0 * length c.args.page.now) c.args.page.now) sync.files.still.files) c.sync-2.ensures.files

@@ -1,6 +1,5 @@
-use Rattle.std.proofs.Common.{List, ℕ, ◌+◌, length, ap, ◌∙◌}
-use Rattle.std.specs.Prelude.{Err}
-use Rattle.nb_host.specs.declared.refusals.Refusal.TheVariants.{ChainGuid}
+use Rattle.std.proofs.Common.{List, ℕ, ◌+◌, length, ap, ◌∙◌, Err}
+use Rattle.nb_restore.proofs.Common.{ChainGuid}
 use Rattle.nb_restore.proofs.KeptChains.{behind_refused, verdict_first, copy_behind, level_behind, wrong_level, wrong_guid}
 use Rattle.nb_restore.proofs.laws.a_file_out_of_place_is_refused.Goals as goal
 

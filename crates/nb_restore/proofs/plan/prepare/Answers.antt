@@ -1,13 +1,6 @@
-use Rattle.std.proofs.Common.{◌≡◌, length, refl, sym, ap, subst, ◌∙◌, arith}
-use Rattle.std.specs.Prelude.{Err}
+use Rattle.std.proofs.Common.{◌≡◌, length, refl, sym, ap, subst, ◌∙◌, arith, Err}
+use Rattle.nb_restore.proofs.Common.{with_items_is, split, first_page, IsDone, PlanSays, IsUnfinishedPage, passed}
 use Rattle.std.specs.Vec.{with_items}
-use Rattle.std.proofs.lemmas.List.{with_items_is}
-use Rattle.nb_chain.proofs.AnswerLaws.{passed}
-use Rattle.nb_chain.proofs.LinkLaws.{split}
-use Rattle.nb_model.specs.Image.{first_page}
-use Rattle.nb_restore.specs.Copied.{IsDone}
-use Rattle.nb_restore.specs.Plan.{PlanSays}
-use Rattle.nb_restore.specs.Target.{IsUnfinishedPage}
 use Rattle.nb_restore.proofs.PreparedLaws.{taken_fails, done_fails, behind_now, page_0_of, prepared}
 use Rattle.nb_restore.proofs.plan.prepare.Goals as goal
 

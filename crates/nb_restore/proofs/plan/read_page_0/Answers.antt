@@ -1,5 +1,5 @@
 use Rattle.std.proofs.Common.{ap, refl, ◌∙◌}
-use Rattle.nb_fields.specs.Header.{is_header}
+use Rattle.nb_restore.proofs.Common.{is_header}
 use Rattle.nb_restore.proofs.PlanLaws.{page_0_read, unfinished_page}
 use Rattle.nb_restore.proofs.plan.read_page_0.Goals as goal
 

@@ -1,9 +1,6 @@
 use Rattle.std.proofs.Common.{List, refl, sym, subst, ◌∙◌, arith}
-use Rattle.std.proofs.lemmas.List.{drop_all}
-use Rattle.nb_level.specs.Reading.{Reading}
+use Rattle.nb_restore.proofs.Common.{drop_all, Reading, AreReady, AreOfPages, IsReady, IsTaken, passed}
 use Rattle.nb_page.proofs.QuietLaws.{quiet_begun, quiet_joined}
-use Rattle.nb_chain.proofs.AnswerLaws.{passed}
-use Rattle.nb_restore.specs.Sources.{AreReady, AreOfPages, IsReady, IsTaken}
 use Rattle.nb_restore.proofs.SourceLaws.{started_none, started_more, started_fails, started_all, names_from, of_pages_more}
 use Rattle.nb_restore.proofs.readers.start_readers.Goals as goal
 

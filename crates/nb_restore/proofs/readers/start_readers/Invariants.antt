@@ -1,8 +1,5 @@
-use Rattle.std.proofs.Common.{◌≡◌, List, ℕ, drop}
-use Rattle.std.specs.Prelude.{IsTrue}
-use Rattle.nb_model.specs.Restoring.{Link}
-use Rattle.nb_page.specs.Quiet.{Quiet}
-use Rattle.nb_restore.specs.Sources.{AreOfPages, AreSources}
+use Rattle.std.proofs.Common.{◌≡◌, List, ℕ, drop, IsTrue}
+use Rattle.nb_restore.proofs.Common.{Link, Quiet, AreOfPages, AreSources}
 use Rattle.nb_restore.proofs.SourceLaws.{Started}
 use Rattle.nb_restore.proofs.readers.start_readers.Given as goal
 

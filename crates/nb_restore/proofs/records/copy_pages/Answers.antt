@@ -1,12 +1,5 @@
-use Rattle.std.proofs.Common.{◌≡◌, ◌*◌, ◌++◌, length, take, drop, refl, ap, sym, ◌∙◌, arith}
-use Rattle.std.specs.Prelude.{Some}
-use Rattle.std.proofs.lemmas.List.{length-take-le}
-use Rattle.nb_host.specs.Files.{with_bytes}
-use Rattle.nb_change.proofs.GaveLaws.{gave_begun, nothing_joined}
-use Rattle.nb_model.specs.Levels.{joined}
-use Rattle.nb_model.proofs.ImageLaws.{length-joined}
-use Rattle.nb_chain.proofs.AnswerLaws.{passed}
-use Rattle.nb_restore.specs.Copied.{IsDone}
+use Rattle.std.proofs.Common.{◌≡◌, ◌*◌, ◌++◌, length, take, drop, refl, ap, sym, ◌∙◌, arith, Some}
+use Rattle.nb_restore.proofs.Common.{length-take-le, with_bytes, gave_begun, nothing_joined, joined, length-joined, IsDone, passed}
 use Rattle.nb_restore.proofs.FrontLaws.{front_begun, front_joined}
 use Rattle.nb_restore.proofs.LevelLaws.{fails_alike}
 use Rattle.nb_restore.proofs.PieceLaws.{copied_none, copied_next, copied_all}

@@ -1,11 +1,5 @@
-use Rattle.std.proofs.Common.{◌≡◌, ◌≢◌, ◌-◌, ◌≤◌, List, length}
-use Rattle.std.specs.Prelude.{IsTrue, Some}
-use Rattle.nb_change.specs.Changes.{Changes, Only, Moved}
-use Rattle.nb_change.specs.Gave.{GaveNothing}
-use Rattle.nb_model.specs.Image.{Page}
-use Rattle.nb_model.specs.Levels.{joined}
-use Rattle.nb_model.specs.Sound.{IsOfSize}
-use Rattle.nb_restore.specs.Copied.{KeepsFront}
+use Rattle.std.proofs.Common.{◌≡◌, ◌≢◌, ◌-◌, ◌≤◌, List, length, IsTrue, Some}
+use Rattle.nb_restore.proofs.Common.{Changes, Only, Moved, GaveNothing, Page, joined, IsOfSize, KeepsFront}
 use Rattle.nb_restore.proofs.PieceLaws.{IsCopiedTo}
 use Rattle.nb_restore.proofs.records.copy_pages.Given as goal
 

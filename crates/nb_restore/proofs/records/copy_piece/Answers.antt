@@ -1,6 +1,6 @@
 use Rattle.std.proofs.Common.{ℕ, List, arith, ap, ◌∙◌}
-use Rattle.nb_host.specs.Files.{Files, with_bytes}
-use Rattle.nb_restore.proofs.FrontLaws.{named, front_still, front_then_bytes}
+use Rattle.nb_restore.proofs.Common.{Files, with_bytes, with_file-named}
+use Rattle.nb_restore.proofs.FrontLaws.{front_still, front_then_bytes}
 use Rattle.nb_restore.proofs.PieceLaws.{piece_short, piece_whole}
 use Rattle.nb_restore.proofs.records.copy_piece.Goals as goal
 
@@ -29,6 +29,6 @@ returns-clause-left g c tells =
 pub returns-clause-bytes : goal.returns-clause-bytes
 returns-clause-bytes g c tells bytes there fits =
     let whole = piece_whole c.args.at bytes c.args.piece.now c.read_at.new.into _ c.in_ok-got.got there fits (c.in_ok-got.ensures.answer tells) (omega (arith, c.if-got-piece.false, c.read_at.auto.into)) c.read_at.auto.into in
-    named _ _ c.args.target.now _ (c.in_ok-append.ensures.files.files tells)
+    with_file-named _ _ c.args.target.now _ (c.in_ok-append.ensures.files.files tells)
     ∙ ap (λ (f : Files). with_bytes (f c.args.target.now) c.read_at.new.into) c.read_at.ensures.files.files
     ∙ ap (λ (xs : List ℕ). with_bytes ((g.H.Host.world c.args.host.now).files c.args.target.now) xs) whole

@@ -1,6 +1,5 @@
 use Rattle.std.proofs.Common.{refl, arith}
-use Rattle.nb_fields.proofs.SizeLaws.{size_facts}
-use Rattle.nb_change.proofs.ResultLaws.{on_ok_then}
+use Rattle.nb_restore.proofs.Common.{size_facts, on_ok_then}
 use Rattle.nb_restore.proofs.CopiedLaws.{overwrites_page, overwrites_first}
 use Rattle.nb_restore.proofs.FrontLaws.{front_begun, front_page, put_on_ok}
 use Rattle.nb_restore.proofs.records.put_page.Goals as goal

@@ -1,9 +1,5 @@
 use Rattle.std.proofs.Common.{length, refl, ap, ◌∙◌}
-use Rattle.nb_host.specs.Files.{Files}
-use Rattle.nb_change.proofs.GaveLaws.{gave_begun, nothing_joined}
-use Rattle.nb_level.specs.Reading.{Reading}
-use Rattle.nb_chain.proofs.AnswerLaws.{passed}
-use Rattle.nb_restore.specs.Copied.{IsDone, Overwrites}
+use Rattle.nb_restore.proofs.Common.{Files, gave_begun, nothing_joined, Reading, IsDone, Overwrites, passed}
 use Rattle.nb_restore.proofs.FrontLaws.{front_begun, front_then_still, front_joined}
 use Rattle.nb_restore.proofs.LevelLaws.{so_far_none, so_far_next, so_far_fails, so_far_ends}
 use Rattle.nb_restore.proofs.records.write_level.Goals as goal

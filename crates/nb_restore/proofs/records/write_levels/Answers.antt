@@ -1,7 +1,5 @@
 use Rattle.std.proofs.Common.{◌∷◌, [], length, refl, sym, ◌∙◌, append_assoc}
-use Rattle.nb_change.proofs.GaveLaws.{gave_begun, nothing_joined}
-use Rattle.nb_chain.proofs.AnswerLaws.{passed}
-use Rattle.nb_restore.specs.Copied.{IsDone, Overwrites, OverwritesAll}
+use Rattle.nb_restore.proofs.Common.{gave_begun, nothing_joined, IsDone, Overwrites, OverwritesAll, passed}
 use Rattle.nb_restore.proofs.FrontLaws.{front_begun, front_joined}
 use Rattle.nb_restore.proofs.LevelLaws.{all_so_far_none, all_so_far_next, all_so_far_fails, all_so_far_all, next_taken, all_taken, of_pages_at}
 use Rattle.nb_restore.proofs.records.write_levels.Goals as goal

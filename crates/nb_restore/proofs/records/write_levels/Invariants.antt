@@ -1,11 +1,5 @@
-use Rattle.std.proofs.Common.{◌≡◌, List, ◌++◌, length}
-use Rattle.std.specs.Prelude.{IsTrue}
-use Rattle.nb_change.specs.Changes.{Changes, Only, Moved}
-use Rattle.nb_change.specs.Gave.{GaveNothing}
-use Rattle.nb_model.specs.Restoring.{Link}
-use Rattle.nb_level.specs.Reading.{Reading}
-use Rattle.nb_restore.specs.Copied.{KeepsFront}
-use Rattle.nb_restore.specs.Sources.{AreReady}
+use Rattle.std.proofs.Common.{◌≡◌, List, ◌++◌, length, IsTrue}
+use Rattle.nb_restore.proofs.Common.{Changes, Only, Moved, GaveNothing, Link, Reading, KeepsFront, AreReady}
 use Rattle.nb_restore.proofs.LevelLaws.{AllSoFar}
 use Rattle.nb_restore.proofs.records.write_levels.Given as goal
 

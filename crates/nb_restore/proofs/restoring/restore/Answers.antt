@@ -1,5 +1,4 @@
-use Rattle.nb_chain.proofs.AnswerLaws.{passed}
-use Rattle.nb_restore.specs.Restore.{Restores}
+use Rattle.nb_restore.proofs.Common.{Restores, passed}
 use Rattle.nb_restore.proofs.RestoreLaws.{not_prepared, plan_for, restore_fails, restore_done}
 use Rattle.nb_restore.proofs.restoring.restore.Goals as goal
 

@@ -1,7 +1,5 @@
 use Rattle.std.proofs.Common.{inr, ap, sym, subst}
-use Rattle.nb_host.specs.Files.{Files}
-use Rattle.nb_restore.specs.Target.{IsFree}
-use Rattle.nb_restore.proofs.FrontLaws.{named}
+use Rattle.nb_restore.proofs.Common.{Files, IsFree, with_file-named}
 use Rattle.nb_restore.proofs.TargetLaws.{made, made_reads, page_made, page_reads, sync_more, kept_page}
 use Rattle.nb_restore.proofs.target.begin.Goals as goal
 
@@ -18,7 +16,7 @@ returns-in_err-write_page-clause-left g c tells is =
     page_made _ _ _ _ _ _ _ tells is (made _ _ _ _ _ tells (g.met.H.Host.timely _) make.files make.log.said make.time) make.files.done write.files write.log.said write.time
 
 pub returns-in_err-write_page-clause-reads : goal.returns-in_err-write_page-clause-reads
-returns-in_err-write_page-clause-reads g c tells is = inr (page_reads _ _ _ _ _ _ tells is (named _ _ c.args.target.now _ (c.in_ok-make.ensures.files.files tells)) c.write_page.ensures.files)
+returns-in_err-write_page-clause-reads g c tells is = inr (page_reads _ _ _ _ _ _ tells is (with_file-named _ _ c.args.target.now _ (c.in_ok-make.ensures.files.files tells)) c.write_page.ensures.files)
 
 pub returns-clause-left : goal.returns-clause-left
 returns-clause-left g c tells is =
@@ -30,11 +28,11 @@ returns-clause-left g c tells is =
 
 pub returns-clause-reads : goal.returns-clause-reads
 returns-clause-reads g c tells is =
-    let free = page_reads _ _ _ _ _ _ tells is (named _ _ c.args.target.now _ (c.in_ok-make.ensures.files.files tells)) c.in_ok-write_page.ensures.files in
+    let free = page_reads _ _ _ _ _ _ tells is (with_file-named _ _ c.args.target.now _ (c.in_ok-make.ensures.files.files tells)) c.in_ok-write_page.ensures.files in
     inr (subst IsFree (ap (λ (f : Files). f c.args.target.now) (sym c.sync.ensures.files.still.files)) free)
 
 pub returns-clause-begun : goal.returns-clause-begun
 returns-clause-begun g c tells =
     let make = c.in_ok-make.ensures in
     let write = c.in_ok-write_page.ensures in
-    kept_page _ _ _ _ _ _ _ tells (named _ _ c.args.target.now _ (make.files.files tells)) (named _ _ c.args.target.now _ (write.files.files tells)) c.sync.ensures.files
+    kept_page _ _ _ _ _ _ _ tells (with_file-named _ _ c.args.target.now _ (make.files.files tells)) (with_file-named _ _ c.args.target.now _ (write.files.files tells)) c.sync.ensures.files

@@ -1,5 +1,5 @@
 use Rattle.std.proofs.Common.{take}
-use Rattle.nb_sched.specs.Turns.{kind}
+use Rattle.nb_sched.proofs.Common.{kind}
 use Rattle.nb_sched.proofs.TurnLaws.{turns_ready, turns_more, turns_err, turns_handed}
 use Rattle.nb_sched.proofs.turns.take_order.Goals as goal
 

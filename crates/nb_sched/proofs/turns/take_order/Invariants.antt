@@ -1,5 +1,5 @@
 use Rattle.std.proofs.Common.{take, Ok}
-use Rattle.nb_sched.specs.Turns.{kind, scene, TakesTurns}
+use Rattle.nb_sched.proofs.Common.{kind, scene, TakesTurns}
 use Rattle.nb_sched.proofs.turns.take_order.Given as goal
 
 abbrev pub invariant-loop-session : goal.invariant-loop-session

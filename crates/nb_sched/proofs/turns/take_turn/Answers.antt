@@ -1,5 +1,5 @@
 use Rattle.std.proofs.Common.{ap, get_or, set}
-use Rattle.nb_sched.specs.Turns.{kind}
+use Rattle.nb_sched.proofs.Common.{kind}
 use Rattle.nb_sched.proofs.AgentLaws.{agent_read, get_or_any, ready_then}
 use Rattle.nb_sched.proofs.TurnLaws.{turns_one}
 use Rattle.nb_sched.proofs.turns.take_turn.Goals as goal

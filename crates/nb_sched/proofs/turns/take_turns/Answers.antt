@@ -1,6 +1,5 @@
 use Rattle.std.proofs.Common.{◌+◌, ◌++◌, ◌≤◌, arith}
-use Rattle.nb_model.specs.Run.{rounds, all_sessions}
-use Rattle.nb_sched.specs.Turns.{kind}
+use Rattle.nb_sched.proofs.Common.{rounds, all_sessions, kind}
 use Rattle.nb_sched.proofs.AgentLaws.{rests_past, rests_behind}
 use Rattle.nb_sched.proofs.TurnLaws.{turns_ready, turns_no_round, turns_round, turns_handed, rests_kept, round_of, round_stops, round_falls}
 use Rattle.nb_sched.proofs.turns.take_turns.Goals as goal

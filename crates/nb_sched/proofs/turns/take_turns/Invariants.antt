@@ -1,6 +1,5 @@
 use Rattle.std.proofs.Common.{ℕ, ◌≤◌, ◌<◌, ◌++◌, Ok, length}
-use Rattle.nb_model.specs.Run.{rounds}
-use Rattle.nb_sched.specs.Turns.{kind, scene, Rests, TakesTurns, total}
+use Rattle.nb_sched.proofs.Common.{rounds, kind, scene, Rests, TakesTurns, total}
 use Rattle.nb_sched.proofs.turns.take_turns.Given as goal
 
 abbrev pub invariant-loop-count : goal.invariant-loop-count

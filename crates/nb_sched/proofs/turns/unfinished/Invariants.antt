@@ -1,5 +1,5 @@
 use Rattle.std.proofs.Common.{ℕ, ◌≤◌, ◌<◌}
-use Rattle.nb_sched.specs.Turns.{Rests}
+use Rattle.nb_sched.proofs.Common.{Rests}
 use Rattle.nb_sched.proofs.turns.unfinished.Given as goal
 
 abbrev pub invariant-loop-count : goal.invariant-loop-count

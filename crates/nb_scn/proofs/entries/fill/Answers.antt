@@ -1,11 +1,5 @@
 use Rattle.std.proofs.Common.{◌+◌, ◌*◌, ◌≡◌, inr, take, drop, length, replicate, ap, ap₂, sym, ◌∙◌, arith, below_more}
-use Rattle.std.proofs.lemmas.List.{take_all}
-use Rattle.nb_fields.specs.Bytes.{with_part, bytes_of}
-use Rattle.nb_fields.specs.Payloads.{scn_payload}
-use Rattle.nb_fields.specs.Places.{entries_in}
-use Rattle.nb_fields.proofs.PartLaws.{length-part, put_mid-with_part}
-use Rattle.nb_fields.proofs.SizeLaws.{size_facts}
-use Rattle.nb_scn.specs.Entries.{entry_place}
+use Rattle.nb_scn.proofs.Common.{take_all, with_part, bytes_of, scn_payload, entries_in, length-part, put_mid-with_part, size_facts, entry_place}
 use Rattle.nb_scn.proofs.EntryLaws.{entries-replicate}
 use Rattle.nb_scn.proofs.FillLaws.{front, front_begun, front_more}
 use Rattle.nb_scn.proofs.entries.fill.Goals as goal

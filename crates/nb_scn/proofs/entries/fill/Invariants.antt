@@ -1,6 +1,5 @@
 use Rattle.std.proofs.Common.{◌≡◌, ℕ, ◌<◌, take}
-use Rattle.nb_fields.specs.Payloads.{entry_of}
-use Rattle.nb_scn.specs.Entries.{entry_place}
+use Rattle.nb_scn.proofs.Common.{entry_of, entry_place}
 use Rattle.nb_scn.proofs.FillLaws.{front}
 use Rattle.nb_scn.proofs.entries.fill.Given as goal
 

@@ -1,6 +1,5 @@
 use Rattle.std.proofs.Common.{◌≡◌, ◌*◌, ◌+◌, ap, sym, ◌∙◌, arith, max, slice_index}
-use Rattle.std.proofs.Math.ListN.{set}
-use Rattle.nb_scn.specs.Entries.{entries}
+use Rattle.nb_scn.proofs.Common.{set, entries}
 use Rattle.nb_scn.proofs.EntryLaws.{are_apart, entries-set}
 use Rattle.nb_scn.proofs.entries.raise.Goals as goal
 

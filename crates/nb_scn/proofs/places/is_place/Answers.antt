@@ -1,6 +1,5 @@
 use Rattle.std.proofs.Common.{◌<◌, arith}
-use Rattle.nb_fields.specs.Places.{entries_in}
-use Rattle.nb_fields.proofs.SizeLaws.{size_facts}
+use Rattle.nb_scn.proofs.Common.{entries_in, size_facts}
 use Rattle.nb_scn.proofs.PlaceLaws.{place_found, found_place}
 use Rattle.nb_scn.proofs.places.is_place.Goals as goal
 

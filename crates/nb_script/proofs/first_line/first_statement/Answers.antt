@@ -1,5 +1,5 @@
 use Rattle.std.proofs.Common.{Some, None, ap, ◌∙◌}
-use Rattle.nb_script.specs.FirstLine.{first_at}
+use Rattle.nb_script.proofs.Common.{first_at}
 use Rattle.nb_script.proofs.FirstLaws.{no_first_session, its_first, first_again}
 use Rattle.nb_script.proofs.first_line.first_statement.Goals as goal
 

@@ -1,6 +1,5 @@
 use Rattle.std.proofs.Common.{◌≡◌, ◌∙◌, ◌∷◌, ap, ap₂, sym, take, drop}
-use Rattle.nb_script.specs.Words.{Bytes}
-use Rattle.nb_script.specs.Lines.{lines_of, first_len}
+use Rattle.nb_script.proofs.Common.{Bytes, lines_of, first_len}
 use Rattle.nb_script.proofs.LineLaws.{first_of}
 use Rattle.nb_script.proofs.lines.first_line.Goals as goal
 

@@ -1,5 +1,5 @@
 use Rattle.std.proofs.Common.{◌≡◌, ◌++◌, ◌-◌}
-use Rattle.nb_model.specs.Seeds.{seeded}
+use Rattle.nb_script.proofs.Common.{seeded}
 use Rattle.nb_script.proofs.order.seeded.Given as goal
 
 abbrev pub invariant-loop : goal.invariant-loop

@@ -1,5 +1,5 @@
 use Rattle.std.proofs.Common.{◌≡◌, ◌-◌}
-use Rattle.nb_script.specs.Order.{sessions_at}
+use Rattle.nb_script.proofs.Common.{sessions_at}
 use Rattle.nb_script.proofs.Orders.{behind}
 use Rattle.nb_script.proofs.order.sessions.Given as goal
 

@@ -1,6 +1,5 @@
 use Rattle.std.proofs.Common.{◌++◌, ap, ◌∙◌}
-use Rattle.nb_script.specs.Words.{Bytes}
-use Rattle.nb_script.specs.Spelling.{script_text}
+use Rattle.nb_script.proofs.Common.{Bytes, script_text}
 use Rattle.nb_script.proofs.RoundTrip.{printed_again}
 use Rattle.nb_script.proofs.printing.print.Goals as goal
 

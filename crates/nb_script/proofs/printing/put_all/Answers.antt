@@ -1,6 +1,5 @@
 use Rattle.std.proofs.Common.{◌≡◌, ◌+◌, ◌-◌, [], ◌++◌, drop, get_or, ap, ◌∙◌, arith}
-use Rattle.nb_script.specs.Words.{Bytes}
-use Rattle.nb_script.specs.Spelling.{statements_text, sessions_text}
+use Rattle.nb_script.proofs.Common.{Bytes, statements_text, sessions_text}
 use Rattle.nb_script.proofs.Prints.{next_session, all_written, no_others}
 use Rattle.nb_script.proofs.printing.put_all.Goals as goal
 

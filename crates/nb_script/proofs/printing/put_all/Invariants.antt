@@ -1,5 +1,5 @@
 use Rattle.std.proofs.Common.{◌≡◌, ◌++◌, ◌+◌, drop}
-use Rattle.nb_script.specs.Spelling.{sessions_text}
+use Rattle.nb_script.proofs.Common.{sessions_text}
 use Rattle.nb_script.proofs.printing.put_all.Given as goal
 
 abbrev pub invariant-loop-before : goal.invariant-loop-before

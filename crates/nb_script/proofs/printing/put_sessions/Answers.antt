@@ -1,7 +1,5 @@
 use Rattle.std.proofs.Common.{◌≡◌, ℕ, ◌+◌, [], ◌∷◌, ◌++◌, drop, get_or, refl, ap, ◌∙◌, append_assoc, arith}
-use Rattle.std.specs.Fmt.{decimal}
-use Rattle.nb_script.specs.Words.{Bytes}
-use Rattle.nb_script.specs.Spelling.{spaced_sessions}
+use Rattle.nb_script.proofs.Common.{decimal, Bytes, spaced_sessions}
 use Rattle.nb_script.proofs.Prints.{next_written, all_written, no_sessions, first_session}
 use Rattle.nb_script.proofs.printing.put_sessions.Goals as goal
 

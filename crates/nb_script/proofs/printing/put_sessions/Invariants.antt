@@ -1,5 +1,5 @@
 use Rattle.std.proofs.Common.{◌≡◌, ◌++◌, drop}
-use Rattle.nb_script.specs.Spelling.{spaced_sessions}
+use Rattle.nb_script.proofs.Common.{spaced_sessions}
 use Rattle.nb_script.proofs.printing.put_sessions.Given as goal
 
 abbrev pub invariant-loop-session : goal.invariant-loop-session

@@ -1,6 +1,5 @@
 use Rattle.std.proofs.Common.{◌+◌, [], ◌∷◌, ◌++◌, drop, ap, sym, ◌∙◌, arith}
-use Rattle.nb_script.specs.Words.{Bytes}
-use Rattle.nb_script.specs.Spelling.{line_text, statements_text}
+use Rattle.nb_script.proofs.Common.{Bytes, line_text, statements_text}
 use Rattle.nb_script.proofs.Prints.{next_written, all_written, no_statements, first_statement}
 use Rattle.nb_script.proofs.printing.put_statements.Goals as goal
 

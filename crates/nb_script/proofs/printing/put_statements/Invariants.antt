@@ -1,5 +1,5 @@
 use Rattle.std.proofs.Common.{◌≡◌, ◌++◌, drop}
-use Rattle.nb_script.specs.Spelling.{statements_text}
+use Rattle.nb_script.proofs.Common.{statements_text}
 use Rattle.nb_script.proofs.printing.put_statements.Given as goal
 
 abbrev pub invariant-loop-statement : goal.invariant-loop-statement

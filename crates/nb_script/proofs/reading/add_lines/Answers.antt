@@ -1,5 +1,5 @@
 use Rattle.std.proofs.Common.{sym, ◌∙◌, arith}
-use Rattle.nb_script.specs.Lines.{left}
+use Rattle.nb_script.proofs.Common.{left}
 use Rattle.nb_script.proofs.Scripts.{no_more, one_line, bad_line}
 use Rattle.nb_script.proofs.reading.add_lines.Goals as goal
 

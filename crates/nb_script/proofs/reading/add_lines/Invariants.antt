@@ -1,6 +1,5 @@
 use Rattle.std.proofs.Common.{◌≡◌, ◌≤◌, length}
-use Rattle.nb_script.specs.Lines.{left}
-use Rattle.nb_script.specs.Scripts.{with_lines}
+use Rattle.nb_script.proofs.Common.{left, with_lines}
 use Rattle.nb_script.proofs.reading.add_lines.Given as goal
 
 abbrev pub invariant-loop-line : goal.invariant-loop-line

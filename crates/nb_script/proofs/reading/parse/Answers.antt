@@ -1,6 +1,5 @@
 use Rattle.std.proofs.Common.{sym, ap₂, ◌∙◌, arith}
-use Rattle.nb_script.specs.Lines.{left}
-use Rattle.nb_script.specs.Scripts.{IsAnswer, script_of}
+use Rattle.nb_script.proofs.Common.{left, IsAnswer, script_of}
 use Rattle.nb_script.proofs.AskedLaws.{answer_is_spelled, answer_is_askable}
 use Rattle.nb_script.proofs.Scripts.{script_meant}
 use Rattle.nb_script.proofs.reading.parse.Goals as goal

@@ -1,5 +1,5 @@
 use Rattle.std.proofs.Common.{refl}
-use Rattle.nb_script.specs.Statements.{of_table}
+use Rattle.nb_script.proofs.Common.{of_table}
 use Rattle.nb_script.proofs.statements.of_table.Goals as goal
 
 pub returns-in-Some : goal.returns-in-Some

@@ -1,5 +1,5 @@
 use Rattle.std.proofs.Common.{Some, None, ap, sym, ◌∙◌}
-use Rattle.nb_script.specs.Statements.{statement_at}
+use Rattle.nb_script.proofs.Common.{statement_at}
 use Rattle.nb_script.proofs.StatementLaws.{no_session, its_statement, statement_again}
 use Rattle.nb_script.proofs.statements.statement.Goals as goal
 

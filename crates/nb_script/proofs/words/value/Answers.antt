@@ -1,7 +1,5 @@
 use Rattle.std.proofs.Common.{◌≡◌, ◌+◌, ◌*◌, Some, [], drop, get_or, arith, ap, sym, ◌∙◌}
-use Rattle.std.specs.Char.{digit_value}
-use Rattle.std.specs.Str.Parse.{digits_value, digits_value_after}
-use Rattle.std.proofs.lemmas.List.{drop_all}
+use Rattle.nb_script.proofs.Common.{digit_value, digits_value, digits_value_after, drop_all}
 use Rattle.nb_script.proofs.Numbers.{worth, more_digits, next_digit, fitting, too_large}
 use Rattle.nb_script.proofs.words.value.Goals as goal
 

@@ -1,5 +1,5 @@
 use Rattle.std.proofs.Common.{◌≡◌, ◌<◌, ◌^◌, drop}
-use Rattle.std.specs.Str.Parse.{digits_value, digits_value_after}
+use Rattle.nb_script.proofs.Common.{digits_value, digits_value_after}
 use Rattle.nb_script.proofs.words.value.Given as goal
 
 abbrev pub invariant-loop-b : goal.invariant-loop-b

@@ -1,8 +1,5 @@
-use Rattle.std.proofs.Common.{◌≡◌, [], sym, subst}
-use Rattle.std.specs.Prelude.{if◌then◌else◌, Bool, None}
-use Rattle.nb_model.specs.Output.{status_after}
-use Rattle.nb_session.specs.declared.task.Taken.{Taken}
-use Rattle.nb_session.specs.Replies.{some_said}
+use Rattle.std.proofs.Common.{◌≡◌, [], sym, subst, if◌then◌else◌, Bool, None}
+use Rattle.nb_session.proofs.Common.{status_after, Taken, some_said}
 use Rattle.nb_session.proofs.EventLaws.{marks_none}
 use Rattle.nb_session.proofs.KeepLaws.{one_single}
 use Rattle.nb_session.proofs.TouchingLaws.{begins_touch, one_turn_plain}

@@ -1,10 +1,5 @@
-use Rattle.std.proofs.Common.{◌≡◌, refl, ap}
-use Rattle.std.specs.Prelude.{Ok, Err}
-use Rattle.nb_model.specs.declared.reply.Reply.TheVariants.{Level}
-use Rattle.nb_state.specs.declared.turns.Progress.{Progress}
-use Rattle.nb_copy.specs.FileCopying.{file_written}
-use Rattle.nb_copy.specs.Starting.{Backed}
-use Rattle.nb_session.specs.declared.task.Taken.{Taken}
+use Rattle.std.proofs.Common.{◌≡◌, refl, ap, Ok, Err}
+use Rattle.nb_session.proofs.Common.{Level, Progress, file_written, Backed, Taken}
 use Rattle.nb_session.proofs.BackupLaws.{seen_with, backup_more, backup_closed, backup_lost}
 use Rattle.nb_session.proofs.StepLaws.{counts_as, counts_handed}
 use Rattle.nb_session.proofs.copies.back_up_on.Goals as goal

@@ -1,13 +1,5 @@
-use Rattle.std.proofs.Common.{◌≡◌, [], sym, ap, subst}
-use Rattle.std.specs.Prelude.{Ok, Err, None}
-use Rattle.nb_host.specs.declared.faults.Fault.{Fault}
-use Rattle.nb_model.specs.Outcomes.{Begins, Given, next_guid}
-use Rattle.nb_model.specs.Turns.{first_turn}
-use Rattle.nb_state.specs.Turns.{GaveAtMost}
-use Rattle.nb_copy.specs.Starting.{Backed, StartsBackup}
-use Rattle.nb_session.specs.declared.task.Taken.{Taken}
-use Rattle.nb_session.specs.Askers.{file_asked}
-use Rattle.nb_session.specs.Steps.{begun_in, IsBehind}
+use Rattle.std.proofs.Common.{◌≡◌, [], sym, ap, subst, Ok, Err, None}
+use Rattle.nb_session.proofs.Common.{Fault, Begins, Given, next_guid, first_turn, GaveAtMost, Backed, StartsBackup, Taken, file_asked, begun_in, IsBehind}
 use Rattle.nb_session.proofs.BackupLaws.{file_plain, no_delta, seen_with, knows_free, starts_told, start_acts, start_apart, start_behind, start_refused}
 use Rattle.nb_session.proofs.EventLaws.{marks_made}
 use Rattle.nb_session.proofs.StepLaws.{counts_as}

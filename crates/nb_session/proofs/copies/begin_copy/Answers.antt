@@ -1,14 +1,5 @@
-use Rattle.std.proofs.Common.{◌≡◌, [], sym, ap, subst}
-use Rattle.std.specs.Prelude.{Ok, Err, None, Some}
-use Rattle.nb_host.specs.declared.faults.Fault.{Fault}
-use Rattle.nb_model.specs.declared.statement.Statement.TheVariants.{CopyTo}
-use Rattle.nb_model.specs.Backups.{copy_turn}
-use Rattle.nb_model.specs.Outcomes.{Begins}
-use Rattle.nb_state.specs.Open.{name_of}
-use Rattle.nb_copy.specs.Copying.{Copying}
-use Rattle.nb_copy.specs.FileCopies.{StartsCopy}
-use Rattle.nb_session.specs.declared.task.Taken.{Taken}
-use Rattle.nb_session.specs.Steps.{IsBehind}
+use Rattle.std.proofs.Common.{◌≡◌, [], sym, ap, subst, Ok, Err, None, Some}
+use Rattle.nb_session.proofs.Common.{Fault, CopyTo, copy_turn, Begins, name_of, Copying, StartsCopy, Taken, IsBehind}
 use Rattle.nb_session.proofs.CopyLaws.{name_kept, cap_kept, knows_unused, begin_acts, begin_behind, begin_refused}
 use Rattle.nb_session.proofs.EventLaws.{marks_none}
 use Rattle.nb_session.proofs.TouchingLaws.{begins_touch}

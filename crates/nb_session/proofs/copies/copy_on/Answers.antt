@@ -1,6 +1,5 @@
 use Rattle.std.proofs.Common.{arith}
-use Rattle.nb_copy.specs.Copying.{Copying}
-use Rattle.nb_session.specs.declared.task.Task.TheVariants.{Copy}
+use Rattle.nb_session.proofs.Common.{Copying, Copy}
 use Rattle.nb_session.proofs.CopyLaws.{copy_failed, copy_page, copy_last}
 use Rattle.nb_session.proofs.TurnLaws.{last_falls, last_fits}
 use Rattle.nb_session.proofs.copies.copy_on.Goals as goal

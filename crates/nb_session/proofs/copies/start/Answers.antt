@@ -1,15 +1,5 @@
-use Rattle.std.proofs.Common.{◌≡◌, ℕ, sym, subst}
-use Rattle.std.specs.Prelude.{Result}
-use Rattle.nb_host.specs.World.{World}
-use Rattle.nb_host.specs.declared.faults.Fault.{Fault}
-use Rattle.nb_model.specs.declared.statement.Statement.{Statement}
-use Rattle.nb_model.specs.Outcomes.{Seen, next_guid}
-use Rattle.nb_model.specs.Owner.{delta_name}
-use Rattle.nb_model.specs.Trail.{Trail}
-use Rattle.nb_model.specs.Turns.{first_turn}
-use Rattle.nb_state.specs.Open.{Held, name_of}
-use Rattle.nb_copy.specs.Starting.{Backed, KnowsFree, StartsBackup}
-use Rattle.nb_session.specs.Askers.{file_asked}
+use Rattle.std.proofs.Common.{◌≡◌, ℕ, sym, subst, Result}
+use Rattle.nb_session.proofs.Common.{World, Fault, Statement, Seen, next_guid, delta_name, Trail, first_turn, Held, name_of, Backed, KnowsFree, StartsBackup, file_asked}
 use Rattle.nb_session.proofs.copies.start.Goals as goal
 
 -- the start of the backup that a statement asks for

@@ -1,12 +1,5 @@
-use Rattle.std.proofs.Common.{◌≡◌, ℕ, [], length, refl, sym, ap, subst}
-use Rattle.std.specs.Prelude.{Ok, Err, None}
-use Rattle.nb_host.specs.declared.faults.Fault.{Fault}
-use Rattle.nb_model.specs.declared.statement.Statement.TheVariants.{EndBackup}
-use Rattle.nb_model.specs.Outcomes.{Begins}
-use Rattle.nb_model.specs.Pages.{end_turn, end_scn}
-use Rattle.nb_engine.specs.Turns.{DoesEnd}
-use Rattle.nb_session.specs.declared.task.Taken.{Taken}
-use Rattle.nb_session.specs.Steps.{IsBehind}
+use Rattle.std.proofs.Common.{◌≡◌, ℕ, [], length, refl, sym, ap, subst, Ok, Err, None}
+use Rattle.nb_session.proofs.Common.{Fault, EndBackup, Begins, end_turn, end_scn, DoesEnd, Taken, IsBehind}
 use Rattle.nb_session.proofs.EventLaws.{marks_none}
 use Rattle.nb_session.proofs.TouchingLaws.{begins_touch}
 use Rattle.nb_session.proofs.MergeLaws.{end_acts, end_behind, end_refused}

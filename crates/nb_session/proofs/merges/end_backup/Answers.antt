@@ -1,12 +1,5 @@
-use Rattle.std.proofs.Common.{◌≡◌, ℕ, [], length, refl, sym, ap, subst}
-use Rattle.std.specs.Prelude.{Ok, Err, Some, None}
-use Rattle.nb_model.specs.declared.reply.Reply.{Reply}
-use Rattle.nb_model.specs.Outcomes.{Ends}
-use Rattle.nb_session.specs.Askers.{left_refused, left_task}
-use Rattle.nb_session.specs.declared.task.Left.TheVariants.{Other}
-use Rattle.nb_session.specs.declared.task.Task.TheVariants.{Merge}
-use Rattle.nb_session.specs.declared.task.Taken.{Taken}
-use Rattle.nb_session.specs.Steps.{IsBehind}
+use Rattle.std.proofs.Common.{◌≡◌, ℕ, [], length, refl, sym, ap, subst, Ok, Err, Some, None}
+use Rattle.nb_session.proofs.Common.{Reply, Ends, left_refused, left_task, Other, Merge, Taken, IsBehind}
 use Rattle.nb_session.proofs.EventLaws.{marks_none}
 use Rattle.nb_session.proofs.TouchingLaws.{ends_touch}
 use Rattle.nb_session.proofs.MergeLaws.{ends_acts, ends_behind, ends_lost, ends_quiet}

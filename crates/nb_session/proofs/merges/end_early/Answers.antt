@@ -1,11 +1,6 @@
-use Rattle.std.proofs.Common.{◌≡◌, ℕ, refl, sym, subst}
-use Rattle.std.specs.Prelude.{Err}
-use Rattle.nb_host.specs.Causes.{CountsDevice, CountsRun}
-use Rattle.nb_host.specs.declared.faults.Fault.{Fault}
-use Rattle.nb_host.specs.declared.faults.RunError.{RunError}
+use Rattle.std.proofs.Common.{◌≡◌, ℕ, refl, sym, subst, Err}
+use Rattle.nb_session.proofs.Common.{CountsDevice, CountsRun, Fault, RunError, Taken, EndsEarly}
 use Rattle.nb_host.specs.declared.faults.RunError.TheVariants.{Device as DeviceError, Memory as MemoryError}
-use Rattle.nb_session.specs.declared.task.Taken.{Taken}
-use Rattle.nb_session.specs.Says.{EndsEarly}
 use Rattle.nb_session.proofs.merges.end_early.Goals as goal
 
 pub returns-in-Refused-clause-ended : goal.returns-in-Refused-clause-ended

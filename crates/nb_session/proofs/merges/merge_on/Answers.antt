@@ -1,15 +1,6 @@
-use Rattle.std.proofs.Common.{[], refl, subst, arith}
-use Rattle.std.specs.Prelude.{Ok, Err, Some}
-use Rattle.nb_host.specs.declared.faults.Fault.TheVariants.{Device}
-use Rattle.nb_model.specs.declared.reply.Reply.{Reply}
-use Rattle.nb_session.specs.Says.{SaysLine}
-use Rattle.nb_session.specs.Told.{told_line, told_reply}
-use Rattle.nb_state.specs.Turns.{Merges, GoesOn}
-use Rattle.nb_state.specs.declared.turns.Progress.{Progress}
-use Rattle.nb_state.specs.declared.turns.Progress.TheVariants.{More, Finished}
-use Rattle.nb_session.specs.Askers.{left_refused, left_task}
-use Rattle.nb_session.specs.declared.task.Left.TheVariants.{Same}
-use Rattle.nb_session.specs.declared.task.Task.TheVariants.{Merge}
+use Rattle.std.proofs.Common.{[], refl, subst, arith, Ok, Err, Some}
+use Rattle.nb_session.proofs.Common.{Device, Reply, SaysLine, told_line, told_reply, GoesOn, Progress, More, Finished, left_refused, left_task, Same, Merge}
+use Rattle.nb_state.specs.Turns.{Merges}
 use Rattle.nb_session.proofs.EventLaws.{marks_none}
 use Rattle.nb_session.proofs.TouchingLaws.{merges_touch}
 use Rattle.nb_session.proofs.MergeLaws.{merge_said, merge_acts, more_behind, finished_behind}

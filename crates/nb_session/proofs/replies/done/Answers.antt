@@ -1,10 +1,5 @@
-use Rattle.std.proofs.Common.{refl, sym, subst}
-use Rattle.std.specs.Prelude.{Result, Err}
-use Rattle.nb_host.specs.Causes.{CountsDevice}
-use Rattle.nb_host.specs.declared.faults.Fault.{Fault}
-use Rattle.nb_model.specs.declared.reply.Reply.{Reply}
-use Rattle.nb_engine.specs.Replies.{done}
-use Rattle.nb_session.specs.Replies.{Replies}
+use Rattle.std.proofs.Common.{refl, sym, subst, Result, Err}
+use Rattle.nb_session.proofs.Common.{CountsDevice, Fault, Reply, done, Replies}
 use Rattle.nb_session.proofs.StepLaws.{counts_as}
 use Rattle.nb_session.proofs.replies.done.Goals as goal
 

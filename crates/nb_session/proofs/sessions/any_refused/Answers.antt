@@ -1,6 +1,5 @@
 use Rattle.std.proofs.Common.{ap, ◌∙◌, arith}
-use Rattle.std.proofs.lemmas.List.{take_all}
-use Rattle.nb_session.specs.Askers.{any_refused}
+use Rattle.nb_session.proofs.Common.{take_all, any_refused}
 use Rattle.nb_session.proofs.AnyLaws.{any_more}
 use Rattle.nb_session.proofs.sessions.any_refused.Goals as goal
 

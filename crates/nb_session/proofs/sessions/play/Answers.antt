@@ -1,8 +1,5 @@
-use Rattle.std.proofs.Common.{refl, subst, sym}
-use Rattle.std.specs.Prelude.{Bool, Ok, Err}
-use Rattle.nb_sched.specs.Turns.{scene}
-use Rattle.nb_session.specs.Askers.{first_askers}
-use Rattle.nb_session.specs.Todo.{PlaysInTurn}
+use Rattle.std.proofs.Common.{refl, subst, sym, Bool, Ok, Err}
+use Rattle.nb_session.proofs.Common.{scene, first_askers, PlaysInTurn}
 use Rattle.nb_session.proofs.OutLaws.{whole_passed}
 use Rattle.nb_session.proofs.StepLaws.{counts_handed}
 use Rattle.nb_session.proofs.WholeLaws.{turns_as, first_ready, whole_shown, whole_played, whole_failed, whole_grows, whole_counts}

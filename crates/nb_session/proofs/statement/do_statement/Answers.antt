@@ -1,17 +1,9 @@
-use Rattle.std.proofs.Common.{ℕ, [], refl, ap, ◌∙◌}
-use Rattle.std.specs.Prelude.{Ok, Err, Some}
-use Rattle.nb_host.specs.declared.faults.Fault.TheVariants.{Device}
-use Rattle.nb_model.specs.declared.reply.Reply.TheVariants.{Done, PageMade, Value, Scn, ImageShown, CacheShown}
-use Rattle.nb_model.specs.Pages.{write_turn, header_turn}
-use Rattle.nb_model.specs.Turns.{first_turn}
-use Rattle.nb_engine.specs.Replies.{done, page_made, valued, scn_is}
+use Rattle.std.proofs.Common.{ℕ, [], refl, ap, ◌∙◌, Ok, Err, Some}
+use Rattle.nb_session.proofs.Common.{Device, Done, PageMade, Value, Scn, ImageShown, CacheShown, write_turn, header_turn, first_turn, done, page_made, valued, scn_is, Held, some_said, quiet_begun}
 use Rattle.nb_shown.specs.Replies.{pages_shown, image_shown}
-use Rattle.nb_state.specs.Open.{Held}
-use Rattle.nb_session.specs.Replies.{some_said}
 use Rattle.nb_session.proofs.ActLaws.{some_by, does_acts, does_replied, replied_err, replied_memory, may_passed, may_value, sync_acts, sync_failed, begin_acts, cache_acts}
 use Rattle.nb_session.proofs.HeaderLaws.{header_does}
 use Rattle.nb_session.proofs.TurnLaws.{seen_now}
-use Rattle.nb_state.proofs.TurnLaws.{no_call}
 use Rattle.nb_session.proofs.statement.do_statement.Goals as goal
 
 pub returns-in-Write-clause-turn : goal.returns-in-Write-clause-turn
@@ -96,7 +88,7 @@ returns-in-ShowHeader-clause-turn g c now t session tells ready =
     let w = g.H.Host.world c.args.host.now in
     let held = c.args.engine.now in
     does_acts (λ r. r) (Ok c.header_shown.result) w w held held t now session c.args.statement.now _ c.in-ShowHeader.is refl refl refl (header_turn s) refl ready
-    (header_does w held t s c.header_shown.result ready.base (no_call w (g.met.H.Host.timely _)) ready.opened (c.header_shown.ensures t.base ready.opened.files.agrees ready.opened.agrees))
+    (header_does w held t s c.header_shown.result ready.base (quiet_begun w (g.met.H.Host.timely _)) ready.opened (c.header_shown.ensures t.base ready.opened.files.agrees ready.opened.agrees))
 
 pub returns-in-ShowCache-clause-turn : goal.returns-in-ShowCache-clause-turn
 returns-in-ShowCache-clause-turn g c now t session tells ready =
@@ -125,6 +117,6 @@ pub returns-in_ok-sha256-in-ShowImage-clause-turn : goal.returns-in_ok-sha256-in
 unfolding first_turn
 returns-in_ok-sha256-in-ShowImage-clause-turn g c now t session tells ready =
     let shown = c.in_ok-sha256-in-ShowImage.ensures in
-    let pages = c.count.ensures.value ∙ ap (λ (h : Held). h.files.count) shown.same in
+    let pages = c.count.ensures.value ∙ ap (λ (h : Held). h.files.count) shown.looks.same in
     does_replied (image_shown c.args.engine.now.files.count) (Ok c.in_ok-sha256-in-ShowImage.sha256) (Ok (ImageShown c.count.result c.in_ok-sha256-in-ShowImage.sha256)) (ap (λ (n : ℕ). ImageShown n c.in_ok-sha256-in-ShowImage.sha256) pages) _ _ _ _ t now session c.args.statement.now _ c.in-ShowImage.is refl refl refl _ refl ready
     (shown.turn (seen_now now) t tells ready.base ready.opened)

@@ -1,7 +1,5 @@
 use Rattle.std.proofs.Common.{◌≡◌, length, sym, ap, ◌∙◌}
-use Rattle.std.proofs.lemmas.Bool.{ne_eqb}
-use Rattle.nb_model.specs.Image.{image_state}
-use Rattle.nb_model.specs.Pages.{delta_count}
+use Rattle.nb_session.proofs.Common.{ne_eqb, image_state, delta_count}
 use Rattle.nb_session.proofs.HeaderLaws.{delta_none, delta_some, shown}
 use Rattle.nb_session.proofs.statement.header_shown.Goals.{then-state-eq0, else-state-eq0}
 use Rattle.nb_session.proofs.statement.header_shown.Goals as goal

@@ -1,7 +1,5 @@
-use Rattle.std.proofs.Common.{refl, ap}
-use Rattle.std.specs.Prelude.{Ok, Err}
-use Rattle.nb_model.specs.declared.reply.Reply.TheVariants.{Leaked, Freed}
-use Rattle.nb_model.specs.Turns.{first_turn}
+use Rattle.std.proofs.Common.{refl, ap, Ok, Err}
+use Rattle.nb_session.proofs.Common.{Leaked, Freed, first_turn}
 use Rattle.nb_session.proofs.ActLaws.{does_replied, replied_err, replied_memory}
 use Rattle.nb_session.proofs.TurnLaws.{seen_now}
 use Rattle.nb_session.proofs.tables.do_checks.Goals as goal

@@ -1,9 +1,6 @@
-use Rattle.std.proofs.Common.{refl, ap, ◌∙◌}
-use Rattle.std.specs.Prelude.{Ok, Err}
-use Rattle.nb_model.specs.declared.reply.Reply.TheVariants.{Value, Rows}
+use Rattle.std.proofs.Common.{refl, ap, ◌∙◌, Ok, Err}
+use Rattle.nb_session.proofs.Common.{Value, Rows, first_turn, done, valued}
 use Rattle.nb_model.specs.Tables.{insert_turn, update_turn}
-use Rattle.nb_model.specs.Turns.{first_turn}
-use Rattle.nb_engine.specs.Replies.{done, valued}
 use Rattle.nb_session.proofs.ActLaws.{does_replied, replied_err, replied_memory}
 use Rattle.nb_session.proofs.TurnLaws.{seen_now}
 use Rattle.nb_session.proofs.tables.do_on_tables.Goals as goal

@@ -1,18 +1,11 @@
-use Rattle.std.proofs.Common.{◌≡◌, ◌+◌, ◌≤◌, [], take}
-use Rattle.std.specs.Prelude.{IsTrue, min}
-use Rattle.sha2.specs.Hashers.{Holds256}
-use Rattle.nb_page.specs.Quiet.{Quiet}
-use Rattle.nb_model.specs.Trail.{Trail}
-use Rattle.nb_state.specs.Open.{IsOpen, but_pages}
-use Rattle.nb_shown.specs.Replies.{bytes_of_image}
+use Rattle.std.proofs.Common.{◌≡◌, ◌+◌, ◌≤◌, [], take, IsTrue, min}
+use Rattle.nb_shown.proofs.Common.{Holds256, Trail, IsOpen, bytes_of_image, Looks}
 use Rattle.nb_shown.proofs.digest.feed_pages.Given as goal
 
 -- the pages so far were fed
 abbrev pub invariant-loop-number : goal.invariant-loop-number
 invariant-loop-number g l = record {
-  opened : (t : Trail) → IsTrue g.H.Host.tells → IsOpen (g.H.Host.world l.fn.host) l.fn.engine t → IsOpen (g.H.Host.world l.host) l.engine t;
-  same : but_pages l.engine ≡ but_pages l.fn.engine;
-  quiet : Quiet (g.H.Host.world l.fn.host) (g.H.Host.world l.host);
+  looks : Looks g.H.Host.tells (g.H.Host.world l.fn.host) (g.H.Host.world l.host) l.fn.engine l.engine;
   holds : (t : Trail) → IsTrue g.H.Host.tells → IsOpen (g.H.Host.world l.fn.host) l.fn.engine t → Holds256 l.fn.hasher [] → Holds256 l.hasher (bytes_of_image (take l.number t.base.image));
   reads : IsTrue g.H.Host.tells → (g.H.Host.world l.host).reads ≤ (g.H.Host.world l.fn.host).reads + l.number + min l.number 1;
   cause : g.H.Host.faults l.host ≡ g.H.Host.faults l.fn.host;

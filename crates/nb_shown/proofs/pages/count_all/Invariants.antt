@@ -1,19 +1,12 @@
-use Rattle.std.proofs.Common.{◌≡◌, ◌+◌, ◌-◌, ◌*◌, ◌≤◌, length}
-use Rattle.std.specs.Prelude.{IsTrue, min}
-use Rattle.nb_fields.specs.Places.{bits_in}
-use Rattle.nb_page.specs.Quiet.{Quiet}
-use Rattle.nb_model.specs.Trail.{Trail}
-use Rattle.nb_state.specs.Open.{IsOpen, but_pages}
-use Rattle.nb_shown.specs.Counts.{counts_below, inventories_below, sum_of}
+use Rattle.std.proofs.Common.{◌≡◌, ◌+◌, ◌-◌, ◌*◌, ◌≤◌, length, IsTrue, min}
+use Rattle.nb_shown.proofs.Common.{bits_in, Trail, IsOpen, counts_below, inventories_below, sum_of, Looks}
 use Rattle.nb_shown.proofs.NeedLaws.{NeedsFrom}
 use Rattle.nb_shown.proofs.pages.count_all.Given as goal
 
 -- the pages of the inventory pages so far are counted
 abbrev pub invariant-loop-first : goal.invariant-loop-first
 invariant-loop-first g l = record {
-  opened : (t : Trail) → IsTrue g.H.Host.tells → IsOpen (g.H.Host.world l.fn.host) l.fn.engine t → IsOpen (g.H.Host.world l.host) l.engine t;
-  same : but_pages l.engine ≡ but_pages l.fn.engine;
-  quiet : Quiet (g.H.Host.world l.fn.host) (g.H.Host.world l.host);
+  looks : Looks g.H.Host.tells (g.H.Host.world l.fn.host) (g.H.Host.world l.host) l.fn.engine l.engine;
   place : l.first ≡ min (l.k * bits_in (length l.fn.page)) l.count;
   few : l.k ≤ l.first;
   read : l.k ≤ inventories_below (length l.fn.page) l.count;

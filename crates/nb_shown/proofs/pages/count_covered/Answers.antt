@@ -1,9 +1,5 @@
-use Rattle.std.proofs.Common.{◌≡◌, ℕ, ◌+◌, ◌*◌, ◌<◌, length, sym, ap, ◌∙◌, arith}
-use Rattle.std.specs.Prelude.{not}
-use Rattle.nb_fields.specs.Places.{bits_in}
-use Rattle.nb_page.proofs.QuietLaws.{quiet_joined}
-use Rattle.nb_model.specs.Forms.{is_free_page}
-use Rattle.nb_shown.specs.Counts.{counts_below}
+use Rattle.std.proofs.Common.{◌≡◌, ℕ, ◌+◌, ◌*◌, ◌<◌, length, sym, ap, ◌∙◌, arith, not}
+use Rattle.nb_shown.proofs.Common.{bits_in, is_free_page, counts_below, looks_then}
 use Rattle.nb_shown.proofs.BitLaws.{used_is}
 use Rattle.nb_shown.proofs.ReadCounts.{page_read}
 use Rattle.nb_shown.proofs.pages.count_covered.Goals as goal
@@ -13,9 +9,7 @@ loop-bit-preserved g c =
     let loop = c.loop-bit.invariant in
     let counted = c.in_ok-count_page.ensures in
     record {
-      opened = λ t tells is. counted.open t tells (loop.opened t tells is);
-      same = counted.same ∙ loop.same;
-      quiet = quiet_joined _ _ _ loop.quiet counted.quiet;
+      looks = looks_then loop.looks counted.looks;
       counts = λ k t tells is first map inside so_far.
           let image = t.base.image in
           let number : ℕ = c.args.first + c.loop-bit.bit in
@@ -26,7 +20,7 @@ loop-bit-preserved g c =
           let used : c.is_used.result ≡ not (is_free_page image number) =
           used_is image (length c.args.page.now) k c.loop-bit.bit c.args.map.now (c.requires.room ∙ is.files.agrees.page_size) map c.requires.map within c.is_used.result c.is_used.ensures
           ∙ ap (λ (p : ℕ). not (is_free_page image p)) (sym place) in
-          counted.counts t tells (loop.opened t tells is) low used (loop.counts k t tells is first map inside so_far) ∙ ap (counts_below image) next;
+          counted.counts t tells (loop.looks.opened t tells is) low used (loop.counts k t tells is first map inside so_far) ∙ ap (counts_below image) next;
       sum = omega (arith, counted.sum, loop.sum);
       once = λ tells some. omega (arith, counted.once tells (omega (arith, some)), loop.once tells some);
       front = λ tells. page_read _ _ _ (c.args.first + c.loop-bit.bit) c.loop-bit.bit (counted.once tells) (counted.twice tells) (omega arith) (loop.front tells);

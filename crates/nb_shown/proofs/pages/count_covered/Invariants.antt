@@ -1,19 +1,11 @@
-use Rattle.std.proofs.Common.{◌≡◌, ℕ, ◌+◌, ◌*◌, ◌<◌, ◌≤◌, length}
-use Rattle.std.specs.Prelude.{IsTrue, min}
-use Rattle.nb_fields.specs.Places.{bits_in, inventory_place}
-use Rattle.nb_page.specs.Quiet.{Quiet}
-use Rattle.nb_model.specs.Image.{page_at}
-use Rattle.nb_model.specs.Trail.{Trail}
-use Rattle.nb_state.specs.Open.{IsOpen, but_pages}
-use Rattle.nb_shown.specs.Counts.{counts_below, sum_of}
+use Rattle.std.proofs.Common.{◌≡◌, ℕ, ◌+◌, ◌*◌, ◌<◌, ◌≤◌, length, IsTrue, min}
+use Rattle.nb_shown.proofs.Common.{bits_in, inventory_place, page_at, Trail, IsOpen, counts_below, sum_of, Looks}
 use Rattle.nb_shown.proofs.pages.count_covered.Given as goal
 
 -- the pages so far are counted
 abbrev pub invariant-loop-bit : goal.invariant-loop-bit
 invariant-loop-bit g l = record {
-  opened : (t : Trail) → IsTrue g.H.Host.tells → IsOpen (g.H.Host.world l.fn.host) l.fn.engine t → IsOpen (g.H.Host.world l.host) l.engine t;
-  same : but_pages l.engine ≡ but_pages l.fn.engine;
-  quiet : Quiet (g.H.Host.world l.fn.host) (g.H.Host.world l.host);
+  looks : Looks g.H.Host.tells (g.H.Host.world l.fn.host) (g.H.Host.world l.host) l.fn.engine l.engine;
   counts : (k : ℕ) (t : Trail) → IsTrue g.H.Host.tells → IsOpen (g.H.Host.world l.fn.host) l.fn.engine t → l.first ≡ k * bits_in (length l.fn.page)
       → l.map ≡ page_at t.base.image (inventory_place (length l.fn.page) k) → l.first + l.len ≤ length t.base.image → l.fn.counts ≡ counts_below t.base.image l.first
       → l.counts ≡ counts_below t.base.image (l.first + l.bit);

@@ -1,9 +1,5 @@
-use Rattle.std.proofs.Common.{refl}
-use Rattle.std.specs.Prelude.{true, false}
-use Rattle.nb_fields.specs.Page.{kind_of}
-use Rattle.nb_model.specs.Image.{page_at}
-use Rattle.nb_model.specs.Forms.{is_free_page}
-use Rattle.nb_alloc.proofs.TestLaws.{kind_read}
+use Rattle.std.proofs.Common.{refl, true, false}
+use Rattle.nb_shown.proofs.Common.{kind_of, page_at, is_free_page, kind_read}
 use Rattle.nb_shown.proofs.CountLaws.{counted_next, is_unused, is_used}
 use Rattle.nb_shown.proofs.pages.count_page.Goals as goal
 

@@ -1,6 +1,5 @@
 use Rattle.std.proofs.Common.{◌<◌, ◌≤◌, length, sym, ◌∙◌, arith}
-use Rattle.nb_fields.specs.Kinds.{inventory_kind}
-use Rattle.nb_alloc.proofs.TestLaws.{kind_read, kind_past, kind_other, kind_is}
+use Rattle.nb_shown.proofs.Common.{inventory_kind, kind_read, kind_past, kind_other, kind_is}
 use Rattle.nb_shown.proofs.pages.read_map.Goals as goal
 
 pub returns-then-place-count-clause-reads : goal.returns-then-place-count-clause-reads

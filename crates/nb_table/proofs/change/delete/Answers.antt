@@ -1,13 +1,5 @@
 use Rattle.std.proofs.Common.{ℕ, List, [], replicate, refl}
-use Rattle.nb_model.specs.Causes.{read_only, too_long}
-use Rattle.nb_model.specs.Chains.{RowsFrom, Slot, spots}
-use Rattle.nb_model.specs.Outcomes.{Seen}
-use Rattle.nb_model.specs.Tables.{in_row, delete_turn}
-use Rattle.nb_engine.specs.Replies.{done}
-use Rattle.nb_alloc.proofs.DoesLaws.{seeing, tested_does}
-use Rattle.nb_table.specs.declared.rows.Rows.{Rows}
-use Rattle.nb_table.specs.Rows.{rows_cause}
-use Rattle.nb_table.specs.Walks.{spot_of}
+use Rattle.nb_table.proofs.Common.{read_only, too_long, RowsFrom, Slot, spots, Seen, in_row, delete_turn, done, seeing, tested_does, Rows, rows_cause, spot_of}
 use Rattle.nb_table.proofs.InTableLaws.{chain_formed_from, table_does}
 use Rattle.nb_table.proofs.ChangeLaws.{walked_found, delete_refused, delete_goes}
 use Rattle.nb_table.proofs.change.delete.Goals as goal
@@ -17,7 +9,7 @@ returns-in_err-rows-clause-turn g c s t tells same is =
     let image = t.base.image in
     let table : List ℕ = c.args.table.now in
     let found = c.in_err-rows.ensures in
-    tested_does Rows (Unit {0}) done _ _ _ _ _ _ t s (λ (x : Seen). delete_turn x table c.args.key) (rows_cause image (read_only image) table (too_long [])) c.from_residual.ensures same found.same found.quiet is (found.open t tells is)
+    tested_does Rows (Unit {0}) done _ _ _ _ _ _ t s (λ (x : Seen). delete_turn x table c.args.key) (rows_cause image (read_only image) table (too_long [])) c.from_residual.ensures same found.looks.same found.looks.quiet is (found.looks.opened t tells is)
     (found.test t tells is) (delete_refused (seeing s t.base) table c.args.key)
 
 pub returns-clause-turn : goal.returns-clause-turn
@@ -34,5 +26,5 @@ returns-clause-turn g c s t tells same is =
     let formed = chain_formed_from image (read_only image) table (too_long []) none (spot_of rows.table) at rows.first found.first in
     let row = walked_found rows.first key (spots chain image) rows.walked (found.walked t tells is) in
     let now = seeing s t.base in
-    table_does done c.put_found.result _ _ _ _ _ _ t s (λ (x : Seen). delete_turn x table key) same found.same found.quiet is (in_row now chain key bytes)
-    (delete_goes now table key none (spot_of rows.table) at rows.first found.first bytes refl) (c.put_found.ensures.turn now t chain tells refl (found.open t tells is) formed row)
+    table_does done c.put_found.result _ _ _ _ _ _ t s (λ (x : Seen). delete_turn x table key) same found.looks.same found.looks.quiet is (in_row now chain key bytes)
+    (delete_goes now table key none (spot_of rows.table) at rows.first found.first bytes refl) (c.put_found.ensures.turn now t chain tells refl (found.looks.opened t tells is) formed row)

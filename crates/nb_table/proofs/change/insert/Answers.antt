@@ -1,17 +1,5 @@
-use Rattle.std.proofs.Common.{◌≡◌, ℕ, List, refl, sym, ◌∙◌}
-use Rattle.std.specs.Prelude.{true, false, is_some}
-use Rattle.nb_host.specs.declared.refusals.Refusal.TheVariants.{KeyExists}
-use Rattle.nb_model.specs.declared.reply.Reply.TheVariants.{Done}
-use Rattle.nb_model.specs.Causes.{read_only, too_long}
-use Rattle.nb_model.specs.Chains.{RowsFrom, Slot, found_pages, spots, row_spot, row_slot, place_slot}
-use Rattle.nb_model.specs.Forms.{drafted}
-use Rattle.nb_model.specs.Outcomes.{Seen}
-use Rattle.nb_model.specs.Tables.{insert_turn}
-use Rattle.nb_engine.specs.Replies.{done}
-use Rattle.nb_alloc.proofs.DoesLaws.{seeing, refused_does, tested_does, tries_does, tries_after}
-use Rattle.nb_table.specs.declared.rows.Rows.{Rows}
-use Rattle.nb_table.specs.Rows.{rows_cause, place_cause}
-use Rattle.nb_table.specs.Walks.{spot_of}
+use Rattle.std.proofs.Common.{◌≡◌, ℕ, List, refl, sym, ◌∙◌, true, false, is_some}
+use Rattle.nb_table.proofs.Common.{KeyExists, Done, read_only, too_long, RowsFrom, Slot, found_pages, spots, row_spot, row_slot, place_slot, drafted, Seen, insert_turn, done, seeing, refused_does, tested_does, tries_does, tries_after, Rows, rows_cause, place_cause, spot_of}
 use Rattle.nb_table.proofs.InTableLaws.{chain_formed_from}
 use Rattle.nb_table.proofs.ChangeLaws.{said, key_known, key_new, walked_room, walked_key, insert_refused, insert_goes}
 use Rattle.nb_table.proofs.change.insert.Goals as goal
@@ -22,7 +10,7 @@ returns-in_err-rows-clause-turn g c s t tells same is =
     let table : List ℕ = c.args.table.now in
     let text : List ℕ = c.args.text.now in
     let found = c.in_err-rows.ensures in
-    tested_does Rows (Unit {0}) done _ _ _ _ _ _ t s (λ (x : Seen). insert_turn x table c.args.key text) (rows_cause image (read_only image) table (too_long text)) c.from_residual.ensures same found.same found.quiet is (found.open t tells is)
+    tested_does Rows (Unit {0}) done _ _ _ _ _ _ t s (λ (x : Seen). insert_turn x table c.args.key text) (rows_cause image (read_only image) table (too_long text)) c.from_residual.ensures same found.looks.same found.looks.quiet is (found.looks.opened t tells is)
     (found.test t tells is) (insert_refused (seeing s t.base) table c.args.key text)
 
 pub returns-then-is_some-clause-turn : goal.returns-then-is_some-clause-turn
@@ -36,7 +24,7 @@ returns-then-is_some-clause-turn g c s t tells same is =
     let bytes : Slot = row_slot key text in
     let known : is_some (row_spot key (spots (RowsFrom rows.first) image)) ≡ true =
     sym (walked_key rows.first key (spots (RowsFrom rows.first) image) rows.walked (found.walked t tells is)) ∙ sym c.is_some.ensures ∙ c.if-is_some.true in
-    refused_does done (KeyExists key) _ _ _ _ t s (λ (x : Seen). insert_turn x table key text) same found.same found.quiet is (found.open t tells is)
+    refused_does done (KeyExists key) _ _ _ _ t s (λ (x : Seen). insert_turn x table key text) same found.looks.same found.looks.quiet is (found.looks.opened t tells is)
     (insert_goes (seeing s t.base) table key text (found.test t tells is) (spot_of rows.table) (found.table t tells is) rows.first found.first bytes refl ∙ key_known (seeing s t.base) (RowsFrom rows.first) key bytes known)
 
 pub returns-clause-turn : goal.returns-clause-turn
@@ -58,4 +46,4 @@ returns-clause-turn g c s t tells same is =
     let turn = insert_goes (seeing s t.base) table key text none (spot_of rows.table) at rows.first found.first bytes c.row_bytes-bytes.ensures ∙ key_new (seeing s t.base) chain key bytes new in
     let into = place_slot chain (found_pages chain image) bytes (drafted image) in
     tries_does done c.add_slot.result _ _ _ _ t s (λ (x : Seen). insert_turn x table key text) (place_cause chain image bytes) Done refl into.strokes same turn (said c.add_slot.result)
-    (tries_after c.add_slot.result _ _ _ _ _ _ t (place_cause chain image bytes) into.strokes found.same found.quiet is (c.add_slot.ensures.tries t chain tells (found.open t tells is) refl formed room (found.last t tells is)))
+    (tries_after c.add_slot.result _ _ _ _ _ _ t (place_cause chain image bytes) into.strokes found.looks.same found.looks.quiet is (c.add_slot.ensures.tries t chain tells (found.looks.opened t tells is) refl formed room (found.last t tells is)))

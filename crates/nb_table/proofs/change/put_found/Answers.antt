@@ -1,13 +1,7 @@
 use Rattle.std.proofs.Common.{refl, sym, ◌∙◌}
-use Rattle.nb_host.specs.declared.refusals.Refusal.TheVariants.{NoKey}
-use Rattle.nb_page.proofs.QuietLaws.{quiet_begun}
-use Rattle.nb_model.specs.Outcomes.{Seen}
-use Rattle.nb_model.specs.Chains.{row_spot, spots}
-use Rattle.nb_model.specs.Tables.{in_row}
-use Rattle.nb_engine.specs.Replies.{done}
-use Rattle.nb_alloc.proofs.DoesLaws.{seeing, refused_does}
-use Rattle.nb_table.proofs.PlaceLaws.{found_none}
+use Rattle.nb_table.proofs.Common.{NoKey, quiet_begun, Seen, row_spot, spots, in_row, done, seeing, refused_does}
 use Rattle.nb_table.proofs.ChangeLaws.{row_missing, row_does, found_kind}
+use Rattle.nb_table.proofs.FindLaws.{found_none}
 use Rattle.nb_table.proofs.change.put_found.Goals as goal
 
 pub returns-in_default-clause-turn : goal.returns-in_default-clause-turn

@@ -1,13 +1,5 @@
-use Rattle.std.proofs.Common.{ℕ, List, sym, ap, ◌∙◌, arith}
-use Rattle.std.specs.Prelude.{Option}
-use Rattle.nb_model.specs.Causes.{broken_at}
-use Rattle.nb_model.specs.Chains.{Catalogue, pages_of, spots}
-use Rattle.nb_alloc.proofs.DoesLaws.{tested_on}
-use Rattle.nb_table.specs.declared.look.Place.{Place}
-use Rattle.nb_table.specs.declared.look.Sought.TheVariants.{Table}
-use Rattle.nb_table.specs.declared.look.Walked.{Walked}
-use Rattle.nb_table.specs.Creates.{new_cause}
-use Rattle.nb_table.specs.Walks.{gathered}
+use Rattle.std.proofs.Common.{ℕ, List, sym, ap, ◌∙◌, arith, Option}
+use Rattle.nb_table.proofs.Common.{broken_at, Catalogue, pages_of, spots, tested_on, Place, Table, Walked, new_cause, gathered}
 use Rattle.nb_table.proofs.CreateTurnLaws.{not_whole, exists, too_many, may, table_there, many_used, few_used}
 use Rattle.nb_table.proofs.creating.check_table.Goals as goal
 

@@ -1,23 +1,5 @@
-use Rattle.std.proofs.Common.{◌≡◌, ℕ, List, refl, sym, ap, ◌∙◌, arith}
-use Rattle.std.specs.Prelude.{Option}
-use Rattle.nb_fields.specs.Kinds.{data_kind}
-use Rattle.nb_page.proofs.QuietLaws.{quiet_begun}
-use Rattle.nb_model.specs.declared.reply.Reply.TheVariants.{Done}
-use Rattle.nb_model.specs.Causes.{read_only}
-use Rattle.nb_model.specs.Forms.{is_kind}
-use Rattle.nb_host.specs.declared.refusals.Refusal.TheVariants.{NotDatabase}
-use Rattle.nb_engine.specs.Data.{unmade}
-use Rattle.nb_alloc.proofs.PutLaws.{none_of}
-use Rattle.nb_model.specs.Chains.{Catalogue}
-use Rattle.nb_model.specs.Image.{is_read_only}
-use Rattle.nb_model.specs.Outcomes.{Seen}
-use Rattle.nb_model.specs.Tables.{create_turn}
-use Rattle.nb_model.proofs.TableTurns.{name_short}
-use Rattle.nb_engine.specs.Replies.{done}
-use Rattle.nb_alloc.proofs.DoesLaws.{seeing, tested_does, tries_after, tries_does}
-use Rattle.nb_state.specs.Open.{Held}
-use Rattle.nb_table.specs.declared.look.Place.{Place}
-use Rattle.nb_table.specs.Creates.{new_cause, created_in, created_behind}
+use Rattle.std.proofs.Common.{◌≡◌, ℕ, List, refl, sym, ap, ◌∙◌, arith, Option}
+use Rattle.nb_table.proofs.Common.{data_kind, quiet_begun, Done, read_only, is_kind, NotDatabase, unmade, Catalogue, is_read_only, Seen, create_turn, name_short, done, seeing, tested_does, tries_after, tries_does, Held, Place, new_cause, created_in, created_behind, is_so}
 use Rattle.nb_table.proofs.CreateTurnLaws.{create_denied, create_refused, create_at, create_last, new_formed, place_data}
 use Rattle.nb_table.proofs.PlaceLaws.{last_is_data}
 use Rattle.nb_table.proofs.ChangeLaws.{said}
@@ -38,7 +20,7 @@ returns-in_err-free-clause-turn g c s t tells same is =
     let table : List ℕ = c.args.table.now in
     let closed : c.is_read_only.result ≡ is_read_only image = c.is_read_only.ensures ∙ ap (λ (h : Held). h.read_only) c.store.ensures ∙ is.agrees.read_only in
     let tests = c.in_err-free.ensures in
-    tested_does (Option Place × ℕ) (Unit {0}) done _ _ _ _ _ _ t s (λ (x : Seen). create_turn x table) (new_cause image table) c.from_residual-in_err-free.ensures same tests.same tests.quiet is (tests.open t tells is) (tests.test t tells is)
+    tested_does (Option Place × ℕ) (Unit {0}) done _ _ _ _ _ _ t s (λ (x : Seen). create_turn x table) (new_cause image table) c.from_residual-in_err-free.ensures same tests.looks.same tests.looks.quiet is (tests.looks.opened t tells is) (tests.test t tells is)
     (create_refused (seeing s t.base) table (c.in_ok-check_access.ensures.test image closed))
 
 pub returns-in-Some-clause-turn : goal.returns-in-Some-clause-turn
@@ -50,11 +32,11 @@ returns-in-Some-clause-turn g c s t tells same is =
     let new = tests.test t tells is in
     let place = c.in-Some.place in
     let at = sym c.in-Some.is ∙ tests.room t tells is in
-    let kind = none_of (is_kind image data_kind place.page) (NotDatabase place.page) (place_data image (new_formed image table new) place at).1 in
+    let kind = is_so (is_kind image data_kind place.page) (NotDatabase place.page) (place_data image (new_formed image table new) place at).1 in
     let made = created_in image table place in
     tries_does done c.create_in.result _ _ _ _ t s (λ (x : Seen). create_turn x table) (unmade image made) Done refl made.strokes same
     (create_at (seeing s t.base) table (c.in_ok-check_access.ensures.test image closed) new place at) (said c.create_in.result)
-    (tries_after c.create_in.result _ _ _ _ _ _ t (unmade image made) made.strokes tests.same tests.quiet is (c.create_in.ensures.tries t tells (tests.open t tells is) kind))
+    (tries_after c.create_in.result _ _ _ _ _ _ t (unmade image made) made.strokes tests.looks.same tests.looks.quiet is (c.create_in.ensures.tries t tells (tests.looks.opened t tells is) kind))
 
 pub returns-in-None-clause-turn : goal.returns-in-None-clause-turn
 returns-in-None-clause-turn g c s t tells same is =
@@ -68,7 +50,7 @@ returns-in-None-clause-turn g c s t tells same is =
     let made = created_behind image table in
     tries_does done c.create_behind.result _ _ _ _ t s (λ (x : Seen). create_turn x table) (unmade image made) Done refl made.strokes same
     (create_last (seeing s t.base) table (c.in_ok-check_access.ensures.test image closed) new (sym c.in-None.is ∙ tests.room t tells is)) (said c.create_behind.result)
-    (tries_after c.create_behind.result _ _ _ _ _ _ t (unmade image made) made.strokes tests.same tests.quiet is (c.create_behind.ensures.tries t tells (tests.open t tells is) (record { is = last; kind = kind })))
+    (tries_after c.create_behind.result _ _ _ _ _ _ t (unmade image made) made.strokes tests.looks.same tests.looks.quiet is (c.create_behind.ensures.tries t tells (tests.looks.opened t tells is) (record { is = last; kind = kind })))
 
 pub create_behind-requires-clause-name : goal.create_behind-requires-clause-name
 create_behind-requires-clause-name g c = omega (arith, name_short c.args.table.now c.as_str-name.ensures.name)

@@ -1,11 +1,5 @@
-use Rattle.std.proofs.Common.{◌≡◌, ℕ, List, length}
-use Rattle.std.specs.Prelude.{IsTrue, Ok}
-use Rattle.nb_page.specs.Quiet.{Quiet}
-use Rattle.nb_model.specs.Causes.{lowest_broken}
-use Rattle.nb_model.specs.Chains.{RowsFrom, pages_of}
-use Rattle.nb_model.specs.Trail.{Trail}
-use Rattle.nb_state.specs.Open.{IsOpen, but_pages}
-use Rattle.nb_engine.specs.Find.{need_cause}
+use Rattle.std.proofs.Common.{◌≡◌, ℕ, List, length, IsTrue, Ok}
+use Rattle.nb_table.proofs.Common.{lowest_broken, RowsFrom, pages_of, Trail, IsOpen, need_cause, Looks}
 use Rattle.nb_table.proofs.CheckLaws.{Checks}
 use Rattle.nb_table.proofs.dropping.check_chain.Given as goal
 
@@ -14,9 +8,7 @@ invariant-loop-left g l = record {
   checks : (t : Trail) (pages noted : List ℕ) → IsTrue g.H.Host.tells → IsOpen (g.H.Host.world l.fn.host) l.fn.engine t → pages_of (RowsFrom l.fn.first) t.base.image ≡ Ok pages → need_cause l.fn.before ≡ lowest_broken noted
       → Checks (RowsFrom l.fn.first) t.base.image pages noted l.left l.number l.lacking;
   sized : length l.page ≡ length l.fn.page;
-  opened : (t : Trail) → IsTrue g.H.Host.tells → IsOpen (g.H.Host.world l.fn.host) l.fn.engine t → IsOpen (g.H.Host.world l.host) l.engine t;
-  same : but_pages l.engine ≡ but_pages l.fn.engine;
-  quiet : Quiet (g.H.Host.world l.fn.host) (g.H.Host.world l.host);
+  looks : Looks g.H.Host.tells (g.H.Host.world l.fn.host) (g.H.Host.world l.host) l.fn.engine l.engine;
   cause : g.H.Host.faults l.host ≡ g.H.Host.faults l.fn.host;
 }
 

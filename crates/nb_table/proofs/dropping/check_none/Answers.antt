@@ -1,5 +1,5 @@
 use Rattle.std.proofs.Common.{sym, ap, ◌∙◌}
-use Rattle.nb_engine.specs.Find.{need_cause}
+use Rattle.nb_table.proofs.Common.{need_cause}
 use Rattle.nb_table.proofs.dropping.check_none.Goals as goal
 
 pub returns-in-Some-clause-test : goal.returns-in-Some-clause-test

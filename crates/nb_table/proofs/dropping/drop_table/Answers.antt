@@ -1,14 +1,5 @@
 use Rattle.std.proofs.Common.{ℕ, List, [], refl}
-use Rattle.nb_model.specs.declared.reply.Reply.TheVariants.{Done}
-use Rattle.nb_model.specs.Causes.{read_only, too_long, not_of_form}
-use Rattle.nb_model.specs.Outcomes.{Seen}
-use Rattle.nb_model.specs.Tables.{drop_turn}
-use Rattle.nb_engine.specs.Replies.{done}
-use Rattle.nb_alloc.proofs.DoesLaws.{seeing, tested_does, tries_after, tries_does}
-use Rattle.nb_table.specs.declared.rows.Rows.{Rows}
-use Rattle.nb_table.specs.Drops.{dropped}
-use Rattle.nb_table.specs.Rows.{rows_cause}
-use Rattle.nb_table.specs.Walks.{spot_of}
+use Rattle.nb_table.proofs.Common.{Done, read_only, too_long, not_of_form, Seen, drop_turn, done, seeing, tested_does, tries_after, tries_does, Rows, dropped, rows_cause, spot_of}
 use Rattle.nb_table.proofs.DropTurnLaws.{drop_refused, whole_table, drop_says}
 use Rattle.nb_table.proofs.ChangeLaws.{said}
 use Rattle.nb_table.proofs.dropping.drop_table.Goals as goal
@@ -18,7 +9,7 @@ returns-in_err-rows-clause-turn g c s t tells same is =
     let image = t.base.image in
     let table : List ℕ = c.args.table.now in
     let found = c.in_err-rows.ensures in
-    tested_does Rows (Unit {0}) done _ _ _ _ _ _ t s (λ (x : Seen). drop_turn x table) (rows_cause image (read_only image) table (too_long [])) c.from_residual.ensures same found.same found.quiet is (found.open t tells is)
+    tested_does Rows (Unit {0}) done _ _ _ _ _ _ t s (λ (x : Seen). drop_turn x table) (rows_cause image (read_only image) table (too_long [])) c.from_residual.ensures same found.looks.same found.looks.quiet is (found.looks.opened t tells is)
     (found.test t tells is) (drop_refused (seeing s t.base) table)
 
 pub returns-clause-turn : goal.returns-clause-turn
@@ -36,5 +27,5 @@ returns-clause-turn g c s t tells same is =
     let whole = dropped image spot in
     tries_does done c.drop_rows.result w new c.args.engine.now c.drop_rows.new.engine t s (λ (x : Seen). drop_turn x table) (not_of_form whole) Done refl whole.strokes same
     (drop_says now table none spot has) (said c.drop_rows.result)
-    (tries_after c.drop_rows.result w mid new c.args.engine.now c.find_rows.new.engine c.drop_rows.new.engine t (not_of_form whole) whole.strokes found.same found.quiet is
-    (c.drop_rows.ensures.tries t table tells (found.open t tells is) has))
+    (tries_after c.drop_rows.result w mid new c.args.engine.now c.find_rows.new.engine c.drop_rows.new.engine t (not_of_form whole) whole.strokes found.looks.same found.looks.quiet is
+    (c.drop_rows.ensures.tries t table tells (found.looks.opened t tells is) has))

@@ -1,12 +1,5 @@
-use Rattle.std.proofs.Common.{rules, ◌<◌, refl, ◌∙◌, arith}
-use Rattle.std.specs.Prelude.{None}
-use Rattle.nb_page.proofs.QuietLaws.{quiet_begun}
-use Rattle.nb_model.specs.Chains.{RowsFrom}
-use Rattle.nb_model.specs.Forms.{drafted}
-use Rattle.nb_model.specs.Tables.{all_given}
-use Rattle.nb_state.proofs.MakesLaws.{goes_on, goes_nowhere}
-use Rattle.nb_engine.specs.Tries.{Tries}
-use Rattle.nb_alloc.proofs.DoesLaws.{tries_passed}
+use Rattle.std.proofs.Common.{rules, ◌<◌, refl, ◌∙◌, arith, None}
+use Rattle.nb_table.proofs.Common.{quiet_begun, RowsFrom, drafted, all_given, goes_on, goes_nowhere, Tries, tries_passed}
 use Rattle.nb_table.proofs.GiveLaws.{giving_begun, giving_data, giving_failed, giving_last, giving_onward, giving_over, giving_opened}
 use Rattle.nb_table.proofs.dropping.give_all_back.Goals as goal
 

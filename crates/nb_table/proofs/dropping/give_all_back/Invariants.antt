@@ -1,12 +1,5 @@
-use Rattle.std.proofs.Common.{◌≡◌, ℕ, List, length}
-use Rattle.std.specs.Prelude.{IsTrue, Ok}
-use Rattle.std.specs.List.{AllByRecursion}
-use Rattle.nb_model.specs.Chains.{RowsFrom, pages_of}
-use Rattle.nb_model.proofs.StepLaws.{IsShaped}
-use Rattle.nb_model.specs.Trail.{Trail}
-use Rattle.nb_state.specs.Open.{IsOpen}
-use Rattle.nb_state.specs.Does.{Goes}
-use Rattle.nb_table.specs.Drops.{IsGivable}
+use Rattle.std.proofs.Common.{◌≡◌, ℕ, List, length, IsTrue, Ok}
+use Rattle.nb_table.proofs.Common.{AllByRecursion, RowsFrom, pages_of, IsShaped, Trail, IsOpen, Goes, IsGivable}
 use Rattle.nb_table.proofs.GiveLaws.{IsGiving}
 use Rattle.nb_table.proofs.dropping.give_all_back.Given as goal
 

@@ -1,10 +1,5 @@
-use Rattle.std.proofs.Common.{ℕ, ap, ◌∙◌}
-use Rattle.std.specs.Prelude.{Option, None}
-use Rattle.nb_model.specs.Chains.{next_in}
-use Rattle.nb_engine.specs.Behind.{give_broken}
-use Rattle.nb_engine.specs.Data.{not_data}
-use Rattle.nb_alloc.proofs.DoesLaws.{tested_on}
-use Rattle.nb_table.proofs.InTableLaws.{none_some}
+use Rattle.std.proofs.Common.{ℕ, ap, ◌∙◌, Option, None}
+use Rattle.nb_table.proofs.Common.{next_in, give_broken, not_data, tested_on, none_some, looks_then}
 use Rattle.nb_table.proofs.dropping.look_further.Goals as goal
 
 pub returns-in_err-data_read-clause-test : goal.returns-in_err-data_read-clause-test
@@ -21,7 +16,13 @@ returns-clause-test g c t tells is = (c.in_ok-data_read.ensures.reads t tells is
 
 pub returns-clause-lacking : goal.returns-clause-lacking
 returns-clause-lacking g c t pages tells is e =
-    c.lower.ensures pages (give_broken t.base.image c.args.number) e (c.in_ok-here.ensures.value t tells (c.in_ok-data_read.ensures.open t tells is))
+    c.lower.ensures pages (give_broken t.base.image c.args.number) e (c.in_ok-here.ensures.value t tells (c.in_ok-data_read.ensures.looks.opened t tells is))
 
 pub returns-clause-next : goal.returns-clause-next
 returns-clause-next g c t tells is = c.get-next.ensures.value ∙ ap next_in ((c.in_ok-data_read.ensures.reads t tells is).page)
+
+pub returns-in_err-here-clause-looks : goal.returns-in_err-here-clause-looks
+returns-in_err-here-clause-looks g c = looks_then c.in_ok-data_read.ensures.looks c.in_err-here.ensures.looks
+
+pub returns-clause-looks : goal.returns-clause-looks
+returns-clause-looks g c = looks_then c.in_ok-data_read.ensures.looks c.in_ok-here.ensures.looks

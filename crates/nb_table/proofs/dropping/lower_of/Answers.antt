@@ -1,7 +1,5 @@
-use Rattle.std.proofs.Common.{ℕ, sym, ap, ◌∙◌}
-use Rattle.std.specs.Prelude.{Some}
-use Rattle.nb_host.specs.declared.refusals.Refusal.TheVariants.{NotDatabase}
-use Rattle.nb_engine.specs.Find.{need_cause}
+use Rattle.std.proofs.Common.{ℕ, sym, ap, ◌∙◌, Some}
+use Rattle.nb_table.proofs.Common.{NotDatabase, need_cause}
 use Rattle.nb_table.proofs.CheckLaws.{lower_both, lower_first}
 use Rattle.nb_table.proofs.dropping.lower_of.Goals as goal
 

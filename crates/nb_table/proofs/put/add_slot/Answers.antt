@@ -1,10 +1,5 @@
-use Rattle.std.proofs.Common.{ℕ, List, sym, ◌∙◌}
-use Rattle.std.specs.Prelude.{Ok, Err}
-use Rattle.nb_model.specs.Forms.{drafted}
-use Rattle.nb_model.specs.Chains.{found_pages, place_slot}
-use Rattle.nb_engine.specs.Tries.{Tries}
-use Rattle.nb_alloc.proofs.DoesLaws.{tries_passed}
-use Rattle.nb_table.specs.Rows.{place_cause}
+use Rattle.std.proofs.Common.{ℕ, List, sym, ◌∙◌, Ok, Err}
+use Rattle.nb_table.proofs.Common.{drafted, found_pages, place_slot, Tries, tries_passed, place_cause}
 use Rattle.nb_table.proofs.PlaceLaws.{place_kind, there_tries, behind_tries, last_is_data}
 use Rattle.nb_table.proofs.put.add_slot.Goals as goal
 

@@ -1,7 +1,5 @@
 use Rattle.std.proofs.Common.{sym, ◌∙◌}
-use Rattle.std.proofs.lemmas.Bool.{leb-true}
-use Rattle.nb_model.specs.Chains.{RowsFrom, length_in}
-use Rattle.nb_walk.proofs.SlotLaws.{used_of, filled_of}
+use Rattle.nb_table.proofs.Common.{leb-true, RowsFrom, length_in, used_of, filled_of}
 use Rattle.nb_table.proofs.SortedLaws.{held_free, held_added}
 use Rattle.nb_table.proofs.read.add_row.Goals as goal
 

@@ -1,9 +1,5 @@
-use Rattle.std.proofs.Common.{◌≡◌, ℕ, length, sym, ap, ◌∙◌, arith}
-use Rattle.std.specs.Prelude.{Bool}
-use Rattle.nb_model.specs.Chains.{RowsFrom, Slot, is_slot}
-use Rattle.nb_model.specs.Rows.{rows_in}
-use Rattle.nb_walk.proofs.SlotLaws.{slot_inside, test_first, passes_here, passes_next}
-use Rattle.nb_walk.proofs.SpotLaws.{comes_first, comes_next, comes_last}
+use Rattle.std.proofs.Common.{◌≡◌, ℕ, length, sym, ap, ◌∙◌, arith, Bool}
+use Rattle.nb_table.proofs.Common.{RowsFrom, Slot, is_slot, rows_in, slot_inside, test_first, passes_here, passes_next, comes_first, comes_next, comes_last}
 use Rattle.nb_table.proofs.read.add_rows.Goals as goal
 
 pub loop-slot-init : goal.loop-slot-init

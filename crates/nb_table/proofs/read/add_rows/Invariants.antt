@@ -1,9 +1,5 @@
-use Rattle.std.proofs.Common.{◌≡◌, ℕ, ◌+◌, ◌-◌, ◌*◌, ◌/◌, List, length}
-use Rattle.std.specs.Prelude.{true}
-use Rattle.std.specs.List.{list_all}
-use Rattle.nb_model.specs.Chains.{RowsFrom, Spot, is_slot, slots_from}
-use Rattle.nb_model.specs.Rows.{rows_in}
-use Rattle.nb_walk.proofs.SpotLaws.{Comes}
+use Rattle.std.proofs.Common.{◌≡◌, ℕ, ◌+◌, ◌-◌, ◌*◌, ◌/◌, List, length, true}
+use Rattle.nb_table.proofs.Common.{list_all, RowsFrom, Spot, is_slot, slots_from, rows_in, Comes}
 use Rattle.nb_table.proofs.read.add_rows.Given as goal
 
 abbrev pub invariant-loop-slot : goal.invariant-loop-slot

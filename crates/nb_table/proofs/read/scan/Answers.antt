@@ -1,35 +1,22 @@
-use Rattle.std.proofs.Common.{◌≡◌, ℕ, List, [], ap, sym, subst, ◌∙◌}
-use Rattle.std.specs.Prelude.{None, Err}
-use Rattle.std.specs.BTreeMap.{BTreeMap}
-use Rattle.nb_host.specs.declared.faults.Fault.{Fault}
-use Rattle.nb_page.proofs.QuietLaws.{quiet_joined}
+use Rattle.std.proofs.Common.{◌≡◌, ℕ, List, [], ap, sym, subst, ◌∙◌, None, Err}
+use Rattle.nb_table.proofs.Common.{BTreeMap, Fault, quiet_joined, broken_at, RowsFrom, Spot, pages_of, spots, Seen, says, RowMap, rows_in, scan_turn, Tested, seeing, valued_does, tested_does, Found, spot_of, none_some, looks_then}
 use Rattle.nb_model.specs.declared.reply.Reply.TheVariants.{Rows}
-use Rattle.nb_model.specs.Causes.{broken_at}
-use Rattle.nb_model.specs.Chains.{RowsFrom, Spot, pages_of, spots}
-use Rattle.nb_model.specs.Outcomes.{Seen, says}
-use Rattle.nb_model.specs.Rows.{RowMap, rows_in}
-use Rattle.nb_model.specs.Tables.{scan_turn}
-use Rattle.nb_state.specs.Does.{Tested}
-use Rattle.nb_alloc.proofs.DoesLaws.{seeing, valued_does, tested_does}
-use Rattle.nb_table.specs.declared.look.Found.{Found}
-use Rattle.nb_table.specs.Walks.{spot_of}
 use Rattle.nb_table.proofs.ReadTurns.{scan_missing, scan_broken, scan_says}
-use Rattle.nb_table.proofs.InTableLaws.{none_some}
 use Rattle.nb_table.proofs.read.scan.Goals as goal
 
 pub returns-in_err-found-clause-turn : goal.returns-in_err-found-clause-turn
 returns-in_err-found-clause-turn g c s t tells same is =
     let found = c.in_err-found.ensures in
-    tested_does Found _ Rows _ _ _ _ _ _ t s (λ (x : Seen). scan_turn x c.args.table.now) _ c.from_residual.ensures same found.same found.quiet is (found.open t tells is)
+    tested_does Found _ Rows _ _ _ _ _ _ t s (λ (x : Seen). scan_turn x c.args.table.now) _ c.from_residual.ensures same found.looks.same found.looks.quiet is (found.looks.opened t tells is)
     (found.test t tells is) (scan_missing (seeing s t.base) c.args.table.now)
 
 pub returns-in_err-rows-clause-turn : goal.returns-in_err-rows-clause-turn
 returns-in_err-rows-clause-turn g c s t tells same is =
     let found = c.in_ok-found.ensures in
     let rows = c.in_err-rows.ensures in
-    let still = found.open t tells is in
+    let still = found.looks.opened t tells is in
     let spot : Spot = spot_of c.in_ok-found.found in
-    tested_does (BTreeMap ℕ (List ℕ)) _ Rows _ _ _ _ _ _ t s (λ (x : Seen). scan_turn x c.args.table.now) (broken_at (pages_of (RowsFrom c.first_page.result) t.base.image)) c.from_residual-in_err-rows.ensures same (rows.same ∙ found.same) (quiet_joined _ _ _ found.quiet rows.quiet) is (rows.open t tells still)
+    tested_does (BTreeMap ℕ (List ℕ)) _ Rows _ _ _ _ _ _ t s (λ (x : Seen). scan_turn x c.args.table.now) (broken_at (pages_of (RowsFrom c.first_page.result) t.base.image)) c.from_residual-in_err-rows.ensures same (rows.looks.same ∙ found.looks.same) (quiet_joined _ _ _ found.looks.quiet rows.looks.quiet) is (rows.looks.opened t tells still)
     (rows.test t tells still)
     (λ r e. scan_broken (seeing s t.base) c.args.table.now spot (found.test t tells is) (found.found t tells is) r (ap (λ (n : ℕ). broken_at (pages_of (RowsFrom n) t.base.image)) (sym c.first_page.ensures) ∙ e))
 
@@ -37,18 +24,27 @@ pub returns-in_err-list-clause-turn : goal.returns-in_err-list-clause-turn
 returns-in_err-list-clause-turn g c s t tells same is =
     let found = c.in_ok-found.ensures in
     let rows = c.in_ok-rows.ensures in
-    let still = found.open t tells is in
-    tested_does RowMap _ Rows _ _ _ _ _ _ t s (λ (x : Seen). scan_turn x c.args.table.now) None c.from_residual-in_err-list.ensures same (rows.same ∙ found.same) (quiet_joined _ _ _ found.quiet rows.quiet) is (rows.open t tells still)
+    let still = found.looks.opened t tells is in
+    tested_does RowMap _ Rows _ _ _ _ _ _ t s (λ (x : Seen). scan_turn x c.args.table.now) None c.from_residual-in_err-list.ensures same (rows.looks.same ∙ found.looks.same) (quiet_joined _ _ _ found.looks.quiet rows.looks.quiet) is (rows.looks.opened t tells still)
     (subst (λ (f : Fault). Tested {T = RowMap} (Err f) None) (sym c.in_err-list.ensures.only_memory) tt) (λ r e. absurd (none_some r e))
 
 pub returns-clause-turn : goal.returns-clause-turn
 returns-clause-turn g c s t tells same is =
     let found = c.in_ok-found.ensures in
     let rows = c.in_ok-rows.ensures in
-    let still = found.open t tells is in
+    let still = found.looks.opened t tells is in
     let x : Seen = seeing s t.base in
     let spot : Spot = spot_of c.in_ok-found.found in
     let list : c.in_ok-list.list ≡ rows_in (spots (RowsFrom c.first_page.result) t.base.image) = c.in_ok-list.ensures.rows ∙ rows.rows t tells still in
-    valued_does Rows _ _ _ _ _ t s (λ (y : Seen). scan_turn y c.args.table.now) same (rows.same ∙ found.same) (quiet_joined _ _ _ found.quiet rows.quiet) is (rows.open t tells still)
+    valued_does Rows _ _ _ _ _ t s (λ (y : Seen). scan_turn y c.args.table.now) same (rows.looks.same ∙ found.looks.same) (quiet_joined _ _ _ found.looks.quiet rows.looks.quiet) is (rows.looks.opened t tells still)
     (scan_says x c.args.table.now spot (found.test t tells is) (found.found t tells is) (ap (λ (n : ℕ). broken_at (pages_of (RowsFrom n) t.base.image)) (sym c.first_page.ensures) ∙ rows.test t tells still)
     ∙ ap (λ (n : ℕ). says x (Rows (rows_in (spots (RowsFrom n) t.base.image))) []) (sym c.first_page.ensures) ∙ ap (λ (rs : RowMap). says x (Rows rs) []) (sym list))
+
+pub returns-in_err-rows-clause-looks : goal.returns-in_err-rows-clause-looks
+returns-in_err-rows-clause-looks g c = looks_then c.in_ok-found.ensures.looks c.in_err-rows.ensures.looks
+
+pub returns-in_err-list-clause-looks : goal.returns-in_err-list-clause-looks
+returns-in_err-list-clause-looks g c = looks_then c.in_ok-found.ensures.looks c.in_ok-rows.ensures.looks
+
+pub returns-clause-looks : goal.returns-clause-looks
+returns-clause-looks g c = looks_then c.in_ok-found.ensures.looks c.in_ok-rows.ensures.looks

@@ -1,16 +1,6 @@
-use Rattle.std.proofs.Common.{ℕ, List, refl, sym, ap, subst, ◌∙◌, arith}
-use Rattle.std.specs.Prelude.{IsTrue}
-use Rattle.std.specs.BTreeMap.{BTreeMap}
-use Rattle.nb_fields.specs.Places.{is_page_size}
-use Rattle.nb_page.proofs.QuietLaws.{quiet_begun, quiet_joined}
-use Rattle.nb_model.specs.Causes.{broken_at}
-use Rattle.nb_model.specs.Chains.{RowsFrom, pages_of, slots_in, spots_of, next_in}
-use Rattle.nb_model.specs.Rows.{rows_in}
-use Rattle.nb_alloc.proofs.DoesLaws.{tested_on}
-use Rattle.nb_walk.specs.Walks.{not_linked}
-use Rattle.nb_walk.proofs.WalkLaws.{walks_first, walks_broken, walks_next, walks_none, walks_all, walks_over}
+use Rattle.std.proofs.Common.{ℕ, List, refl, sym, ap, subst, ◌∙◌, arith, IsTrue}
+use Rattle.nb_table.proofs.Common.{BTreeMap, is_page_size, broken_at, RowsFrom, pages_of, slots_in, spots_of, next_in, rows_in, tested_on, not_linked, walks_first, walks_broken, walks_next, walks_none, walks_all, walks_over, spots_found, looks_begun, looks_then}
 use Rattle.nb_table.proofs.SortedLaws.{HoldsRows, any_rows, rows_none, rows_more}
-use Rattle.nb_walk.proofs.SpotLaws.{spots_found}
 use Rattle.nb_table.proofs.read.take_rows.Goals as goal
 
 pub loop-left-init : goal.loop-left-init
@@ -18,9 +8,7 @@ loop-left-init g c = record {
   walks = λ t tells is.
       walks_first (RowsFrom c.args.first) t.base.image (HoldsRows t.base.image c.new-rows.result.entries) c.count-left.result c.args.first (c.count-left.ensures.value ∙ is.files.agrees.count) refl (c.new-rows.ensures.empty ∙ rows_none t.base.image);
   sized = refl;
-  opened = λ t tells is. is;
-  same = refl;
-  quiet = quiet_begun (g.H.Host.world c.args.host.now) (g.met.H.Host.timely c.args.host.now);
+  looks = looks_begun (g.H.Host.world c.args.host.now) (g.met.H.Host.timely c.args.host.now);
   cause = refl;
 }
 
@@ -28,7 +16,7 @@ pub returns-in_err-next-clause-test : goal.returns-in_err-next-clause-test
 returns-in_err-next-clause-test g c t tells is =
     let l = c.loop-left in
     let chain = RowsFrom c.args.first in
-    let still = l.invariant.opened t tells is in
+    let still = l.invariant.looks.opened t tells is in
     tested_on ℕ (BTreeMap ℕ (List ℕ)) _ _ (not_linked chain t.base.image l.number) (broken_at (pages_of chain t.base.image)) c.from_residual.ensures
     (walks_broken chain t.base.image (HoldsRows t.base.image l.rows.entries) l.left l.number c.loop-left-test.true (l.invariant.walks t tells is)) (c.in_err-next.ensures.test t tells still)
 
@@ -36,7 +24,7 @@ pub returns-then-next-eq0-clause-test : goal.returns-then-next-eq0-clause-test
 returns-then-next-eq0-clause-test g c t tells is =
     let l = c.loop-left in
     let image = t.base.image in
-    let still = l.invariant.opened t tells is in
+    let still = l.invariant.looks.opened t tells is in
     let page = c.in_ok-next.ensures.page t tells still in
     walks_none (RowsFrom c.args.first) image (HoldsRows image l.rows.entries) l.left l.number c.loop-left-test.true (l.invariant.walks t tells is) (c.in_ok-next.ensures.test t tells still) (HoldsRows image c.add_rows.new.rows.entries)
     (λ ps was. rows_more image ps l.number c.chain_read.new.page c.add_rows.new.rows.entries page (c.in_ok-add_rows.ensures.rows (spots_of image ps) l.number was)) c.in_ok-next.next (c.in_ok-next.ensures.next ∙ ap next_in page) c.if-next-eq0.true
@@ -45,7 +33,7 @@ pub returns-then-next-eq0-clause-rows : goal.returns-then-next-eq0-clause-rows
 returns-then-next-eq0-clause-rows g c t tells is =
     let l = c.loop-left in
     let image = t.base.image in
-    let still = l.invariant.opened t tells is in
+    let still = l.invariant.looks.opened t tells is in
     let page = c.in_ok-next.ensures.page t tells still in
     walks_all (RowsFrom c.args.first) image (HoldsRows image l.rows.entries) l.left l.number c.loop-left-test.true (l.invariant.walks t tells is) (c.in_ok-next.ensures.test t tells still) (HoldsRows image c.add_rows.new.rows.entries)
     (λ ps was. rows_more image ps l.number c.chain_read.new.page c.add_rows.new.rows.entries page (c.in_ok-add_rows.ensures.rows (spots_of image ps) l.number was)) c.in_ok-next.next (c.in_ok-next.ensures.next ∙ ap next_in page) c.if-next-eq0.true
@@ -57,14 +45,12 @@ loop-left-preserved g c =
     record {
       walks = λ t tells is.
           let image = t.base.image in
-          let still = l.invariant.opened t tells is in
+          let still = l.invariant.looks.opened t tells is in
           let page = c.in_ok-next.ensures.page t tells still in
           walks_next (RowsFrom c.args.first) image (HoldsRows image l.rows.entries) l.left l.number c.loop-left-test.true (l.invariant.walks t tells is) (c.in_ok-next.ensures.test t tells still) (HoldsRows image c.add_rows.new.rows.entries)
           (λ ps was. rows_more image ps l.number c.chain_read.new.page c.add_rows.new.rows.entries page (c.in_ok-add_rows.ensures.rows (spots_of image ps) l.number was)) c.in_ok-next.next (c.in_ok-next.ensures.next ∙ ap next_in page) c.if-next-eq0.false;
       sized = c.in_ok-next.ensures.sized ∙ l.invariant.sized;
-      opened = λ t tells is. c.in_ok-next.ensures.open t tells (l.invariant.opened t tells is);
-      same = c.in_ok-next.ensures.same ∙ l.invariant.same;
-      quiet = quiet_joined _ _ _ l.invariant.quiet c.in_ok-next.ensures.quiet;
+      looks = looks_then l.invariant.looks c.in_ok-next.ensures.looks;
       cause = c.in_ok-next.ensures.cause ∙ l.invariant.cause;
     }
 
@@ -79,3 +65,9 @@ add_rows-requires-clause-size g c =
 
 pub add_rows-requires-clause-form : goal.add_rows-requires-clause-form
 add_rows-requires-clause-form g c = sym (any_rows c.args.first (slots_in c.chain_read.new.page)) ∙ c.in_ok-next.ensures.form
+
+pub returns-in_err-next-clause-looks : goal.returns-in_err-next-clause-looks
+returns-in_err-next-clause-looks g c = looks_then c.loop-left.invariant.looks c.in_err-next.ensures.looks
+
+pub returns-then-next-eq0-clause-looks : goal.returns-then-next-eq0-clause-looks
+returns-then-next-eq0-clause-looks g c = looks_then c.loop-left.invariant.looks c.in_ok-next.ensures.looks

@@ -1,10 +1,5 @@
-use Rattle.std.proofs.Common.{◌≡◌, length}
-use Rattle.std.specs.Prelude.{IsTrue}
-use Rattle.nb_page.specs.Quiet.{Quiet}
-use Rattle.nb_model.specs.Chains.{RowsFrom}
-use Rattle.nb_model.specs.Trail.{Trail}
-use Rattle.nb_state.specs.Open.{IsOpen, but_pages}
-use Rattle.nb_walk.proofs.WalkLaws.{Walks}
+use Rattle.std.proofs.Common.{◌≡◌, length, IsTrue}
+use Rattle.nb_table.proofs.Common.{RowsFrom, Trail, IsOpen, Walks, Looks}
 use Rattle.nb_table.proofs.SortedLaws.{HoldsRows}
 use Rattle.nb_table.proofs.read.take_rows.Given as goal
 
@@ -12,9 +7,7 @@ abbrev pub invariant-loop-left : goal.invariant-loop-left
 invariant-loop-left g l = record {
   walks : (t : Trail) → IsTrue g.H.Host.tells → IsOpen (g.H.Host.world l.fn.host) l.fn.engine t → Walks (RowsFrom l.fn.first) t.base.image (HoldsRows t.base.image l.rows.entries) l.left l.number;
   sized : length l.page ≡ length l.fn.page;
-  opened : (t : Trail) → IsTrue g.H.Host.tells → IsOpen (g.H.Host.world l.fn.host) l.fn.engine t → IsOpen (g.H.Host.world l.host) l.engine t;
-  same : but_pages l.engine ≡ but_pages l.fn.engine;
-  quiet : Quiet (g.H.Host.world l.fn.host) (g.H.Host.world l.host);
+  looks : Looks g.H.Host.tells (g.H.Host.world l.fn.host) (g.H.Host.world l.host) l.fn.engine l.engine;
   cause : g.H.Host.faults l.host ≡ g.H.Host.faults l.fn.host;
 }
 

@@ -1,13 +1,5 @@
 use Rattle.std.proofs.Common.{ℕ, sym, ap, ◌∙◌}
-use Rattle.nb_model.specs.Causes.{read_only, too_long, broken_at}
-use Rattle.nb_model.specs.Chains.{RowsFrom, pages_of}
-use Rattle.nb_state.specs.Open.{Held}
-use Rattle.nb_alloc.proofs.DoesLaws.{tested_on}
-use Rattle.nb_table.specs.declared.look.Found.{Found}
-use Rattle.nb_table.specs.declared.look.Walked.{Walked}
-use Rattle.nb_table.specs.declared.rows.Rows.{Rows}
-use Rattle.nb_table.specs.Rows.{rows_cause}
-use Rattle.nb_table.specs.Walks.{spot_of}
+use Rattle.nb_table.proofs.Common.{read_only, too_long, broken_at, RowsFrom, pages_of, Held, tested_on, Found, Walked, Rows, rows_cause, spot_of, looks_then}
 use Rattle.nb_table.proofs.InTableLaws.{find_cause, before_fails, table_fails, behind_fails, chain_fails, rows_none}
 use Rattle.nb_table.proofs.rows.find_rows.Goals as goal
 
@@ -44,7 +36,7 @@ returns-in_err-walked-clause-test g c t tells is =
     let first : ℕ = c.first_page-first.result in
     tested_on (Walked × ℕ) Rows _ _ (broken_at (pages_of (RowsFrom first) image)) (rows_cause image (read_only image) c.args.table.now (too_long c.args.text.now)) c.from_residual-in_err-walked.ensures
     (λ r e. chain_fails image (read_only image) c.args.table.now (too_long c.args.text.now) free (found.test t tells is) (spot_of c.in_ok-found.found) (found.found t tells is) c.in_ok-check_text.ensures.test r
-    (ap (λ (n : ℕ). broken_at (pages_of (RowsFrom n) image)) (sym c.first_page-first.ensures) ∙ e)) (c.in_err-walked.ensures.test t tells (found.open t tells is))
+    (ap (λ (n : ℕ). broken_at (pages_of (RowsFrom n) image)) (sym c.first_page-first.ensures) ∙ e)) (c.in_err-walked.ensures.test t tells (found.looks.opened t tells is))
 
 pub returns-clause-test : goal.returns-clause-test
 returns-clause-test g c t tells is =
@@ -54,4 +46,10 @@ returns-clause-test g c t tells is =
     let found = c.in_ok-found.ensures in
     let first : ℕ = c.first_page-first.result in
     rows_none image (read_only image) c.args.table.now (too_long c.args.text.now) free (found.test t tells is) (spot_of c.in_ok-found.found) (found.found t tells is) c.in_ok-check_text.ensures.test
-    (ap (λ (n : ℕ). broken_at (pages_of (RowsFrom n) image)) (sym c.first_page-first.ensures) ∙ c.in_ok-walked.ensures.test t tells (found.open t tells is))
+    (ap (λ (n : ℕ). broken_at (pages_of (RowsFrom n) image)) (sym c.first_page-first.ensures) ∙ c.in_ok-walked.ensures.test t tells (found.looks.opened t tells is))
+
+pub returns-in_err-walked-clause-looks : goal.returns-in_err-walked-clause-looks
+returns-in_err-walked-clause-looks g c = looks_then c.in_ok-found.ensures.looks c.in_err-walked.ensures.looks
+
+pub returns-clause-looks : goal.returns-clause-looks
+returns-clause-looks g c = looks_then c.in_ok-found.ensures.looks c.in_ok-walked.ensures.looks

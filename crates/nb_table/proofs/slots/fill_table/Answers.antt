@@ -1,8 +1,5 @@
 use Rattle.std.proofs.Common.{◌≡◌, ◌+◌, ◌-◌, ◌≤◌, ℕ, List, length, replicate, ap, ◌∙◌, arith}
-use borrow.Rule.Slice.PartMut.{put_mid}
-use Rattle.nb_fields.specs.Bytes.{bytes_of, with_part}
-use Rattle.nb_fields.proofs.PartLaws.{put_mid-with_part}
-use Rattle.nb_model.specs.Chains.{table_slot}
+use Rattle.nb_table.proofs.Common.{put_mid, bytes_of, with_part, put_mid-with_part, table_slot}
 use Rattle.nb_table.proofs.SlotLaws.{table_written, name_short}
 use Rattle.nb_table.proofs.slots.fill_table.Goals as goal
 

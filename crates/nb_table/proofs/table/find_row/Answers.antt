@@ -1,11 +1,5 @@
 use Rattle.std.proofs.Common.{ℕ, sym, ap, ◌∙◌}
-use Rattle.nb_host.specs.declared.refusals.Refusal.TheVariants.{NoKey}
-use Rattle.nb_model.specs.Causes.{broken_at}
-use Rattle.nb_model.specs.Chains.{RowsFrom, pages_of, spots, row_spot}
-use Rattle.nb_alloc.proofs.DoesLaws.{tested_on}
-use Rattle.nb_table.specs.declared.look.Found.{Found}
-use Rattle.nb_table.specs.declared.look.Walked.{Walked}
-use Rattle.nb_table.specs.Walks.{spot_of}
+use Rattle.nb_table.proofs.Common.{NoKey, broken_at, RowsFrom, pages_of, spots, row_spot, tested_on, Found, Walked, spot_of}
 use Rattle.nb_table.proofs.FindLaws.{search_cause, search_broken, search_missing, search_found, found_some, found_none}
 use Rattle.nb_table.proofs.table.find_row.Goals as goal
 

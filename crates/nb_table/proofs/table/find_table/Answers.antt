@@ -1,11 +1,5 @@
 use Rattle.std.proofs.Common.{ℕ, List, sym, ap, ◌∙◌}
-use Rattle.nb_host.specs.declared.refusals.Refusal.TheVariants.{NoTable}
-use Rattle.nb_model.specs.Causes.{broken_at}
-use Rattle.nb_model.specs.Chains.{Catalogue, pages_of, table_spot}
-use Rattle.nb_alloc.proofs.DoesLaws.{tested_on}
-use Rattle.nb_table.specs.declared.look.Found.{Found}
-use Rattle.nb_table.specs.declared.look.Walked.{Walked}
-use Rattle.nb_table.specs.Walks.{spot_of}
+use Rattle.nb_table.proofs.Common.{NoTable, broken_at, Catalogue, pages_of, table_spot, tested_on, Found, Walked, spot_of}
 use Rattle.nb_table.proofs.FindLaws.{search_cause, search_broken, search_missing, search_found, found_some, found_none}
 use Rattle.nb_table.proofs.table.find_table.Goals as goal
 

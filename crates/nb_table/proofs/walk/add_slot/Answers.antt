@@ -1,9 +1,5 @@
-use Rattle.std.proofs.Common.{sym, ap, ◌∙◌}
-use Rattle.std.specs.Prelude.{Some, not, min}
-use Rattle.nb_model.specs.Chains.{Spot, is_filled}
-use Rattle.nb_table.specs.declared.look.Found.{Found}
-use Rattle.nb_table.specs.Walks.{chain_of}
-use Rattle.nb_walk.proofs.SlotLaws.{used_of, filled_of}
+use Rattle.std.proofs.Common.{sym, ap, ◌∙◌, Some, not, min}
+use Rattle.nb_table.proofs.Common.{Spot, is_filled, Found, chain_of, used_of, filled_of}
 use Rattle.nb_table.proofs.GatherLaws.{walked_of, found_is, free_first, free_more, counted, used_hit, used_miss, used_more_of}
 use Rattle.nb_table.proofs.walk.add_slot.Goals as goal
 use Rattle.nb_table.proofs.walk.add_slot.Goals.{else-is_none-2-via-then-is_none-2+else-is_in, else-is_none-2-via-else-is_none-2}

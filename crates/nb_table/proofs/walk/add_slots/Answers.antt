@@ -1,9 +1,5 @@
-use Rattle.std.proofs.Common.{◌≡◌, ℕ, length, sym, ap, ◌∙◌, arith}
-use Rattle.std.specs.Prelude.{Bool}
-use Rattle.nb_model.specs.Chains.{Slot, is_slot}
-use Rattle.nb_table.specs.Walks.{chain_of, gathered, IsPlaced}
-use Rattle.nb_walk.proofs.SlotLaws.{slot_inside, test_first, passes_here, passes_next}
-use Rattle.nb_walk.proofs.SpotLaws.{comes_first, comes_last}
+use Rattle.std.proofs.Common.{◌≡◌, ℕ, length, sym, ap, ◌∙◌, arith, Bool}
+use Rattle.nb_table.proofs.Common.{Slot, is_slot, chain_of, gathered, IsPlaced, slot_inside, test_first, passes_here, passes_next, comes_first, comes_last}
 use Rattle.nb_table.proofs.GatherLaws.{gathered_next}
 use Rattle.nb_table.proofs.walk.add_slots.Goals as goal
 

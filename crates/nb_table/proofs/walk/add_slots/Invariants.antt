@@ -1,9 +1,5 @@
-use Rattle.std.proofs.Common.{◌≡◌, ◌+◌, ◌-◌, ◌*◌, ◌/◌, List, length}
-use Rattle.std.specs.Prelude.{IfSome, IsTrue, true}
-use Rattle.std.specs.List.{list_all}
-use Rattle.nb_model.specs.Chains.{Spot, is_slot, is_filled, slots_from}
-use Rattle.nb_table.specs.Walks.{chain_of, gathered, IsPlaced}
-use Rattle.nb_walk.proofs.SpotLaws.{Comes}
+use Rattle.std.proofs.Common.{◌≡◌, ◌+◌, ◌-◌, ◌*◌, ◌/◌, List, length, IfSome, IsTrue, true}
+use Rattle.nb_table.proofs.Common.{list_all, Spot, is_slot, is_filled, slots_from, chain_of, gathered, IsPlaced, Comes}
 use Rattle.nb_table.proofs.walk.add_slots.Given as goal
 
 abbrev pub invariant-loop-slot : goal.invariant-loop-slot

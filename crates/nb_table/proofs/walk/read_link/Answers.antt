@@ -1,11 +1,5 @@
 use Rattle.std.proofs.Common.{ℕ, List, ◌++◌, sym, ap, ◌∙◌}
-use Rattle.std.specs.List.{list_all}
-use Rattle.nb_model.specs.Image.{Page}
-use Rattle.nb_model.specs.Chains.{Chain, Spot, is_slot, slots_in, spots_on, spots_of, next_in}
-use Rattle.nb_alloc.proofs.DoesLaws.{tested_on}
-use Rattle.nb_walk.specs.Walks.{not_linked}
-use Rattle.nb_table.specs.Walks.{chain_of, gathered}
-use Rattle.nb_walk.proofs.SpotLaws.{spots_more}
+use Rattle.nb_table.proofs.Common.{list_all, Page, Chain, Spot, is_slot, slots_in, spots_on, spots_of, next_in, tested_on, not_linked, chain_of, gathered, spots_more}
 use Rattle.nb_table.proofs.walk.read_link.Goals as goal
 
 pub returns-in_err-next-clause-test : goal.returns-in_err-next-clause-test

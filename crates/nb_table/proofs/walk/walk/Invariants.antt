@@ -1,12 +1,6 @@
-use Rattle.std.proofs.Common.{◌≡◌, ◌+◌, ◌-◌, ◌≤◌, length}
-use Rattle.std.specs.Prelude.{IsTrue, IfSome}
-use Rattle.nb_page.specs.Quiet.{Quiet}
-use Rattle.nb_model.specs.Chains.{is_filled}
-use Rattle.nb_model.specs.Trail.{Trail}
-use Rattle.nb_state.specs.Open.{IsOpen, but_pages}
-use Rattle.nb_table.specs.Walks.{chain_of, IsPlaced}
+use Rattle.std.proofs.Common.{◌≡◌, ◌+◌, ◌-◌, ◌≤◌, length, IsTrue, IfSome}
+use Rattle.nb_table.proofs.Common.{is_filled, Trail, IsOpen, chain_of, IsPlaced, Walks, Looks}
 use Rattle.nb_table.proofs.GatherLaws.{Gathers}
-use Rattle.nb_walk.proofs.WalkLaws.{Walks}
 use Rattle.nb_table.proofs.walk.walk.Given as goal
 
 abbrev pub invariant-loop-left : goal.invariant-loop-left
@@ -17,9 +11,7 @@ invariant-loop-left g l = record {
   room : IfSome l.walked.room (IsPlaced l.fn.engine.files.page_size);
   few : l.left ≤ l.fn.engine.files.count;
   sized : length l.page ≡ length l.fn.page;
-  opened : (t : Trail) → IsTrue g.H.Host.tells → IsOpen (g.H.Host.world l.fn.host) l.fn.engine t → IsOpen (g.H.Host.world l.host) l.engine t;
-  same : but_pages l.engine ≡ but_pages l.fn.engine;
-  quiet : Quiet (g.H.Host.world l.fn.host) (g.H.Host.world l.host);
+  looks : Looks g.H.Host.tells (g.H.Host.world l.fn.host) (g.H.Host.world l.host) l.fn.engine l.engine;
   once : IsTrue g.H.Host.tells → (g.H.Host.world l.host).reads ≤ (g.H.Host.world l.fn.host).reads + (l.fn.engine.files.count - l.left);
   cause : g.H.Host.faults l.host ≡ g.H.Host.faults l.fn.host;
 }

@@ -1,28 +1,12 @@
-use Rattle.std.proofs.Common.{[], ◌≡◌, refl, sym, ap, subst, ◌∙◌}
-use Rattle.std.specs.Prelude.{Some, Ok, Err}
-use Rattle.nb_host.specs.Files.{Files}
-use Rattle.nb_host.specs.declared.faults.Fault.TheVariants.{Refused}
-use Rattle.nb_host.specs.declared.refusals.Refusal.TheVariants.{FileExists}
+use Rattle.std.proofs.Common.{[], ◌≡◌, refl, sym, ap, subst, ◌∙◌, Some, Ok, Err}
+use Rattle.nb_top.proofs.Common.{Files, Refused, FileExists, SaysLine, Changes, Only, Remade, is_free_name, generated, line_text, IsKept, IsUnfinishedOr, IsAnswer, script_of, grows_none, grows_joined, IsScriptText, generated_text, EndsEarly, Runs, ToGenerate, quiet_gave}
 use Rattle.nb_host.specs.declared.faults.RunError.TheVariants.{Memory}
 use Rattle.nb_model.specs.declared.reply.Reply.TheVariants.{Refused as RefusedReply}
-use Rattle.nb_session.specs.Says.{SaysLine}
-use Rattle.nb_change.specs.Changes.{Changes, Only, Remade}
-use Rattle.nb_page.specs.Free.{is_free_name}
-use Rattle.nb_model.specs.Generated.{generated}
-use Rattle.nb_model.specs.Lines.{line_text}
-use Rattle.nb_gather.specs.Making.{IsKept, IsUnfinishedOr}
-use Rattle.nb_script.specs.Scripts.{IsAnswer, script_of}
-use Rattle.nb_session.proofs.GiftLaws.{grows_none, grows_joined}
-use Rattle.nb_gen.specs.Texts.{IsScriptText}
-use Rattle.nb_gen.proofs.GeneratedScript.{generated_text}
-use Rattle.nb_top.specs.ByTurns.{EndsEarly}
-use Rattle.nb_top.specs.Requests.{Runs, ToGenerate}
 use Rattle.nb_top.proofs.ByTurnsLaws.{number_taken}
 use Rattle.nb_top.proofs.GeneratedGoes.{writing_goes, written_goes}
 use Rattle.nb_top.proofs.GeneratedRuns.{taken_refused}
 use Rattle.nb_top.proofs.GoesLaws.{goes_quietly, goes_refused, goes_undone}
 use Rattle.nb_top.proofs.JobRuns.{script_number}
-use Rattle.nb_top.proofs.QuietRuns.{quiet_gave}
 use Rattle.nb_top.proofs.ScriptRuns.{settled_value, settled_refusal}
 use Rattle.nb_top.proofs.generating.run_generated.Goals as goal
 

@@ -1,4 +1,4 @@
-use Rattle.nb_top.specs.OneTurn.{one_turn}
+use Rattle.nb_top.proofs.Common.{one_turn}
 use Rattle.nb_top.proofs.NextRuns.{next_run, next_turn}
 use Rattle.nb_top.proofs.laws.a_next_run_may_begin_at_once.Goals as goal
 

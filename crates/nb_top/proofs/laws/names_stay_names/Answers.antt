@@ -1,5 +1,4 @@
-use Rattle.nb_top.specs.Requests.{request_asked}
-use Rattle.nb_top.specs.Touched.{OfAsked}
+use Rattle.nb_top.proofs.Common.{request_asked, OfAsked}
 use Rattle.nb_top.proofs.NamesStay.{asked_named, names_at, names_from, names_then}
 use Rattle.nb_top.proofs.OthersStay.{others_stay}
 use Rattle.nb_top.proofs.laws.names_stay_names.Goals as goal

@@ -1,5 +1,5 @@
 use Rattle.std.proofs.Common.{refl}
-use Rattle.nb_top.specs.Worlds.{account_of}
+use Rattle.nb_top.proofs.Common.{account_of}
 use Rattle.nb_top.proofs.KnownLaws.{known_asked, stands_known}
 use Rattle.nb_top.proofs.laws.what_stands_is_known.Goals as goal
 

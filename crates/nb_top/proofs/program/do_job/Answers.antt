@@ -1,12 +1,6 @@
-use Rattle.std.proofs.Common.{◌≡◌, ◌∙◌, ℕ, List, refl, sym, subst}
-use Rattle.std.specs.Prelude.{Err}
-use Rattle.nb_host.specs.declared.faults.Fault.{Fault}
-use Rattle.nb_host.specs.declared.refusals.Refusal.TheVariants.{Usage}
+use Rattle.std.proofs.Common.{◌≡◌, ◌∙◌, ℕ, List, refl, sym, subst, Err}
+use Rattle.nb_top.proofs.Common.{Fault, Usage, quiet_begun, Goes, IsAskedBy, IsReadJob, Runs, request_asked, IsShownOf}
 use Rattle.nb_host.specs.declared.faults.RunError.TheVariants.{Memory as MemoryError}
-use Rattle.nb_page.proofs.QuietLaws.{quiet_begun}
-use Rattle.nb_top.specs.Goes.{Goes}
-use Rattle.nb_top.specs.Requests.{IsAskedBy, IsReadJob, Runs, request_asked}
-use Rattle.nb_top.specs.Shown.{IsShownOf}
 use Rattle.nb_top.proofs.GoesLaws.{goes_refused, goes_undone}
 use Rattle.nb_top.proofs.JobRuns.{usage_number}
 use Rattle.nb_top.proofs.RequestLaws.{CanBeMet, can_be_asked}

@@ -1,12 +1,5 @@
-use Rattle.std.proofs.Common.{◌≡◌, ◌≤◌, [], length, refl, sym, subst}
-use Rattle.std.specs.Prelude.{Some, Ok, Err, IfOk}
-use Rattle.nb_host.specs.declared.faults.Fault.TheVariants.{Refused}
-use Rattle.nb_page.proofs.QuietLaws.{quiet_begun}
-use Rattle.nb_catalog.specs.Answers.{Says}
-use Rattle.nb_catalog.specs.NameLists.{list_of}
-use Rattle.nb_top.specs.Goes.{Goes}
-use Rattle.nb_top.specs.Requests.{to_plan}
-use Rattle.nb_top.specs.Shown.{IsShownOf}
+use Rattle.std.proofs.Common.{◌≡◌, ◌≤◌, [], length, refl, sym, subst, Some, Ok, Err, IfOk}
+use Rattle.nb_top.proofs.Common.{Refused, quiet_begun, Says, list_of, Goes, to_plan, IsShownOf}
 use Rattle.nb_top.proofs.GoesLaws.{goes_refused, goes_undone}
 use Rattle.nb_top.proofs.Lists.{list_number}
 use Rattle.nb_top.proofs.RequestLaws.{list_can}

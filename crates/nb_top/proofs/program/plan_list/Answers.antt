@@ -1,14 +1,5 @@
-use Rattle.std.proofs.Common.{◌≡◌, ◌≢◌, ◌∙◌, ℕ, List, ap, refl, sym, subst}
-use Rattle.std.specs.Prelude.{Ok, Err, IsTrue}
-use Rattle.nb_host.specs.declared.faults.Fault.TheVariants.{Refused}
-use Rattle.nb_host.specs.declared.refusals.Refusal.{Refusal}
-use Rattle.nb_host.specs.declared.refusals.Refusal.TheVariants.{BadScript}
-use Rattle.nb_catalog.specs.NameLists.{list_of}
-use Rattle.nb_catalog.specs.Turns.{names_in}
-use Rattle.nb_top.specs.Goes.{Goes}
-use Rattle.nb_top.specs.Performed.{IsFileRead}
-use Rattle.nb_top.specs.Requests.{Runs, to_plan}
-use Rattle.nb_top.specs.Shown.{IsShownOf}
+use Rattle.std.proofs.Common.{◌≡◌, ◌≢◌, ◌∙◌, ℕ, List, ap, refl, sym, subst, Ok, Err, IsTrue}
+use Rattle.nb_top.proofs.Common.{Refused, Refusal, BadScript, list_of, names_in, Goes, IsFileRead, Runs, to_plan, IsShownOf}
 use Rattle.nb_top.proofs.GoesLaws.{goes_refused, goes_same, goes_undone}
 use Rattle.nb_top.proofs.Lists.{list_number, plan_quietly, unread_list}
 use Rattle.nb_top.proofs.RequestLaws.{listed_can}

@@ -1,4 +1,4 @@
-use Rattle.std.specs.Prelude.{map, string_bytes}
+use Rattle.std.proofs.Common.{map, string_bytes}
 use Rattle.nb_top.proofs.RequestLaws.{read_asks, read_fits}
 use Rattle.nb_top.proofs.program.run.Goals as goal
 

@@ -1,9 +1,5 @@
-use Rattle.std.proofs.Common.{◌≡◌, subst}
-use Rattle.std.specs.Prelude.{Ok, IfOk}
-use Rattle.nb_page.proofs.QuietLaws.{quiet_begun}
-use Rattle.nb_model.specs.Jobs.{asks_of}
-use Rattle.nb_top.specs.Goes.{Goes}
-use Rattle.nb_top.specs.Requests.{Runs, ToRun, attached, plan_of}
+use Rattle.std.proofs.Common.{◌≡◌, subst, Ok, IfOk}
+use Rattle.nb_top.proofs.Common.{quiet_begun, asks_of, Goes, Runs, ToRun, attached, plan_of}
 use Rattle.nb_top.proofs.GoesLaws.{goes_undone}
 use Rattle.nb_top.proofs.ScriptRuns.{settled_value}
 use Rattle.nb_top.proofs.program.run_asking.Goals as goal

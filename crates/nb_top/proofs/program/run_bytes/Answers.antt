@@ -1,10 +1,5 @@
-use Rattle.std.proofs.Common.{[], ◌≡◌, ap, refl, sym, subst}
-use Rattle.std.specs.Prelude.{Some, Ok, Err}
-use Rattle.nb_host.specs.declared.faults.Fault.TheVariants.{Refused}
-use Rattle.nb_page.proofs.QuietLaws.{quiet_begun}
-use Rattle.nb_script.specs.Scripts.{IsAnswer, script_of}
-use Rattle.nb_top.specs.Goes.{Goes}
-use Rattle.nb_top.specs.Requests.{Runs, to_run}
+use Rattle.std.proofs.Common.{[], ◌≡◌, ap, refl, sym, subst, Some, Ok, Err}
+use Rattle.nb_top.proofs.Common.{Refused, quiet_begun, IsAnswer, script_of, Goes, Runs, to_run}
 use Rattle.nb_top.proofs.GoesLaws.{goes_refused, goes_undone}
 use Rattle.nb_top.proofs.JobRuns.{script_number}
 use Rattle.nb_top.proofs.RequestLaws.{spelled_can}

@@ -1,13 +1,5 @@
-use Rattle.std.proofs.Common.{◌≡◌, ◌∙◌, ℕ, List, ap, refl, sym, subst}
-use Rattle.std.specs.Prelude.{Ok, Err, IsTrue}
-use Rattle.nb_host.specs.declared.faults.Fault.TheVariants.{Refused}
-use Rattle.nb_host.specs.declared.refusals.Refusal.{Refusal}
-use Rattle.nb_host.specs.declared.refusals.Refusal.TheVariants.{BadScript}
-use Rattle.nb_script.specs.Scripts.{script_of}
-use Rattle.nb_top.specs.Goes.{Goes}
-use Rattle.nb_top.specs.Performed.{IsFileRead}
-use Rattle.nb_top.specs.Requests.{Runs, script_in, to_run}
-use Rattle.nb_top.specs.Shown.{IsShownOf}
+use Rattle.std.proofs.Common.{◌≡◌, ◌∙◌, ℕ, List, ap, refl, sym, subst, Ok, Err, IsTrue}
+use Rattle.nb_top.proofs.Common.{Refused, Refusal, BadScript, script_of, Goes, IsFileRead, Runs, script_in, to_run, IsShownOf}
 use Rattle.nb_top.proofs.GoesLaws.{goes_quietly, goes_refused, goes_same, goes_undone}
 use Rattle.nb_top.proofs.JobRuns.{script_number}
 use Rattle.nb_top.proofs.RequestLaws.{script_can}

@@ -1,5 +1,5 @@
 use Rattle.std.proofs.Common.{subst}
-use Rattle.nb_top.specs.Requests.{FitsJob}
+use Rattle.nb_top.proofs.Common.{FitsJob}
 use Rattle.nb_top.proofs.RequestLaws.{attach_askable}
 use Rattle.nb_top.proofs.ShownLaws.{deed_unbroken, goes_as, run_unbroken, shown_as, unshown}
 use Rattle.nb_top.proofs.program.run_job.Goals as goal

@@ -1,11 +1,5 @@
-use Rattle.std.proofs.Common.{◌≡◌, ℕ, List, sym, subst}
-use Rattle.std.specs.Prelude.{Result, IfOk}
-use Rattle.nb_host.specs.declared.faults.Fault.{Fault}
-use Rattle.nb_model.specs.declared.job.Ask.{Ask}
-use Rattle.nb_model.specs.declared.job.Ask.TheVariants.{Backup, BackupSince}
-use Rattle.nb_model.specs.Jobs.{asks_of}
-use Rattle.nb_script.specs.Scripts.{Plan}
-use Rattle.nb_top.specs.Requests.{plan_of}
+use Rattle.std.proofs.Common.{◌≡◌, ℕ, List, sym, subst, Result, IfOk}
+use Rattle.nb_top.proofs.Common.{Fault, Ask, Backup, BackupSince, asks_of, Plan, plan_of}
 use Rattle.nb_top.proofs.request.script_asking.Goals as goal
 
 abbrev Asks : Result Plan Fault → (db : List ℕ) → Ask → Type 0

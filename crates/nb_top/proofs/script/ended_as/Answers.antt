@@ -1,10 +1,6 @@
-use Rattle.std.proofs.Common.{refl, sym, subst}
-use Rattle.std.specs.Prelude.{Bool, Result, Ok, Err}
-use Rattle.nb_host.specs.Causes.{CountsRun}
-use Rattle.nb_host.specs.declared.faults.RunError.{RunError}
+use Rattle.std.proofs.Common.{refl, sym, subst, Bool, Result, Ok, Err}
+use Rattle.nb_top.proofs.Common.{CountsRun, RunError, Status, EndsAs}
 use Rattle.nb_session.proofs.StepLaws.{counts_handed}
-use Rattle.nb_top.specs.declared.status.Status.{Status}
-use Rattle.nb_top.specs.Numbers.{EndsAs}
 use Rattle.nb_top.proofs.script.ended_as.Goals as goal
 
 pub returns-in-Ok-clause-ended : goal.returns-in-Ok-clause-ended

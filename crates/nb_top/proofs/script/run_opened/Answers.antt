@@ -1,11 +1,5 @@
-use Rattle.std.proofs.Common.{[], ap, refl, ◌∙◌}
-use Rattle.std.specs.Prelude.{Bool, Err, IsErr}
-use Rattle.nb_host.specs.declared.faults.RunError.{RunError}
-use Rattle.nb_model.specs.Steps.{after_steps}
-use Rattle.nb_model.specs.Trail.{settled}
-use Rattle.nb_session.proofs.GiftLaws.{grows_none, grows_joined}
-use Rattle.nb_top.specs.ByTurns.{RunsOpened}
-use Rattle.nb_top.specs.Performed.{first_event, opened_reply, told_first, told_later}
+use Rattle.std.proofs.Common.{[], ap, refl, ◌∙◌, Bool, Err, IsErr}
+use Rattle.nb_top.proofs.Common.{RunError, after_steps, settled, grows_none, grows_joined, RunsOpened, first_event, opened_reply, told_first, told_later}
 use Rattle.nb_top.proofs.ByTurnsLaws.{reply_said_by, reply_unsaid_by}
 use Rattle.nb_top.proofs.OpenedSaid.{opened_err, reply_unsaid, reply_said_then, ready_still}
 use Rattle.nb_top.proofs.QuietRuns.{foretold_from}

@@ -1,18 +1,6 @@
-use Rattle.std.proofs.Common.{[], ◌≡◌, ℕ, ap, sym, subst, ◌∙◌}
-use Rattle.std.specs.Prelude.{Ok, Err, IfOk, IsTrue}
-use Rattle.nb_host.specs.Causes.{CountsRun}
-use Rattle.nb_host.specs.declared.faults.Fault.TheVariants.{Refused}
-use Rattle.nb_change.specs.Gave.{GaveNothing}
+use Rattle.std.proofs.Common.{[], ◌≡◌, ℕ, ap, sym, subst, ◌∙◌, Ok, Err, IfOk, IsTrue}
+use Rattle.nb_top.proofs.Common.{CountsRun, Refused, GaveNothing, Account, Foretells, line_text, Given, grows_none, grows_joined, says_other, EndsEarly, Knows, MayBeGiven, RunsTo, cache_asked, ToRun}
 use Rattle.nb_model.specs.declared.reply.Reply.TheVariants.{Refused as RefusedReply}
-use Rattle.nb_model.specs.Account.{Account}
-use Rattle.nb_model.specs.Gifts.{Foretells}
-use Rattle.nb_model.specs.Lines.{line_text}
-use Rattle.nb_model.specs.Outcomes.{Given}
-use Rattle.nb_session.proofs.GiftLaws.{grows_none, grows_joined}
-use Rattle.nb_session.proofs.SaysLaws.{says_other}
-use Rattle.nb_top.specs.ByTurns.{EndsEarly}
-use Rattle.nb_top.specs.Performed.{Knows, MayBeGiven, RunsTo, cache_asked}
-use Rattle.nb_top.specs.Requests.{ToRun}
 use Rattle.nb_top.proofs.Beginnings.{Beginning, script_refused, script_now, script_todo, script_given, script_ready, script_making, script_trail, script_ran, script_by_turns}
 use Rattle.nb_top.proofs.ByTurnsLaws.{early_err, ended_early, script_early, script_none}
 use Rattle.nb_top.proofs.BegunRuns.{start}

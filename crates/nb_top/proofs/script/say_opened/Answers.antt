@@ -1,7 +1,5 @@
 use Rattle.std.proofs.Common.{ap, ◌∙◌}
-use Rattle.nb_model.specs.Lines.{line_text}
-use Rattle.nb_session.proofs.SaysLaws.{says_other}
-use Rattle.nb_top.specs.Performed.{opened_reply}
+use Rattle.nb_top.proofs.Common.{line_text, says_other, opened_reply}
 use Rattle.nb_top.proofs.script.say_opened.Goals as goal
 
 pub returns-in-All-clause-line : goal.returns-in-All-clause-line

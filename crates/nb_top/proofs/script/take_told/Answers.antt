@@ -1,5 +1,5 @@
 use Rattle.std.proofs.Common.{ap, ◌∙◌}
-use Rattle.nb_top.specs.Performed.{told_later}
+use Rattle.nb_top.proofs.Common.{told_later}
 use Rattle.nb_top.proofs.ByTurnsLaws.{told_as}
 use Rattle.nb_top.proofs.script.take_told.Goals as goal
 

@@ -1,8 +1,5 @@
-use Rattle.std.specs.Prelude.{Ok, Err}
-use Rattle.nb_chain.proofs.AnswerLaws.{passed}
-use Rattle.nb_model.specs.Jobs.{fixup_turn}
-use Rattle.nb_top.specs.OneTurn.{fixing}
-use Rattle.nb_top.specs.Served.{Serves}
+use Rattle.std.proofs.Common.{Ok, Err}
+use Rattle.nb_top.proofs.Common.{fixup_turn, fixing, Serves, passed}
 use Rattle.nb_top.proofs.Fixed.{fix_serves}
 use Rattle.nb_top.proofs.turn.fixed.Goals as goal
 

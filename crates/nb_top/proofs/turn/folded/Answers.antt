@@ -1,9 +1,5 @@
-use Rattle.std.proofs.Common.{arith}
-use Rattle.std.specs.Prelude.{Ok, Err}
-use Rattle.nb_chain.proofs.AnswerLaws.{passed}
-use Rattle.nb_fold.specs.Verdict.{fold_turn}
-use Rattle.nb_top.specs.OneTurn.{folding}
-use Rattle.nb_top.specs.Served.{Serves}
+use Rattle.std.proofs.Common.{arith, Ok, Err}
+use Rattle.nb_top.proofs.Common.{fold_turn, folding, Serves, passed}
 use Rattle.nb_top.proofs.Folded.{fold_serves}
 use Rattle.nb_top.proofs.turn.folded.Goals as goal
 

@@ -1,8 +1,5 @@
-use Rattle.std.specs.Prelude.{Ok, Err}
-use Rattle.nb_chain.proofs.AnswerLaws.{passed}
-use Rattle.nb_model.specs.Jobs.{apply_turn}
-use Rattle.nb_top.specs.OneTurn.{merging}
-use Rattle.nb_top.specs.Served.{Serves}
+use Rattle.std.proofs.Common.{Ok, Err}
+use Rattle.nb_top.proofs.Common.{apply_turn, merging, Serves, passed}
 use Rattle.nb_top.proofs.Merged.{merge_serves}
 use Rattle.nb_top.proofs.turn.merged.Goals as goal
 

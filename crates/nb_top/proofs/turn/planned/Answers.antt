@@ -1,10 +1,6 @@
 use Rattle.std.proofs.Common.{◌∙◌, List, ℕ, ap, ap₂}
-use Rattle.nb_chain.proofs.AnswerLaws.{passed}
+use Rattle.nb_top.proofs.Common.{plan_turn, Planned, planning, Serves, passed}
 use Rattle.nb_catalog.specs.Chained.{names_at}
-use Rattle.nb_catalog.specs.Turns.{plan_turn}
-use Rattle.nb_model.specs.declared.reply.Reply.TheVariants.{Planned}
-use Rattle.nb_top.specs.OneTurn.{planning}
-use Rattle.nb_top.specs.Served.{Serves}
 use Rattle.nb_top.proofs.Planned.{failed_plan, lacking_plan, plan_serves}
 use Rattle.nb_top.proofs.turn.planned.Goals as goal
 

@@ -1,8 +1,5 @@
-use Rattle.std.specs.Prelude.{Ok, Err}
-use Rattle.nb_chain.proofs.AnswerLaws.{passed}
-use Rattle.nb_model.specs.Jobs.{restore_turn}
-use Rattle.nb_top.specs.OneTurn.{restoring}
-use Rattle.nb_top.specs.Served.{Serves}
+use Rattle.std.proofs.Common.{Ok, Err}
+use Rattle.nb_top.proofs.Common.{restore_turn, restoring, Serves, passed}
 use Rattle.nb_top.proofs.Restored.{restore_serves}
 use Rattle.nb_top.proofs.turn.restored.Goals as goal
 

@@ -1,13 +1,6 @@
-use Rattle.std.proofs.Common.{sym, subst}
-use Rattle.std.specs.Prelude.{Bool, IsTrue, Result}
-use Rattle.nb_host.specs.World.{World}
-use Rattle.nb_host.specs.declared.faults.Fault.{Fault}
-use Rattle.nb_model.specs.declared.job.Deed.{Deed}
-use Rattle.nb_model.specs.declared.job.Deed.TheVariants.{Restore, Fold, Plan}
-use Rattle.nb_model.specs.declared.reply.Reply.{Reply}
-use Rattle.nb_model.specs.Account.{Account}
-use Rattle.nb_top.specs.OneTurn.{one_turn}
-use Rattle.nb_top.specs.Served.{Serves}
+use Rattle.std.proofs.Common.{sym, subst, Bool, IsTrue, Result}
+use Rattle.nb_top.proofs.Common.{World, Fault, Deed, Restore, Fold, Reply, Account, one_turn, Serves}
+use Rattle.nb_model.specs.declared.job.Deed.TheVariants.{Plan}
 use Rattle.nb_top.proofs.turn.take_turn.Goals as goal
 
 abbrev IsTaken : (tells : Bool) → Result Reply Fault → (old new : World) → Deed → Type 0

@@ -1,8 +1,5 @@
-use Rattle.std.proofs.Common.{length, sym, ap, ◌∙◌, arith}
-use Rattle.std.specs.Prelude.{Bool}
-use Rattle.std.specs.List.{list_all}
-use Rattle.nb_model.specs.Chains.{Slot, is_slot, slots_in}
-use Rattle.nb_walk.specs.Walks.{chain_by}
+use Rattle.std.proofs.Common.{length, sym, ap, ◌∙◌, arith, Bool}
+use Rattle.nb_walk.proofs.Common.{list_all, Slot, is_slot, slots_in, chain_by}
 use Rattle.nb_walk.proofs.SlotLaws.{slot_inside, test_first, test_here, test_next, test_last}
 use Rattle.nb_walk.proofs.page.are_slots.Goals as goal
 

@@ -1,7 +1,5 @@
 use Rattle.std.proofs.Common.{◌≡◌, ◌+◌, ◌-◌, ◌*◌, ◌/◌, length}
-use Rattle.std.specs.List.{list_all}
-use Rattle.nb_model.specs.Chains.{is_slot, slots_from, slots_in}
-use Rattle.nb_walk.specs.Walks.{chain_by}
+use Rattle.nb_walk.proofs.Common.{list_all, is_slot, slots_from, slots_in, chain_by}
 use Rattle.nb_walk.proofs.page.are_slots.Given as goal
 
 abbrev pub invariant-loop-slot : goal.invariant-loop-slot

@@ -1,6 +1,5 @@
 use Rattle.std.proofs.Common.{sym, ◌∙◌}
-use Rattle.nb_model.proofs.ReadLaws.{eq_no}
-use Rattle.nb_walk.specs.Walks.{chain_by}
+use Rattle.nb_walk.proofs.Common.{eq_no, chain_by}
 use Rattle.nb_walk.proofs.SlotLaws.{slot_free, slot_used, slot_other}
 use Rattle.nb_walk.proofs.page.is_slot.Goals as goal
 

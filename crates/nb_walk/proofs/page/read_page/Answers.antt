@@ -1,10 +1,6 @@
 use Rattle.std.proofs.Common.{ℕ, sym, ap, ◌∙◌}
-use Rattle.std.specs.List.{list_all}
-use Rattle.nb_model.specs.Image.{Page}
-use Rattle.nb_model.specs.Chains.{is_slot, slots_in}
-use Rattle.nb_alloc.specs.Data.{not_data}
+use Rattle.nb_walk.proofs.Common.{list_all, Page, is_slot, slots_in, not_data, chain_by, not_linked}
 use Rattle.nb_alloc.proofs.DoesLaws.{tested_on}
-use Rattle.nb_walk.specs.Walks.{chain_by, not_linked}
 use Rattle.nb_walk.proofs.LinkLaws.{data_not, slots_not, linked_yes}
 use Rattle.nb_walk.proofs.page.read_page.Goals as goal
 

@@ -1,5 +1,5 @@
 use Rattle.std.proofs.Common.{sym, subst}
-use Rattle.nb_words.specs.Choice.{IsTheChoice}
+use Rattle.nb_words.proofs.Common.{IsTheChoice}
 use Rattle.nb_words.proofs.Table.{is_the_choice}
 use Rattle.nb_words.proofs.choice.table.Goals as goal
 

@@ -1,7 +1,5 @@
 use Rattle.std.proofs.Common.{◌≡◌, ◌∙◌, ap}
-use Rattle.std.proofs.lemmas.Result.{IfOk-weaker}
-use Rattle.clap.specs.Words.{App, with_rule}
-use Rattle.nb_words.specs.Line.{line, flag, plain}
+use Rattle.nb_words.proofs.Common.{IfOk-weaker, App, with_rule, line, flag, plain}
 use Rattle.nb_words.proofs.line.command.Goals as goal
 
 pub returns : goal.returns

@@ -1,6 +1,5 @@
 use Rattle.std.proofs.Common.{map, string_bytes}
-use Rattle.clap.specs.Words.{app_of, fault_of}
-use Rattle.nb_words.specs.Line.{line}
+use Rattle.nb_words.proofs.Common.{app_of, fault_of, line}
 use Rattle.nb_words.proofs.LineLaws.{matches_as, fails_as, line_is_simple, line_is_free, fault_at_err, no_fault_at_ok}
 use Rattle.nb_words.proofs.line.parsed.Goals as goal
 

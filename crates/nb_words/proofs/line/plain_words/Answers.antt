@@ -1,6 +1,6 @@
 use Rattle.std.proofs.Common.{◌∙◌, ap, [], List, unwrap_or, Option, codes}
+use Rattle.nb_words.proofs.Common.{found_of, Text}
 use Rattle.clap.proofs.WalkLemmas.{raw_values-rows}
-use Rattle.clap.specs.Words.{found_of, Text}
 use Rattle.nb_words.proofs.line.plain_words.Goals as goal
 
 pub returns : goal.returns

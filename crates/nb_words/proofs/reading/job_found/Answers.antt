@@ -1,8 +1,5 @@
 use Rattle.std.proofs.Common.{◌∙◌, ℕ, ap, sym, refl, [], List, Option, option_map, unwrap_or, Bor}
-use Rattle.std.proofs.lemmas.Result.{IfOk-weaker}
-use Rattle.nb_model.specs.Words.{Word}
-use Rattle.nb_words.specs.Choice.{job_in}
-use Rattle.nb_words.specs.Read.{IsJobOf, words_of}
+use Rattle.nb_words.proofs.Common.{IfOk-weaker, Word, job_in, IsJobOf, words_of}
 use Rattle.nb_words.proofs.Found.{job_by_table, same_job, column_is}
 use Rattle.nb_words.proofs.reading.job_found.Goals as goal
 

@@ -1,4 +1,4 @@
-use Rattle.std.proofs.lemmas.Bool.{false≢true}
+use Rattle.nb_words.proofs.Common.{false≢true}
 use Rattle.nb_words.proofs.Parts.{guid_none}
 use Rattle.nb_words.proofs.word.guid.Goals as goal
 

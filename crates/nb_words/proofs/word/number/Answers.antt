@@ -1,5 +1,5 @@
 use Rattle.std.proofs.Common.{◌∙◌, sym, ap, List, ℕ}
-use Rattle.nb_words.specs.Parts.{is_plain_number}
+use Rattle.nb_words.proofs.Common.{is_plain_number}
 use Rattle.nb_words.proofs.Parts.{number_none, number_some}
 use Rattle.nb_words.proofs.word.number.Goals as goal
 

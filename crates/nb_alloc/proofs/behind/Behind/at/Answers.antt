@@ -1,8 +1,5 @@
-use Rattle.std.proofs.Common.{ℕ, sym, subst, ◌∙◌}
-use Rattle.std.specs.Prelude.{false, IsTrue}
-use Rattle.nb_fields.specs.Places.{is_page_size}
-use Rattle.nb_model.specs.Image.{image_size}
-use Rattle.nb_alloc.specs.Behind.{IsKnown}
+use Rattle.std.proofs.Common.{ℕ, sym, subst, ◌∙◌, false, IsTrue}
+use Rattle.nb_alloc.proofs.Common.{is_page_size, image_size, IsKnown}
 use Rattle.nb_alloc.proofs.BehindLaws.{known_lacking}
 use Rattle.nb_alloc.proofs.behind.Behind.at.Goals as goal
 

@@ -1,6 +1,5 @@
-use Rattle.std.proofs.Common.{◌++◌}
-use Rattle.std.specs.Prelude.{nat_lt}
-use Rattle.nb_alloc.specs.Behind.{page_if}
+use Rattle.std.proofs.Common.{◌++◌, nat_lt}
+use Rattle.nb_alloc.proofs.Common.{page_if}
 use Rattle.nb_alloc.proofs.BehindLaws.{value_chain, alike_chain}
 use Rattle.nb_alloc.proofs.behind.Behind.judge.Goals as goal
 

@@ -1,7 +1,5 @@
-use Rattle.std.proofs.Common.{ℕ, sym, ap, ◌∙◌}
-use Rattle.std.specs.Prelude.{Bool, true, false}
-use Rattle.nb_alloc.specs.declared.behind.Behind.{Behind}
-use Rattle.nb_alloc.specs.Behind.{passed}
+use Rattle.std.proofs.Common.{ℕ, sym, ap, ◌∙◌, Bool, true, false}
+use Rattle.nb_alloc.proofs.Common.{Behind, passed}
 use Rattle.nb_alloc.proofs.behind.Behind.pass.Goals as goal
 
 pub returns-then-not-is_made : goal.returns-then-not-is_made

@@ -1,8 +1,5 @@
 use Rattle.std.proofs.Common.{rules, ◌≡◌, ℕ, List, length, drop, subst, sym}
-use Rattle.std.proofs.lemmas.List.{take_at}
-use Rattle.nb_fields.specs.Kinds.{scn_kind}
-use Rattle.nb_model.specs.Causes.{not_kind}
-use Rattle.nb_alloc.specs.Put.{Reads}
+use Rattle.nb_alloc.proofs.Common.{take_at, scn_kind, not_kind, Reads}
 use Rattle.nb_alloc.proofs.pages.ScnPage.read.Goals as goal
 
 pub returns-clause-reads : goal.returns-clause-reads

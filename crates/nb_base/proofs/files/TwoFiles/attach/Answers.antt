@@ -1,19 +1,5 @@
-use Rattle.std.proofs.Common.{◌≡◌, ℕ, ◌+◌, ◌*◌, ◌≤◌, List, length, refl, sym, ap, subst, ◌∙◌, arith}
-use Rattle.std.proofs.lemmas.List.{take_at}
-use Rattle.std.specs.Prelude.{max, not, ◌==◌}
-use Rattle.nb_fields.specs.Bytes.{number_in}
-use Rattle.nb_host.specs.Files.{File, Files}
-use Rattle.nb_host.specs.World.{World}
-use Rattle.nb_host.specs.Crash.{IsDurable}
-use Rattle.nb_change.proofs.SettledLaws.{durable_still}
-use Rattle.nb_page.specs.Quiet.{Quiet}
-use Rattle.nb_page.proofs.QuietLaws.{quiet_joined}
-use Rattle.nb_model.specs.Trail.{ShowsIn}
-use Rattle.nb_model.proofs.MainLaws.{some_page}
-use Rattle.nb_delta.specs.Known.{Known}
-use Rattle.nb_model.specs.Owner.{delta_name, behind_entries}
-use Rattle.nb_base.specs.declared.attach.Start.{Start}
-use Rattle.nb_base.specs.Reads.{table_reads}
+use Rattle.std.proofs.Common.{◌≡◌, ℕ, ◌+◌, ◌*◌, ◌≤◌, List, length, refl, sym, ap, subst, ◌∙◌, arith, max, not, ◌==◌}
+use Rattle.nb_base.proofs.Common.{take_at, number_in, File, Files, World, IsDurable, durable_still, Quiet, quiet_joined, ShowsIn, some_page, Known, delta_name, behind_entries, Start, table_reads}
 use Rattle.nb_base.proofs.AttachLaws.{there}
 use Rattle.nb_base.proofs.OpenedLaws.{answer_at, start_refused, delta_refused, read_base, read_shows, read_size, read_some, read_attached}
 use Rattle.nb_base.proofs.OpeningReads.{opened_reads}

@@ -1,12 +1,6 @@
 use Rattle.std.proofs.Common.{◌≡◌, ℕ, List, [], ◌∷◌, length, refl, sym, ap, subst, ◌∙◌, arith}
-use Rattle.nb_host.specs.World.{World}
-use Rattle.nb_host.specs.Crash.{IsDurable}
-use Rattle.nb_change.specs.Changes.{Changes, Only, Remade}
-use Rattle.nb_delta.specs.Known.{Known}
-use Rattle.nb_delta.specs.Slots.{HasTable, IsBlank}
-use Rattle.nb_model.specs.Strokes.{begin}
-use Rattle.nb_base.specs.Open.{Held, IsOpen}
-use Rattle.nb_base.specs.Takes.{StrikesFirm}
+use Rattle.nb_base.proofs.Common.{World, IsDurable, Changes, Only, Remade, Known, HasTable, begin, Held, IsOpen, StrikesFirm}
+use Rattle.nb_delta.specs.Slots.{IsBlank}
 use Rattle.nb_base.proofs.StrokeLaws.{h0, not_struck, begin_ready, begin_room, begin_size, begin_struck, begin_open}
 use Rattle.nb_base.proofs.WriteLaws.{not_done}
 use Rattle.nb_base.proofs.files.TwoFiles.begin.Goals as goal

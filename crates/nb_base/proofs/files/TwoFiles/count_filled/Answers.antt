@@ -1,8 +1,5 @@
 use Rattle.std.proofs.Common.{sym, ap, subst, ◌∙◌}
-use Rattle.nb_delta.specs.Known.{Known}
-use Rattle.nb_model.specs.Owner.{entry_for}
-use Rattle.nb_base.specs.Open.{Held, IsOpen}
-use Rattle.nb_base.specs.contracts.files.TwoFiles.{the_view}
+use Rattle.nb_base.proofs.Common.{Known, entry_for, Held, IsOpen, the_view}
 use Rattle.nb_base.proofs.FilledLaws.{none_cut}
 use Rattle.nb_base.proofs.PlaceLaws.{none_found}
 use Rattle.nb_base.proofs.files.TwoFiles.count_filled.Goals as goal

@@ -1,5 +1,5 @@
 use Rattle.std.proofs.Common.{refl, ap, arith}
-use Rattle.nb_delta.specs.Known.{Known}
+use Rattle.nb_base.proofs.Common.{Known}
 use Rattle.nb_base.proofs.CreatedLaws.{created}
 use Rattle.nb_base.proofs.files.TwoFiles.create.Goals as goal
 

@@ -1,7 +1,5 @@
 use Rattle.std.proofs.Common.{◌+◌, [], ◌∷◌, ◌++◌, inl, inr, sym, ap, ◌∙◌}
-use Rattle.nb_delta.specs.Known.{Known}
-use Rattle.nb_model.specs.Owner.{entry_for}
-use Rattle.nb_base.specs.Open.{Held}
+use Rattle.nb_base.proofs.Common.{Known, entry_for, Held}
 use Rattle.nb_base.proofs.PlaceLaws.{slot_answered, none_found}
 use Rattle.nb_base.proofs.files.TwoFiles.draft.Goals as goal
 

@@ -1,9 +1,5 @@
 use Rattle.std.proofs.Common.{◌≡◌, ℕ, List, [], ◌∷◌, length, refl, sym, ap, subst, ◌∙◌, arith}
-use Rattle.nb_host.specs.World.{World}
-use Rattle.nb_host.specs.Crash.{IsDurable}
-use Rattle.nb_model.specs.Strokes.{ends}
-use Rattle.nb_base.specs.Open.{Held, IsOpen}
-use Rattle.nb_base.specs.Takes.{StrikesFirm}
+use Rattle.nb_base.proofs.Common.{World, IsDurable, ends, Held, IsOpen, StrikesFirm}
 use Rattle.nb_base.proofs.StrokeLaws.{h0, waits, not_struck}
 use Rattle.nb_base.proofs.EndLaws.{size, end_image, end_room, end_struck, end_open}
 use Rattle.nb_base.proofs.WriteLaws.{not_done}

@@ -1,15 +1,5 @@
-use Rattle.std.proofs.Common.{◌≡◌, ◌<◌, ℕ, List, sym, ap, subst, ◌∙◌, arith}
-use Rattle.std.specs.Prelude.{Bool, false, IsTrue}
-use Rattle.nb_host.specs.Crash.{IsDurable}
-use Rattle.nb_change.specs.Changes.{Changes, Only, Moved}
-use Rattle.nb_change.proofs.MomentLaws.{left_before}
-use Rattle.nb_delta.specs.Known.{Known}
-use Rattle.nb_delta.specs.Waiting.{Waits, FrontStep, HasAll}
-use Rattle.nb_model.specs.Owner.{delta_name}
-use Rattle.nb_model.specs.Trail.{Trail, StandsIn}
-use Rattle.nb_base.specs.Open.{Held, IsOpen}
-use Rattle.nb_base.specs.Going.{GoesIn}
-use Rattle.nb_base.specs.contracts.files.TwoFiles.{the_view}
+use Rattle.std.proofs.Common.{◌≡◌, ◌<◌, ℕ, List, sym, ap, subst, ◌∙◌, arith, Bool, false, IsTrue}
+use Rattle.nb_base.proofs.Common.{IsDurable, Changes, Only, Moved, left_before, Known, Waits, FrontStep, HasAll, delta_name, Trail, StandsIn, Held, IsOpen, GoesIn, the_view}
 use Rattle.nb_base.proofs.EnterLaws.{drafts_wait, enter_changes, enter_open, kept_changes, kept_open}
 use Rattle.nb_base.proofs.WriteLaws.{main_apart}
 use Rattle.nb_base.proofs.files.TwoFiles.enter.Goals as goal

@@ -1,7 +1,5 @@
 use Rattle.std.proofs.Common.{◌≤◌, length, refl, ap, sym, subst, ◌∙◌, arith}
-use Rattle.nb_page.proofs.QuietLaws.{quiet_begun, quiet_joined}
-use Rattle.nb_model.proofs.TrimLaws.{trimmed_length}
-use Rattle.nb_base.specs.Open.{Held, IsOpen}
+use Rattle.nb_base.proofs.Common.{quiet_begun, quiet_joined, trimmed_length, Held, IsOpen}
 use Rattle.nb_base.proofs.FilledLaws.{fewer_filled, all_filled, some_filled, open_still}
 use Rattle.nb_base.proofs.files.TwoFiles.find_filled.Goals as goal
 

@@ -1,9 +1,5 @@
-use Rattle.std.proofs.Common.{◌≡◌, ◌-◌, ◌≤◌, length}
-use Rattle.std.specs.Prelude.{IsTrue}
-use Rattle.nb_page.specs.Quiet.{Quiet}
-use Rattle.nb_model.specs.Image.{trimmed}
-use Rattle.nb_model.specs.Trail.{Trail}
-use Rattle.nb_base.specs.Open.{IsOpen}
+use Rattle.std.proofs.Common.{◌≡◌, ◌-◌, ◌≤◌, length, IsTrue}
+use Rattle.nb_base.proofs.Common.{Quiet, trimmed, Trail, IsOpen}
 use Rattle.nb_base.proofs.files.TwoFiles.find_filled.Given as goal
 
 -- the pages after are of zeros

@@ -1,10 +1,5 @@
-use Rattle.std.proofs.Common.{◌≡◌, [], ◌∷◌, length, sym, ap, subst, ◌∙◌}
-use Rattle.std.specs.Prelude.{None, OnOk}
-use Rattle.nb_host.specs.World.{World}
-use Rattle.nb_model.specs.Owner.{delta_name}
-use Rattle.nb_model.specs.Strokes.{finish}
-use Rattle.nb_base.specs.Open.{Held, IsOpen, AreMerged}
-use Rattle.nb_base.specs.Takes.{StrikesFirm}
+use Rattle.std.proofs.Common.{◌≡◌, [], ◌∷◌, length, sym, ap, subst, ◌∙◌, None, OnOk}
+use Rattle.nb_base.proofs.Common.{World, delta_name, finish, Held, IsOpen, AreMerged, StrikesFirm}
 use Rattle.nb_base.proofs.AgreeLaws.{open_seen}
 use Rattle.nb_base.proofs.FilledLaws.{open_still, merged_still, quiet_struck}
 use Rattle.nb_base.proofs.MergingLaws.{struck_quiet}

@@ -1,15 +1,5 @@
-use Rattle.std.proofs.Common.{◌≡◌, ℕ, List, [], ◌∷◌, length, refl, sym, ap, subst, ◌∙◌, arith}
-use Rattle.nb_host.specs.Files.{Files}
-use Rattle.nb_host.specs.World.{World}
-use Rattle.nb_change.specs.Changes.{Changes, Only, Remade}
-use Rattle.nb_change.proofs.ResultLaws.{on_ok}
-use Rattle.nb_delta.specs.Known.{Known}
-use Rattle.nb_host.specs.Files.{File}
-use Rattle.std.specs.Prelude.{None, OnOk}
-use Rattle.nb_model.specs.Owner.{delta_name}
-use Rattle.nb_model.specs.Strokes.{finish}
-use Rattle.nb_base.specs.Open.{Held, IsOpen, AreMerged}
-use Rattle.nb_base.specs.Takes.{StrikesFirm}
+use Rattle.std.proofs.Common.{◌≡◌, ℕ, List, [], ◌∷◌, length, refl, sym, ap, subst, ◌∙◌, arith, None, OnOk}
+use Rattle.nb_base.proofs.Common.{Files, World, Changes, Only, Remade, Known, File, delta_name, finish, Held, IsOpen, AreMerged, StrikesFirm, on_ok}
 use Rattle.nb_base.proofs.StrokeLaws.{h0, waits, durable_main}
 use Rattle.nb_base.proofs.EndLaws.{size, finish_room, finish_struck, removed_struck, finish_open}
 use Rattle.nb_base.proofs.WriteLaws.{not_done}

@@ -1,8 +1,5 @@
 use Rattle.std.proofs.Common.{◌≡◌, length, sym, ap, subst, ◌∙◌, arith}
-use Rattle.std.proofs.lemmas.List.{take_at}
-use Rattle.nb_fields.specs.Bytes.{is_zeros}
-use Rattle.nb_model.specs.Owner.{entry_for}
-use Rattle.nb_base.specs.Open.{Held, IsOpen}
+use Rattle.nb_base.proofs.Common.{take_at, is_zeros, entry_for, Held, IsOpen}
 use Rattle.nb_base.proofs.PageReads.{base_reads, sized_owned}
 use Rattle.nb_base.proofs.files.TwoFiles.is_blank.Goals as goal
 

@@ -1,21 +1,10 @@
-use Rattle.std.proofs.Common.{◌≡◌, ◌+◌, ◌*◌, [], length, refl, sym, ap, subst, ◌∙◌, arith}
-use Rattle.std.specs.Prelude.{slice_index, IsTrue}
-use Rattle.std.proofs.lemmas.List.{take_at}
-use Rattle.std.proofs.lemmas.Result.{on_ok_weaker}
-use Rattle.nb_host.specs.Files.{Files, bytes_of, with_file, with_page}
-use Rattle.nb_host.specs.World.{World}
-use Rattle.nb_change.proofs.ResultLaws.{whole_on_ok}
-use Rattle.nb_delta.specs.Known.{Known}
-use Rattle.nb_model.specs.Image.{image_in}
-use Rattle.nb_model.specs.Owner.{delta_name, owned_page}
-use Rattle.nb_model.specs.Trail.{Trail}
+use Rattle.std.proofs.Common.{◌≡◌, ◌+◌, ◌*◌, [], length, refl, sym, ap, subst, ◌∙◌, arith, slice_index, IsTrue}
+use Rattle.nb_base.proofs.Common.{take_at, on_ok_weaker, Files, bytes_of, with_file, World, whole_on_ok, Known, image_in, delta_name, owned_page, Trail, Held, IsOpen, AreMerged, StrikesFirm, the_view, ok_equal}
+use Rattle.nb_host.specs.Files.{with_page}
 use Rattle.nb_base.specs.Merging.{PutsPage}
-use Rattle.nb_base.specs.Open.{Held, IsOpen, AreMerged}
-use Rattle.nb_base.specs.Takes.{StrikesFirm}
-use Rattle.nb_base.specs.contracts.files.TwoFiles.{the_view}
 use Rattle.nb_base.proofs.AgreeLaws.{open_seen, seen_open}
 use Rattle.nb_base.proofs.StrokeLaws.{h0}
-use Rattle.nb_base.proofs.MergingLaws.{ReadsEntry, number_is, seen_still, struck_quiet, struck_joined, its_entry, merging, read_formed, read_size, its_hiding, merged_next}
+use Rattle.nb_base.proofs.MergingLaws.{ReadsEntry, seen_still, struck_quiet, struck_joined, its_entry, merging, read_formed, read_size, its_hiding, merged_next}
 use Rattle.nb_base.proofs.HiddenLaws.{struck_hidden, hidden_seen}
 use Rattle.nb_base.proofs.files.TwoFiles.merge_entry.Goals as goal
 
@@ -53,7 +42,7 @@ module _ (g : _) (c : goal.After-write_page g) where
           merges = ap (λ (h : Held). h.state) c.self.view_is ∙ c.requires.merge;
           inside = omega (arith, c.requires.inside, ap (λ (h : Held). length h.entries) c.self.view_is);
           are = c.in_ok-number.ensures.apart;
-          names = number_is _ _ c.in_ok-number.ensures.page;
+          names = ok_equal _ _ c.in_ok-number.ensures.page;
           below = c.in_ok-number.ensures.below;
           long = long;
           owned = c.deref.ensures.value ∙ take_at c.read_owned.new.into _ c.self.inside.page.len into ∙ read
@@ -103,7 +92,7 @@ returns-clause-put g c tells =
     let new : World = g.H.Host.world c.write_page.new.self in
     let name = c.self.inside.name in
     let page = c.deref.result.now in
-    let names = number_is _ _ c.in_ok-number.ensures.page in
+    let names = ok_equal _ _ c.in_ok-number.ensures.page in
     let still = c.in_ok-read_owned.ensures.quiet.still.files ∙ ap (λ h. (g.H.Host.world h).files) c.in_ok-number.ensures.no_call in
     let at = ap (λ n. n * length page) names ∙ ap (λ n. slice_index c.self.inside.delta.entries c.args.k * n) (long g c) in
     on_ok_weaker c.write_page.result

@@ -1,12 +1,5 @@
 use Rattle.std.proofs.Common.{◌≡◌, refl, sym, subst, ap, ◌∙◌}
-use Rattle.std.proofs.lemmas.Bool.{true≢false}
-use Rattle.std.proofs.lemmas.Result.{on_ok_weaker}
-use Rattle.nb_delta.specs.Known.{Known}
-use Rattle.nb_model.specs.Strokes.{noted}
-use Rattle.nb_base.specs.Open.{Held, IsOpen, AreMerged}
-use Rattle.nb_base.specs.Seen.{noted_in}
-use Rattle.nb_base.specs.Touches.{WritesIn}
-use Rattle.nb_base.specs.contracts.files.TwoFiles.{the_view}
+use Rattle.nb_base.proofs.Common.{true≢false, on_ok_weaker, Known, noted, Held, IsOpen, AreMerged, noted_in, WritesIn, the_view}
 use Rattle.nb_base.proofs.AgreeLaws.{open_seen, takes_named}
 use Rattle.nb_base.proofs.TouchLaws.{delta_in}
 use Rattle.nb_base.proofs.WriteLaws.{takes_passed, takes_done, seen_table, no_entries}

@@ -1,11 +1,5 @@
 use Rattle.std.proofs.Common.{sym, subst}
-use Rattle.std.proofs.lemmas.Result.{on_ok_weaker}
-use Rattle.nb_change.specs.Changes.{Only, Changes}
-use Rattle.nb_change.proofs.ResultLaws.{whole_on_ok}
-use Rattle.nb_model.specs.Strokes.{page, on_base}
-use Rattle.nb_model.specs.Trail.{ShowsIn}
-use Rattle.nb_base.specs.Open.{Held}
-use Rattle.nb_base.specs.Put.{PutLeft}
+use Rattle.nb_base.proofs.Common.{on_ok_weaker, Only, Changes, whole_on_ok, page, on_base, ShowsIn, Held, PutLeft}
 use Rattle.nb_base.proofs.PutLaws.{put_left, put_shown}
 use Rattle.nb_base.proofs.files.TwoFiles.put_out.Goals as goal
 

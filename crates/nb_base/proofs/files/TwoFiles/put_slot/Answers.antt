@@ -1,17 +1,8 @@
 use Rattle.std.proofs.Common.{sym, ap, subst, ◌∙◌}
-use Rattle.std.proofs.lemmas.Result.{on_ok_weaker}
-use Rattle.nb_change.specs.Changes.{Only, Changes}
-use Rattle.nb_delta.specs.Known.{Known}
-use Rattle.nb_fields.specs.Table.{slot_place}
-use Rattle.nb_model.specs.Owner.{delta_name, entry_for}
-use Rattle.nb_model.specs.Trail.{StandsIn}
-use Rattle.nb_base.specs.Open.{Held}
-use Rattle.nb_base.specs.Going.{GoesIn}
-use Rattle.nb_base.specs.contracts.files.TwoFiles.{the_view}
+use Rattle.nb_base.proofs.Common.{on_ok_weaker, Only, Changes, Known, slot_place, delta_name, entry_for, StandsIn, Held, GoesIn, the_view, none_there}
 use Rattle.nb_base.proofs.PlaceLaws.{slot_answered, none_found}
 use Rattle.nb_base.proofs.SlotLaws.{slot_changes, slot_puts, slot_left, slot_goes}
 use Rattle.nb_base.proofs.files.TwoFiles.put_slot.Goals as goal
-use Rattle.nb_base.proofs.OwnedLaws.{none_some}
 
 pub returns-in-Some-clause-left : goal.returns-in-Some-clause-left
 returns-in-Some-clause-left g c f t waits tells given may =
@@ -43,9 +34,9 @@ returns-in-Some-clause-put g c f t waits later tells given may as_before =
 pub returns-in-None-clause-left : goal.returns-in-None-clause-left
 returns-in-None-clause-left g c f t waits tells given may =
     let goes = subst (λ (h : Held). GoesIn (g.H.Host.world c.args.host.now) h f t waits) (sym c.self.view_is) given in
-    absurd (none_some (sym (none_found c.args.number c.self.inside.delta.entries (c.in_ok-slot.ensures.none c.in-None.is)) ∙ ap (entry_for c.args.number) goes.agrees.entries ∙ may.named.1))
+    absurd (none_there (sym (none_found c.args.number c.self.inside.delta.entries (c.in_ok-slot.ensures.none c.in-None.is)) ∙ ap (entry_for c.args.number) goes.agrees.entries ∙ may.named.1))
 
 pub returns-in-None-clause-put : goal.returns-in-None-clause-put
 returns-in-None-clause-put g c f t waits later tells given may as_before =
     let goes = subst (λ (h : Held). GoesIn (g.H.Host.world c.args.host.now) h f t waits) (sym c.self.view_is) given in
-    absurd (none_some (sym (none_found c.args.number c.self.inside.delta.entries (c.in_ok-slot.ensures.none c.in-None.is)) ∙ ap (entry_for c.args.number) goes.agrees.entries ∙ may.named.1))
+    absurd (none_there (sym (none_found c.args.number c.self.inside.delta.entries (c.in_ok-slot.ensures.none c.in-None.is)) ∙ ap (entry_for c.args.number) goes.agrees.entries ∙ may.named.1))

@@ -1,7 +1,5 @@
 use Rattle.std.proofs.Common.{sym, subst, ap, ◌∙◌}
-use Rattle.nb_model.specs.Owner.{entry_for}
-use Rattle.nb_model.specs.Trail.{ShowsIn}
-use Rattle.nb_base.specs.Open.{Held}
+use Rattle.nb_base.proofs.Common.{entry_for, ShowsIn, Held}
 use Rattle.nb_base.proofs.PageReads.{base_reads, sized_owned}
 use Rattle.nb_base.proofs.files.TwoFiles.read.Goals as goal
 

@@ -1,6 +1,5 @@
 use Rattle.std.proofs.Common.{sym, subst, ap, ◌∙◌}
-use Rattle.nb_model.specs.Trail.{ShowsIn}
-use Rattle.nb_base.specs.Open.{Held}
+use Rattle.nb_base.proofs.Common.{ShowsIn, Held}
 use Rattle.nb_base.proofs.PageReads.{frozen_reads, sized_main}
 use Rattle.nb_base.proofs.files.TwoFiles.read_main.Goals as goal
 

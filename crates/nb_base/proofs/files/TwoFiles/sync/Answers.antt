@@ -1,9 +1,5 @@
-use Rattle.std.proofs.Common.{ℕ, List, sym, subst, ap, ◌∙◌}
-use Rattle.std.proofs.lemmas.Bool.{ne_eqb}
-use Rattle.std.specs.Prelude.{not}
-use Rattle.nb_host.specs.Crash.{IsDurable}
-use Rattle.nb_model.specs.Trail.{settled, ShowsIn}
-use Rattle.nb_base.specs.Open.{Held, Agrees, IsOpen}
+use Rattle.std.proofs.Common.{ℕ, List, sym, subst, ap, ◌∙◌, not}
+use Rattle.nb_base.proofs.Common.{ne_eqb, IsDurable, settled, ShowsIn, Held, Agrees, IsOpen}
 use Rattle.nb_base.proofs.SyncLaws.{both_settled}
 use Rattle.nb_base.proofs.files.TwoFiles.sync.Goals as goal
 

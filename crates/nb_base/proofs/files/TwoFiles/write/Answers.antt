@@ -1,10 +1,5 @@
-use Rattle.std.proofs.Common.{◌+◌, sym, subst, ap, ◌∙◌}
-use Rattle.std.specs.Prelude.{max, ◌||◌, nat_le}
-use Rattle.nb_model.specs.Strokes.{page}
-use Rattle.nb_model.specs.Trail.{after_stroke}
-use Rattle.nb_base.specs.Firm.{is_kept_place}
-use Rattle.nb_base.specs.Open.{Held, IsOpen}
-use Rattle.nb_base.specs.Seen.{IsWrite, noted_in}
+use Rattle.std.proofs.Common.{◌+◌, sym, subst, ap, ◌∙◌, max, ◌||◌, nat_le}
+use Rattle.nb_base.proofs.Common.{page, after_stroke, is_kept_place, Held, IsOpen, IsWrite, noted_in}
 use Rattle.nb_base.proofs.MergedLaws.{merged_held}
 use Rattle.nb_base.proofs.AgreeLaws.{written_held, later_forced, agrees_later, seen_open, synced_is}
 use Rattle.nb_base.proofs.files.TwoFiles.write.Goals as goal

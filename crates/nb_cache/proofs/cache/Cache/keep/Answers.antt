@@ -1,6 +1,5 @@
 use Rattle.std.proofs.Common.{◌≡◌, ◌+◌, ◌*◌, ◌≤◌, min, ℕ, length, Option, sym, ap, ◌∙◌, arith}
-use Rattle.nb_cache.specs.Held.{Slot}
-use Rattle.nb_cache.specs.Index.{room_of}
+use Rattle.nb_cache.proofs.Common.{Slot, room_of}
 use Rattle.nb_cache.proofs.IndexedLaws.{IsIndexed-renewed, IsIndexed-put}
 use Rattle.nb_cache.proofs.ShownLaws.{some_is, same_pages, lookup-split, lookup-promoted, size_here, IsCache-put, rank_of-found, rank_of-absent, shown-renewed, shown-put}
 use Rattle.nb_cache.proofs.cache.Cache.keep.Goals as goal

@@ -1,5 +1,5 @@
 use Rattle.std.proofs.Common.{◌≡◌, ◌<◌, ◌∷◌, ap, ◌∙◌, arith, length}
-use Rattle.lru.specs.LruCache.{lru_cache}
+use Rattle.nb_cache.proofs.Common.{lru_cache}
 use Rattle.nb_cache.proofs.ShownLaws.{put-new, keys-below}
 use Rattle.nb_cache.proofs.cache.Cache.new.Goals as goal
 

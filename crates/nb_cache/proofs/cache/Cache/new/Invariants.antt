@@ -1,5 +1,5 @@
 use Rattle.std.proofs.Common.{◌≡◌, ◌<◌, length}
-use Rattle.std.specs.List.{AllByRecursion}
+use Rattle.nb_cache.proofs.Common.{AllByRecursion}
 use Rattle.nb_cache.proofs.cache.Cache.new.Given as goal
 
 abbrev pub invariant-loop-key : goal.invariant-loop-key

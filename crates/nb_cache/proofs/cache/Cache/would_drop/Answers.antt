@@ -1,5 +1,5 @@
 use Rattle.std.proofs.Common.{refl, ◌∙◌, arith}
-use Rattle.lru.specs.LruCache.{last_entry}
+use Rattle.nb_cache.proofs.Common.{last_entry}
 use Rattle.nb_cache.proofs.ShownLaws.{slot_of-found, slot_of-absent, waiting-shown, last-shown}
 use Rattle.nb_cache.proofs.cache.Cache.would_drop.Goals as goal
 

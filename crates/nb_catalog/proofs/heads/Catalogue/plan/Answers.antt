@@ -1,6 +1,5 @@
 use Rattle.std.proofs.Common.{ℕ, ◌<◌, length, ap, sym, subst, ◌∙◌}
-use Rattle.nb_catalog.specs.Lines.{parents_of}
-use Rattle.nb_catalog.specs.Plans.{entries_of}
+use Rattle.nb_catalog.proofs.Common.{parents_of, entries_of}
 use Rattle.nb_catalog.proofs.EntryLaws.{length-entries}
 use Rattle.nb_catalog.proofs.KeptLaws.{is_safe}
 use Rattle.nb_catalog.proofs.PlaceLaws.{plan_within}

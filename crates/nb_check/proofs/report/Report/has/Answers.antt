@@ -1,5 +1,5 @@
 use Rattle.std.proofs.Common.{ℕ, List, sym, ap, ◌∙◌}
-use Rattle.nb_model.specs.Leaks.{is_among}
+use Rattle.nb_check.proofs.Common.{is_among}
 use Rattle.nb_check.proofs.ReportLaws.{among_pages}
 use Rattle.nb_check.proofs.report.Report.has.Goals as goal
 

@@ -1,5 +1,5 @@
 use Rattle.std.proofs.Common.{ℕ, List, ap, ◌∙◌}
-use Rattle.nb_check.specs.Sets.{has}
+use Rattle.nb_check.proofs.Common.{has}
 use Rattle.nb_check.proofs.SetBits.{none_has}
 use Rattle.nb_check.proofs.set.PageSet.new.Goals as goal
 

@@ -1,17 +1,5 @@
-use Rattle.std.proofs.Common.{◌≡◌, inl, inr, ℕ, ◌<◌, List, length, sym, ap, subst, ◌∙◌, arith}
-use Rattle.std.specs.Prelude.{Result}
-use Rattle.nb_host.specs.declared.faults.Fault.{Fault}
-use Rattle.nb_host.specs.declared.faults.Fault.TheVariants.{Device}
-use Rattle.nb_model.specs.Chains.{backup_slot, put_slot}
-use Rattle.nb_model.specs.Forms.{drafted}
-use Rattle.nb_model.specs.Forms.{HasItsEntry}
-use Rattle.nb_model.specs.Outcomes.{next_time}
-use Rattle.nb_model.specs.Strokes.{Stroke}
-use Rattle.nb_state.proofs.MakesLaws.{still_open}
-use Rattle.nb_change.proofs.ResultLaws.{passed_on}
-use Rattle.nb_model.specs.Backups.{close_backup}
-use Rattle.nb_copy.specs.Starting.{Backed}
-use Rattle.nb_copy.specs.Closing.{Closes}
+use Rattle.std.proofs.Common.{◌≡◌, inl, inr, ℕ, ◌<◌, List, length, sym, ap, subst, ◌∙◌, arith, Result}
+use Rattle.nb_copy.proofs.Common.{Fault, Device, backup_slot, put_slot, drafted, HasItsEntry, next_time, Stroke, still_open, passed_on, close_backup, Backed, Closes}
 use Rattle.nb_copy.proofs.ClosingLaws.{given_time, row_strokes, close_strokes, close_waits, close_row}
 use Rattle.nb_copy.proofs.copier.Copier.close.Goals as goal
 

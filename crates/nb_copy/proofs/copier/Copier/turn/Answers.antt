@@ -1,17 +1,5 @@
-use Rattle.std.proofs.Common.{List, sym, ap, subst, ◌∙◌, arith}
-use Rattle.std.specs.Prelude.{Ok, Result}
-use Rattle.nb_host.specs.declared.faults.Fault.{Fault}
-use Rattle.nb_host.specs.declared.faults.Fault.TheVariants.{Device}
-use Rattle.nb_model.specs.Backups.{close_backup}
-use Rattle.nb_model.specs.Outcomes.{next_time}
-use Rattle.nb_model.specs.Strokes.{Stroke}
-use Rattle.nb_state.specs.Open.{Held}
-use Rattle.nb_state.specs.declared.turns.Progress.{Progress}
-use Rattle.nb_change.proofs.ResultLaws.{passed_on}
-use Rattle.nb_copy.specs.FileCopying.{IsFileCopying, FileTurn, FileCounts}
-use Rattle.nb_copy.specs.Starting.{Backed, ask_by}
-use Rattle.nb_copy.specs.Reading.{asked_scn}
-use Rattle.nb_copy.specs.Closing.{BackupTurn}
+use Rattle.std.proofs.Common.{List, sym, ap, subst, ◌∙◌, arith, Ok, Result}
+use Rattle.nb_copy.proofs.Common.{Fault, Device, close_backup, next_time, Stroke, Held, Progress, passed_on, IsFileCopying, FileTurn, FileCounts, Backed, ask_by, asked_scn, BackupTurn}
 use Rattle.nb_copy.proofs.ClosingLaws.{asked_before, mid_open, turn_failed, turn_more, close_failed, close_finished, its_end, its_goes, its_reads}
 use Rattle.nb_copy.proofs.copier.Copier.turn.Goals as goal
 

@@ -1,8 +1,6 @@
 use Rattle.std.proofs.Common.{◌≡◌, ap, subst, arith}
-use Rattle.nb_copy.specs.Copying.{Copying}
-use Rattle.nb_gather.specs.Making.{IsBlank, IsMade}
+use Rattle.nb_copy.proofs.Common.{Copying, IsBlank, IsMade, is_made, renamed}
 use Rattle.nb_copy.proofs.CopyLaws.{made, begun_made}
-use Rattle.nb_gather.proofs.QuietLaws.{is_made, renamed}
 use Rattle.nb_copy.proofs.file_copier.FileCopier.make_first.Goals as goal
 
 pub returns-in_err-make-clause-left : goal.returns-in_err-make-clause-left

@@ -1,10 +1,5 @@
-use Rattle.std.proofs.Common.{refl, sym, ap, subst, ◌∙◌}
-use Rattle.std.specs.Prelude.{Result}
-use Rattle.nb_host.specs.declared.faults.Fault.{Fault}
-use Rattle.nb_model.specs.Backups.{copy_turn}
-use Rattle.nb_change.proofs.ResultLaws.{passed_on}
-use Rattle.nb_copy.specs.Copying.{Copying}
-use Rattle.nb_copy.specs.FileCopies.{StartsCopy}
+use Rattle.std.proofs.Common.{refl, sym, ap, subst, ◌∙◌, Result}
+use Rattle.nb_copy.proofs.Common.{Fault, copy_turn, passed_on, Copying, StartsCopy}
 use Rattle.nb_copy.proofs.FileCopyLaws.{copy_failed, copy_begun}
 use Rattle.nb_copy.proofs.file_copier.FileCopier.start.Goals as goal
 

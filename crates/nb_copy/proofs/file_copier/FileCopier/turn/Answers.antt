@@ -1,18 +1,7 @@
-use Rattle.std.proofs.Common.{refl, sym, subst, ◌≡◌, ℕ, List, ◌∙◌}
-use Rattle.std.specs.Prelude.{Result, Err}
-use Rattle.nb_host.specs.declared.faults.HostFault.{HostFault}
-use Rattle.nb_change.specs.Changes.{Changes, Only, Remade}
-use Rattle.nb_change.proofs.ResultLaws.{passed_on}
-use Rattle.nb_model.specs.Levels.{joined}
-use Rattle.nb_copy.specs.Copying.{Copying, IsCopying}
-use Rattle.nb_copy.specs.FileCopies.{CopiesFile}
-use Rattle.nb_gather.specs.Making.{IsFreeOr}
-use Rattle.nb_copy.specs.Turns.{CopyTurn}
+use Rattle.std.proofs.Common.{refl, sym, subst, ◌≡◌, ℕ, List, ◌∙◌, Result, Err}
+use Rattle.nb_copy.proofs.Common.{HostFault, Changes, Only, Remade, passed_on, joined, Copying, IsCopying, CopiesFile, IsFreeOr, CopyTurn, OfFiles, name_of, Progress}
 use Rattle.nb_copy.proofs.FileCopyLaws.{copies_file, made_free, made_then}
 use Rattle.nb_copy.proofs.AsideLaws.{open_aside}
-use Rattle.nb_base.specs.Open.{OfFiles}
-use Rattle.nb_state.specs.Open.{name_of}
-use Rattle.nb_state.specs.declared.turns.Progress.{Progress}
 use Rattle.nb_copy.proofs.file_copier.FileCopier.turn.Goals as goal
 
 pub returns-in_err-make_first-clause-turn : goal.returns-in_err-make_first-clause-turn

@@ -1,11 +1,5 @@
 use Rattle.std.proofs.Common.{◌≡◌, ◌+◌, ◌≤◌, arith, inl, inr, ⊎_elim, sym, subst, ap}
-use Rattle.nb_change.specs.Changes.{Changes, Only, Remade}
-use Rattle.nb_change.proofs.MovedLaws.{remade_weaker}
-use Rattle.nb_copy.specs.declared.file_copy.FileCopy.{FileCopy}
-use Rattle.nb_copy.specs.FileCopying.{IsFileCopying, file_name, file_next, whole_file}
-use Rattle.nb_copy.specs.Reading.{earlier_scn, page_reads}
-use Rattle.nb_gather.specs.Making.{IsFreeOr, IsUnfinishedOr}
-use Rattle.nb_model.specs.Levels.{joined}
+use Rattle.nb_copy.proofs.Common.{Changes, Only, Remade, remade_weaker, FileCopy, IsFileCopying, file_name, file_next, whole_file, earlier_scn, page_reads, IsFreeOr, IsUnfinishedOr, joined}
 use Rattle.nb_copy.proofs.file_copy.FileCopy.turn.Goals as goal
 
 pub returns-in-Pages-clause-left : goal.returns-in-Pages-clause-left

@@ -1,15 +1,7 @@
-use Rattle.std.proofs.Common.{List, length, ap, subst, ◌∙◌, arith, sym, refl, ◌<◌}
-use Rattle.std.specs.Prelude.{OnOk}
-use Rattle.std.proofs.lemmas.List.{with_items_is}
-use Rattle.nb_level.specs.Heads.{head_of}
-use Rattle.nb_model.specs.Image.{Numbered}
-use Rattle.nb_gather.specs.Gathering.{HasTaken, IsHeaded}
-use Rattle.nb_copy.specs.LevelCopying.{LevelCopying}
-use Rattle.nb_gather.specs.Making.{IsMade, IsUnfinished}
-use Rattle.nb_gather.proofs.QuietLaws.{renamed, quiet_then, made_quiet, remade_twice}
+use Rattle.std.proofs.Common.{List, length, ap, subst, ◌∙◌, arith, sym, refl, ◌<◌, OnOk}
+use Rattle.nb_copy.proofs.Common.{with_items_is, head_of, Numbered, HasTaken, IsHeaded, LevelCopying, IsMade, IsUnfinished, renamed, quiet_then, made_quiet, remade_twice, touches_named, touches_then, touches_quiet}
 use Rattle.nb_copy.proofs.LevelLaws.{below_none, may_next, taken_next}
 use Rattle.nb_copy.proofs.PlaceLaws.{may_first}
-use Rattle.nb_gather.proofs.TouchLaws.{touches_named, touches_then, touches_quiet}
 use Rattle.nb_copy.proofs.level_copy.LevelCopy.begin.Goals as goal
 
 pub returns-in_err-begin-clause-left : goal.returns-in_err-begin-clause-left

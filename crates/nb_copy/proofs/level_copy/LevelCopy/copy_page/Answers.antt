@@ -1,13 +1,6 @@
-use Rattle.std.proofs.Common.{◌<◌, List, length, ap, subst, ◌∙◌, arith, sym}
-use Rattle.std.specs.Prelude.{Bool, Ok, OnOk}
-use Rattle.nb_model.specs.Image.{Numbered}
-use Rattle.nb_gather.specs.Gathering.{LevelWriting, HasTaken}
-use Rattle.nb_copy.specs.LevelCopying.{LevelCopying, taken_below}
-use Rattle.nb_gather.specs.Making.{IsUnfinished}
-use Rattle.nb_copy.specs.Turns.{Fetched}
-use Rattle.nb_gather.proofs.QuietLaws.{renamed, quiet_then, quiet_alone}
-use Rattle.nb_copy.proofs.LevelLaws.{next_passed, taken_quiet, may_next, taken_next}
-use Rattle.nb_gather.proofs.TouchLaws.{touches_named, touches_then, touches_quiet}
+use Rattle.std.proofs.Common.{◌<◌, List, length, ap, subst, ◌∙◌, arith, sym, Bool, Ok, OnOk}
+use Rattle.nb_copy.proofs.Common.{Numbered, LevelWriting, HasTaken, LevelCopying, taken_below, IsUnfinished, Fetched, renamed, quiet_then, quiet_alone, touches_named, touches_then, touches_quiet, taken_quiet}
+use Rattle.nb_copy.proofs.LevelLaws.{next_passed, may_next, taken_next}
 use Rattle.nb_copy.proofs.level_copy.LevelCopy.copy_page.Goals as goal
 
 pub returns-then-may_be_changed-clause-left : goal.returns-then-may_be_changed-clause-left

@@ -1,22 +1,10 @@
-use Rattle.std.proofs.Common.{◌≡◌, length, ap, subst, ◌∙◌, arith, sym, ◌≤◌, ◌<◌}
-use Rattle.std.specs.Prelude.{IsTrue, false, true}
-use Rattle.std.proofs.lemmas.List.{with_items_is}
-use Rattle.nb_fields.specs.Places.{is_page_size, is_scn_place}
-use Rattle.nb_level.specs.declared.head.LevelHead.{LevelHead}
+use Rattle.std.proofs.Common.{◌≡◌, length, ap, subst, ◌∙◌, arith, sym, ◌≤◌, ◌<◌, IsTrue, false, true}
+use Rattle.nb_copy.proofs.Common.{with_items_is, is_page_size, is_scn_place, LevelHead, Held, IsOpen, open_still, LevelCopying, HasEntriesOf, IsLevelOf, page_at, image_size, may_have_changed, Trail, is_above, scn_page_of, stalled_state}
 use Rattle.nb_page.proofs.QuietLaws.{quiet_joined as quiet_joined}
-use Rattle.nb_state.specs.Open.{Held, IsOpen}
-use Rattle.nb_state.proofs.MakesLaws.{open_still}
-use Rattle.nb_copy.specs.LevelCopying.{LevelCopying, HasEntriesOf, IsLevelOf}
-use Rattle.nb_model.specs.Image.{page_at, image_size}
-use Rattle.nb_model.specs.Levels.{may_have_changed}
 use Rattle.nb_copy.proofs.PlaceLaws.{own_page, entry_low, may_place}
 use Rattle.nb_copy.proofs.ReadLaws.{above_may, entry_above, reads_both, reads_least}
 use Rattle.nb_copy.proofs.level_copy.LevelCopy.fetch.Goals as goal
 use Rattle.nb_copy.proofs.level_copy.LevelCopy.fetch.Goals.{After-entry}
-use Rattle.nb_model.specs.Trail.{Trail}
-use Rattle.nb_copy.specs.Reading.{is_above}
-use Rattle.nb_model.specs.Forms.{scn_page_of}
-use Rattle.nb_fields.specs.States.{stalled_state}
 
 -- The page is no SCN page, and its entry was read.
 module _ (g : _) (c : goal.After-entry g) where

@@ -1,10 +1,5 @@
-use Rattle.std.proofs.Common.{◌≡◌, inl, inr, ⊎_elim, length, ap, subst, ◌∙◌, arith, sym}
-use Rattle.std.specs.Prelude.{IsTrue}
-use Rattle.std.proofs.lemmas.List.{with_items_is}
-use Rattle.nb_fields.specs.Places.{is_page_size}
-use Rattle.nb_level.specs.declared.head.LevelHead.{LevelHead}
-use Rattle.nb_copy.specs.LevelCopying.{LevelCopying}
-use Rattle.nb_model.specs.Image.{page_at, image_size}
+use Rattle.std.proofs.Common.{◌≡◌, inl, inr, ⊎_elim, length, ap, subst, ◌∙◌, arith, sym, IsTrue}
+use Rattle.nb_copy.proofs.Common.{with_items_is, is_page_size, LevelHead, LevelCopying, page_at, image_size}
 use Rattle.nb_copy.proofs.PlaceLaws.{loaded_place}
 use Rattle.nb_copy.proofs.ReadLaws.{loads_seen}
 use Rattle.nb_copy.proofs.level_copy.LevelCopy.load.Goals as goal

@@ -1,10 +1,7 @@
 use Rattle.std.proofs.Common.{◌≡◌, inl, length, ap, arith}
-use Rattle.nb_change.proofs.MovedLaws.{remade_weaker}
-use Rattle.nb_copy.specs.LevelCopying.{LevelCopying, whole_level}
-use Rattle.nb_gather.specs.Making.{IsUnfinished, IsUnfinishedOr}
+use Rattle.nb_copy.proofs.Common.{remade_weaker, LevelCopying, whole_level, IsUnfinished, IsUnfinishedOr, touches_named}
 use Rattle.nb_copy.proofs.LevelLaws.{level_next, level_left, level_kept}
 use Rattle.nb_copy.proofs.ReadLaws.{reads_first}
-use Rattle.nb_gather.proofs.TouchLaws.{touches_named}
 use Rattle.nb_copy.proofs.level_copy.LevelCopy.turn.Goals as goal
 
 pub returns-in_err-close-clause-left : goal.returns-in_err-close-clause-left

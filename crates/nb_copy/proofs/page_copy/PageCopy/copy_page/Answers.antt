@@ -1,12 +1,6 @@
 use Rattle.std.proofs.Common.{◌≡◌, ◌+◌, length, sym, ap, subst, ◌∙◌, arith}
-use Rattle.std.specs.Vec.{with_items}
-use Rattle.std.proofs.lemmas.List.{with_items_is}
-use Rattle.nb_fields.proofs.SizeLaws.{size_facts}
-use Rattle.nb_copy.specs.Copying.{Copying, IsOf, IsBegun}
-use Rattle.nb_gather.specs.Making.{IsBlank}
-use Rattle.nb_gather.proofs.QuietLaws.{named, renamed}
+use Rattle.nb_copy.proofs.Common.{with_items, with_items_is, size_facts, Copying, IsOf, IsBegun, IsBlank, renamed, touches_named, touches_then, touches_quiet, touches_page, with_file-named}
 use Rattle.nb_copy.proofs.CopyLaws.{page_written, quiet_keeps, begun_next}
-use Rattle.nb_gather.proofs.TouchLaws.{touches_named, touches_then, touches_quiet, touches_page}
 use Rattle.nb_copy.proofs.page_copy.PageCopy.copy_page.Goals as goal
 
 pub returns-in_err-write_page-clause-left : goal.returns-in_err-write_page-clause-left
@@ -47,7 +41,7 @@ returns-clause-copied g c t tells open_ stalled of begun =
     let size : length (with_items self.page c.read_main.new.into).items ≡ length self.page.items = omega (arith, ap length page, c.read_main.auto.into, ap length c.deref_mut.ensures.value) in
     begun_next _ _ _ (g.H.Host.world c.write_page.new.self) (record { name = self.name; size = length self.page.items; count = self.count; next = self.next; first = self.first.items }) _ frozen c.deref.result.now is (quiet_keeps _ _ _ _ read.quiet before)
     (ap (λ n. record { name = self.name; size = n; count = self.count; next = self.next + 1; first = self.first.items }) size)
-    (omega (arith, c.requires.some, next)) (omega (arith, c.requires.below, next, count)) (omega (arith, (size_facts (length c.self.inside.page.items) c.self.invariant.is_size).at_least, long)) long there write.files (named _ _ self.name _ (write.files.files tells))
+    (omega (arith, c.requires.some, next)) (omega (arith, c.requires.below, next, count)) (omega (arith, (size_facts (length c.self.inside.page.items) c.self.invariant.is_size).at_least, long)) long there write.files (with_file-named _ _ self.name _ (write.files.files tells))
 
 pub returns-in_err-read_main-clause-touches : goal.returns-in_err-read_main-clause-touches
 returns-in_err-read_main-clause-touches g c tells = touches_quiet _ _ _ c.in_err-read_main.ensures.quiet

@@ -1,7 +1,5 @@
 use Rattle.std.proofs.Common.{◌≡◌, length, refl, sym, ap, subst, ◌∙◌, arith}
-use Rattle.std.specs.Vec.{with_items}
-use Rattle.std.proofs.lemmas.List.{with_items_is}
-use Rattle.nb_copy.specs.Copying.{Copying, IsBegun}
+use Rattle.nb_copy.proofs.Common.{with_items, with_items_is, Copying, IsBegun}
 use Rattle.nb_copy.proofs.CopyLaws.{begun_first}
 use Rattle.nb_copy.proofs.page_copy.PageCopy.take_first.Goals as goal
 

@@ -1,10 +1,5 @@
 use Rattle.std.proofs.Common.{inl}
-use Rattle.nb_change.proofs.MovedLaws.{remade_weaker}
-use Rattle.nb_model.specs.Levels.{joined}
-use Rattle.nb_gather.specs.Making.{IsBlank, IsFreeOr}
-use Rattle.nb_gather.proofs.BlankLaws.{blank_free}
-use Rattle.nb_gather.proofs.QuietLaws.{quiet_alone}
-use Rattle.nb_gather.proofs.TouchLaws.{touches_quiet}
+use Rattle.nb_copy.proofs.Common.{remade_weaker, joined, IsBlank, IsFreeOr, quiet_alone, touches_quiet, blank_free}
 use Rattle.nb_copy.proofs.page_copy.PageCopy.turn.Goals as goal
 
 pub returns-in_err-take_first-clause-left : goal.returns-in_err-take_first-clause-left

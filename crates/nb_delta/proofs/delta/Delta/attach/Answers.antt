@@ -1,10 +1,6 @@
-use Rattle.std.proofs.Common.{◌≡◌, ℕ, length, ap, ◌∙◌, subst, arith}
-use Rattle.std.specs.Prelude.{Err}
-use Rattle.nb_host.specs.Files.{File, Files}
-use Rattle.nb_fields.specs.Table.{table_of}
-use Rattle.nb_delta.specs.Known.{Known}
-use Rattle.nb_delta.specs.Reading.{Reads}
-use Rattle.nb_delta.proofs.AttachLaws.{IsLong, long_file, not_attached}
+use Rattle.std.proofs.Common.{◌≡◌, ℕ, length, ap, ◌∙◌, subst, arith, Err}
+use Rattle.nb_delta.proofs.Common.{File, Files, table_of, Known, Reads, IsLong, long_file}
+use Rattle.nb_delta.proofs.AttachLaws.{not_attached}
 use Rattle.nb_delta.proofs.delta.Delta.attach.Goals as goal
 
 pub returns-in_err-read_table-clause-answer : goal.returns-in_err-read_table-clause-answer

@@ -1,5 +1,5 @@
 use Rattle.std.proofs.Common.{◌≡◌, ℕ, List, [], ◌∷◌, ◌++◌, None, ap, sym, ◌∙◌, subst, arith}
-use Rattle.nb_delta.specs.Entries.{place_of, AreEntries, IsIndex}
+use Rattle.nb_delta.proofs.Common.{place_of, AreEntries, IsIndex}
 use Rattle.nb_delta.proofs.EntryLaws.{few, room_for, named_none, entries_more, index_added}
 use Rattle.nb_delta.proofs.entries.Entries.add.Goals as goal
 

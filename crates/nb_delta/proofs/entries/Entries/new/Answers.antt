@@ -1,5 +1,5 @@
 use Rattle.std.proofs.Common.{ℕ, List, subst, sym}
-use Rattle.nb_delta.specs.Entries.{AreEntries, IsIndex}
+use Rattle.nb_delta.proofs.Common.{AreEntries, IsIndex}
 use Rattle.nb_delta.proofs.EntryLaws.{no_entries, index_none}
 use Rattle.nb_delta.proofs.entries.Entries.new.Goals as goal
 

@@ -1,6 +1,5 @@
 use Rattle.std.proofs.Common.{ℕ, List, ◌<◌, length, subst, sym, arith}
-use Rattle.std.proofs.lemmas.List.{get_or_read}
-use Rattle.nb_fields.specs.Places.{most_pages}
+use Rattle.nb_delta.proofs.Common.{get_or_read, most_pages}
 use Rattle.nb_delta.proofs.EntryLaws.{entry_below}
 use Rattle.nb_delta.proofs.entries.Entries.page_at.Goals as goal
 

@@ -1,5 +1,5 @@
 use Rattle.std.proofs.Common.{◌≡◌, subst, rules}
-use Rattle.nb_delta.specs.Entries.{place_of, AreEntries}
+use Rattle.nb_delta.proofs.Common.{place_of, AreEntries}
 use Rattle.nb_delta.proofs.EntryLaws.{few, place_below}
 use Rattle.nb_delta.proofs.entries.Entries.place_of.Goals as goal
 

@@ -1,12 +1,5 @@
-use Rattle.std.proofs.Common.{inl, ◌≡◌, replicate, refl, sym, subst, ◌∙◌}
-use Rattle.std.specs.Prelude.{true, None}
-use Rattle.nb_page.proofs.QuietLaws.{quiet_begun}
-use Rattle.nb_model.specs.Image.{is_read_only}
-use Rattle.nb_model.specs.Causes.{read_only}
-use Rattle.nb_model.specs.Outcomes.{next_guid}
-use Rattle.nb_model.specs.Pages.{begin_turn}
-use Rattle.nb_state.specs.Open.{Held, IsOpen}
-use Rattle.nb_engine.specs.Turns.{DoesBegin, Starts}
+use Rattle.std.proofs.Common.{inl, ◌≡◌, replicate, refl, sym, subst, ◌∙◌, true, None}
+use Rattle.nb_engine.proofs.Common.{quiet_begun, is_read_only, read_only, next_guid, begin_turn, Held, IsOpen, DoesBegin, Starts}
 use Rattle.nb_engine.proofs.FreeLaws.{closed_cause, open_cause}
 use Rattle.nb_engine.proofs.BackupLaws.{does_begin, refused_begin, not_started, started}
 use Rattle.nb_engine.proofs.engine.Engine.begin.Goals as goal

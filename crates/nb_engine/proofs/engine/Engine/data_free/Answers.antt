@@ -1,8 +1,5 @@
 use Rattle.std.proofs.Common.{sym, subst}
-use Rattle.nb_model.specs.Forms.{drafted, give_page}
-use Rattle.nb_state.specs.Open.{Held, IsOpen}
-use Rattle.nb_alloc.specs.Mark.{mark_cause}
-use Rattle.nb_alloc.specs.Tries.{Tries}
+use Rattle.nb_engine.proofs.Common.{drafted, give_page, Held, IsOpen, mark_cause, Tries}
 use Rattle.nb_engine.proofs.engine.Engine.data_free.Goals as goal
 
 pub returns-clause-tries : goal.returns-clause-tries

@@ -1,9 +1,5 @@
 use Rattle.std.proofs.Common.{sym, subst}
-use Rattle.nb_fields.specs.Bytes.{with_part}
-use Rattle.nb_model.specs.Image.{page_at}
-use Rattle.nb_state.specs.Open.{Held, IsOpen}
-use Rattle.nb_alloc.specs.Data.{data_cause, put_data}
-use Rattle.nb_alloc.specs.Tries.{Tries}
+use Rattle.nb_engine.proofs.Common.{with_part, page_at, Held, IsOpen, data_cause, put_data, Tries}
 use Rattle.nb_engine.proofs.engine.Engine.data_put.Goals as goal
 
 pub returns-clause-tries : goal.returns-clause-tries

@@ -1,8 +1,5 @@
 use Rattle.std.proofs.Common.{sym, subst}
-use Rattle.std.proofs.lemmas.Result.{IfOk-weaker}
-use Rattle.nb_state.specs.Open.{Held, IsOpen}
-use Rattle.nb_alloc.specs.Behind.{entry_broken}
-use Rattle.nb_alloc.proofs.BehindLaws.{lacking_cause}
+use Rattle.nb_engine.proofs.Common.{IfOk-weaker, Held, IsOpen, entry_broken, lacking_cause}
 use Rattle.nb_engine.proofs.engine.Engine.data_ready.Goals as goal
 
 pub returns-clause-value : goal.returns-clause-value

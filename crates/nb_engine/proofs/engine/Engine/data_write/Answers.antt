@@ -1,7 +1,5 @@
 use Rattle.std.proofs.Common.{sym, subst}
-use Rattle.nb_state.specs.Open.{Held, IsOpen}
-use Rattle.nb_alloc.specs.Data.{data_cause, put_data}
-use Rattle.nb_alloc.specs.Tries.{Tries}
+use Rattle.nb_engine.proofs.Common.{Held, IsOpen, data_cause, put_data, Tries}
 use Rattle.nb_engine.proofs.engine.Engine.data_write.Goals as goal
 
 pub returns-clause-tries : goal.returns-clause-tries

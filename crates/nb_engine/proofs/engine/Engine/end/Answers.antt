@@ -1,7 +1,5 @@
 use Rattle.std.proofs.Common.{ap, sym, subst, ◌∙◌}
-use Rattle.nb_model.specs.Pages.{end_scn, end_turn}
-use Rattle.nb_state.specs.Open.{Held, IsOpen}
-use Rattle.nb_engine.specs.Turns.{DoesEnd}
+use Rattle.nb_engine.proofs.Common.{end_scn, end_turn, Held, IsOpen, DoesEnd}
 use Rattle.nb_engine.proofs.BackupLaws.{does_end}
 use Rattle.nb_engine.proofs.engine.Engine.end.Goals as goal
 

@@ -1,16 +1,11 @@
-use Rattle.std.proofs.Common.{◌≡◌, ℕ, List, [], ◌∷◌, ◌++◌, sym, ap, subst, ◌∙◌, arith}
-use Rattle.std.specs.Prelude.{true, false}
-use Rattle.std.proofs.lemmas.List.{append-nil}
-use Rattle.nb_fields.specs.Kinds.{inventory_kind}
-use Rattle.nb_model.specs.Causes.{lowest_broken}
-use Rattle.nb_model.specs.Forms.{inventory_of}
-use Rattle.nb_model.proofs.SoundLaws.{inventory_place_some}
-use Rattle.nb_state.specs.Open.{Held, IsOpen}
-use Rattle.nb_alloc.specs.Behind.{entry_broken, give_broken, page_in}
-use Rattle.nb_alloc.proofs.BehindLaws.{lacking_cause, other_none, other_page}
+use Rattle.std.proofs.Common.{◌≡◌, ℕ, List, [], ◌∷◌, ◌++◌, sym, ap, subst, ◌∙◌, arith, Bool, true, false}
+use Rattle.nb_engine.proofs.Common.{append-nil, inventory_kind, lowest_broken, inventory_of, inventory_place_some, Held, IsOpen, entry_broken, give_broken, page_in, lacking_cause, other_none, other_page, inventory_place_is, looks_then, World, Looks}
 use Rattle.nb_alloc.proofs.PassLaws.{map_found}
-use Rattle.nb_alloc.proofs.TestLaws.{inventory_place_is}
 use Rattle.nb_engine.proofs.engine.Engine.free_ready.Goals as goal
+
+-- What looks at the store looks at the engine, which is seen as it.
+looks_named : {tells : Bool} {old new : World} {held named after : Held} → held ≡ named → Looks tells old new held after → Looks tells old new named after
+looks_named {tells} {old} {new} {after} is looks = subst (λ (h : Held). Looks tells old new h after) is looks
 
 pub find_lacking-requires-clause-low : goal.find_lacking-requires-clause-low
 find_lacking-requires-clause-low g c =
@@ -25,7 +20,7 @@ returns-then-there-clause-value g c t tells is =
     let i : ℕ = inventory_of image c.args.number in
     let at = inventory_place_is image _ c.args.number _ _ c.place_of-place.ensures c.covers-k.ensures.number size in
     let found : page_in c.in_ok-lacking.lacking ≡ entry_broken image i = c.in_ok-lacking.ensures.value t tells here ∙ ap (λ (q : ℕ). entry_broken image q) at in
-    let there = c.in_ok-there.ensures.value t tells (c.in_ok-lacking.ensures.open t tells here) in
+    let there = c.in_ok-there.ensures.value t tells (c.in_ok-lacking.ensures.looks.opened t tells here) in
     let map = map_found image c.page_size-page_size.result c.args.number c.place_of-place.result c.in_ok-there.there true size c.page_size-page_size.ensures.one_of there c.if-there.true at in
     lacking_cause c.in_ok-lacking.lacking (give_broken image c.args.number) (found ∙ sym (append-nil (entry_broken image i)) ∙ ap (λ (ps : List ℕ). entry_broken image i ++ ps) (sym (other_none image inventory_kind i map)))
 
@@ -37,7 +32,16 @@ returns-clause-value g c t tells is =
     let i : ℕ = inventory_of image c.args.number in
     let at = inventory_place_is image _ c.args.number _ _ c.place_of-place.ensures c.covers-k.ensures.number size in
     let found : page_in c.in_ok-lacking.lacking ≡ entry_broken image i = c.in_ok-lacking.ensures.value t tells here ∙ ap (λ (q : ℕ). entry_broken image q) at in
-    let there = c.in_ok-there.ensures.value t tells (c.in_ok-lacking.ensures.open t tells here) in
+    let there = c.in_ok-there.ensures.value t tells (c.in_ok-lacking.ensures.looks.opened t tells here) in
     let map = map_found image c.page_size-page_size.result c.args.number c.place_of-place.result c.in_ok-there.there false size c.page_size-page_size.ensures.one_of there c.if-there.false at in
     sym c.lower_page.ensures ∙ ap (λ (ps : List ℕ). lowest_broken (ps ++ c.place_of-place.result ∷ [])) found
     ∙ ap (λ (n : ℕ). lowest_broken (entry_broken image i ++ n ∷ [])) at ∙ ap (λ (ps : List ℕ). lowest_broken (entry_broken image i ++ ps)) (sym (other_page image inventory_kind i true map))
+
+pub returns-in_err-there-clause-looks : goal.returns-in_err-there-clause-looks
+returns-in_err-there-clause-looks g c = looks_named c.self.view_is (looks_then c.in_ok-lacking.ensures.looks c.in_err-there.ensures.looks)
+
+pub returns-then-there-clause-looks : goal.returns-then-there-clause-looks
+returns-then-there-clause-looks g c = looks_named c.self.view_is (looks_then c.in_ok-lacking.ensures.looks c.in_ok-there.ensures.looks)
+
+pub returns-clause-looks : goal.returns-clause-looks
+returns-clause-looks g c = looks_named c.self.view_is (looks_then c.in_ok-lacking.ensures.looks c.in_ok-there.ensures.looks)

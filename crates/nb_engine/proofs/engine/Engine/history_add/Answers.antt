@@ -1,15 +1,6 @@
 use Rattle.std.proofs.Common.{◌<◌, ◌≤◌, ℕ, length, refl, sym, subst, arith}
+use Rattle.nb_engine.proofs.Common.{NotDatabase, quiet_begun, drafted, backup_slot, put_slot, Held, IsOpen, Tries, entry_cause, tries_failed, tries_named, write_cause}
 use Rattle.nb_host.specs.declared.faults.Fault.TheVariants.{Refused}
-use Rattle.nb_host.specs.declared.refusals.Refusal.TheVariants.{NotDatabase}
-use Rattle.nb_page.proofs.QuietLaws.{quiet_begun}
-use Rattle.nb_model.specs.Forms.{drafted}
-use Rattle.nb_model.specs.Chains.{backup_slot, put_slot}
-use Rattle.nb_state.specs.Open.{Held, IsOpen}
-use Rattle.nb_alloc.specs.Tries.{Tries}
-use Rattle.nb_alloc.specs.Put.{entry_cause}
-use Rattle.nb_alloc.proofs.DoesLaws.{tries_failed}
-use Rattle.nb_alloc.proofs.MakeLaws.{tries_named}
-use Rattle.nb_engine.specs.Room.{write_cause}
 use Rattle.nb_engine.proofs.LinkLaws.{write_low, write_past}
 use Rattle.nb_engine.proofs.engine.Engine.history_add.Goals as goal
 

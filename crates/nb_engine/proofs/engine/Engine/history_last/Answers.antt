@@ -1,7 +1,5 @@
 use Rattle.std.proofs.Common.{sym, ap, subst}
-use Rattle.nb_model.specs.Chains.{backup_spot}
-use Rattle.nb_state.specs.Open.{Held, IsOpen}
-use Rattle.nb_engine.specs.declared.walk.Walked.{Walked}
+use Rattle.nb_engine.proofs.Common.{backup_spot, Held, IsOpen, Walked}
 use Rattle.nb_engine.proofs.engine.Engine.history_last.Goals as goal
 
 pub returns-clause-row : goal.returns-clause-row

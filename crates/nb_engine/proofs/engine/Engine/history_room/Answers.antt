@@ -1,29 +1,7 @@
-use Rattle.std.proofs.Common.{◌≡◌, ℕ, List, [], ◌∷◌, sym, ap, subst, ◌∙◌}
-use Rattle.std.specs.Prelude.{IsTrue, true, None, Ok, Err}
-use Rattle.nb_fields.specs.Page.{kind_of}
-use Rattle.nb_fields.specs.Kinds.{data_kind}
-use Rattle.nb_page.proofs.QuietLaws.{quiet_joined}
-use Rattle.nb_model.specs.Image.{page_at}
-use Rattle.nb_model.specs.Strokes.{Stroke}
-use Rattle.nb_model.specs.Trail.{Trail}
-use Rattle.nb_model.specs.Forms.{drafted, is_kind}
-use Rattle.nb_model.specs.Causes.{first_cause, broken_at, not_of_form, no_room, no_scn, short_for}
-use Rattle.nb_model.specs.Chains.{History, pages_of, found_pages, spots, free_spot, last_of, grown}
-use Rattle.nb_model.specs.Backups.{room_in}
-use Rattle.nb_state.specs.Open.{Held, IsOpen, but_pages}
-use Rattle.nb_state.specs.Does.{Makes}
-use Rattle.nb_state.proofs.MakesLaws.{makes_none}
-use Rattle.nb_engine.specs.declared.walk.Room.{Room}
-use Rattle.nb_engine.specs.declared.walk.Walked.{Walked}
-use Rattle.nb_engine.specs.Room.{room_cause, taken_draft, grow_cause}
-use Rattle.nb_alloc.specs.Search.{IsSearchable}
-use Rattle.nb_alloc.specs.Tries.{Tries}
-use Rattle.nb_alloc.proofs.CauseLaws.{first_here}
-use Rattle.nb_alloc.proofs.DoesLaws.{tries_early, tries_passed, tries_made, tries_after, tries_other, tries_valued}
+use Rattle.std.proofs.Common.{◌≡◌, ℕ, List, [], ◌∷◌, sym, ap, subst, ◌∙◌, IsTrue, true, None, Ok, Err}
+use Rattle.nb_engine.proofs.Common.{kind_of, data_kind, quiet_joined, page_at, Stroke, Trail, drafted, is_kind, first_cause, broken_at, not_of_form, no_room, no_scn, short_for, History, pages_of, found_pages, spots, free_spot, last_of, grown, room_in, Held, IsOpen, but_pages, Makes, makes_none, Room, Walked, room_cause, taken_draft, grow_cause, IsSearchable, Tries, tries_early, tries_passed, tries_made, tries_after, tries_other, tries_valued, tries_named, first_here, kind_found}
 use Rattle.nb_engine.proofs.KeepLaws.{IsSpot, kept_room, kept_below, kept_none, kept_cause, grown_room, grown_low, grown_draft, grown_cause, room_some, room_none}
-use Rattle.nb_alloc.proofs.MakeLaws.{tries_named}
 use Rattle.nb_engine.proofs.NewTurn.{searchable_of}
-use Rattle.nb_model.proofs.StepLaws.{kind_from}
 use Rattle.nb_engine.proofs.WalkLaws.{last_data, spot_data, history_least}
 use Rattle.nb_engine.proofs.engine.Engine.history_room.Goals as goal
 use Rattle.nb_engine.proofs.engine.Engine.history_room.Goals.{In-Some, In-None}
@@ -31,7 +9,7 @@ use Rattle.nb_engine.proofs.engine.Engine.history_room.Goals.{In-Some, In-None}
 -- The walk has found a free slot.
 module _ (g : _) (c : goal.In-Some g) (t : Trail) (tells : IsTrue g.H.Host.tells) (is : IsOpen (g.H.Host.world c.args.host.now) c.args.self.now t) where
   walked_some : IsOpen (g.H.Host.world c.walk.new.host) c.walk.new.store t
-  walked_some = c.in_ok-walked.ensures.open t tells (subst (λ (h : Held). IsOpen (g.H.Host.world c.args.host.now) h t) (sym c.self.view_is) is)
+  walked_some = c.in_ok-walked.ensures.looks.opened t tells (subst (λ (h : Held). IsOpen (g.H.Host.world c.args.host.now) h t) (sym c.self.view_is) is)
 
   linked_some : broken_at (pages_of History t.base.image) ≡ None
   linked_some = c.in_ok-walked.ensures.test t tells (subst (λ (h : Held). IsOpen (g.H.Host.world c.args.host.now) h t) (sym c.self.view_is) is)
@@ -50,7 +28,7 @@ module _ (g : _) (c : goal.In-Some g) (t : Trail) (tells : IsTrue g.H.Host.tells
 -- Or it has found none, and the last page of the history.
 module _ (g : _) (c : goal.In-None g) (t : Trail) (tells : IsTrue g.H.Host.tells) (is : IsOpen (g.H.Host.world c.args.host.now) c.args.self.now t) where
   walked_none : IsOpen (g.H.Host.world c.walk.new.host) c.walk.new.store t
-  walked_none = c.in_ok-walked.ensures.open t tells (subst (λ (h : Held). IsOpen (g.H.Host.world c.args.host.now) h t) (sym c.self.view_is) is)
+  walked_none = c.in_ok-walked.ensures.looks.opened t tells (subst (λ (h : Held). IsOpen (g.H.Host.world c.args.host.now) h t) (sym c.self.view_is) is)
 
   linked_none : broken_at (pages_of History t.base.image) ≡ None
   linked_none = c.in_ok-walked.ensures.test t tells (subst (λ (h : Held). IsOpen (g.H.Host.world c.args.host.now) h t) (sym c.self.view_is) is)
@@ -66,7 +44,7 @@ module _ (g : _) (c : goal.In-None g) (t : Trail) (tells : IsTrue g.H.Host.tells
   is_data : is_kind t.base.image data_kind c.in_ok-walked.last ≡ true
   is_data =
       let data_page = last_data t.base.image linked_none in
-      ap (is_kind t.base.image data_kind) last_is ∙ kind_from t.base.image data_kind (last_of (found_pages History t.base.image)) data_page.low data_page.kind
+      ap (is_kind t.base.image data_kind) last_is ∙ kind_found t.base.image data_kind (last_of (found_pages History t.base.image)) data_page.low data_page.kind
 
   shaped : IsSearchable t.base.image
   shaped = searchable_of _ _ t (subst (λ (h : Held). IsOpen (g.H.Host.world c.args.host.now) h t) (sym c.self.view_is) is) c.self.invariant.0 (history_least t.base.image linked_none)
@@ -78,7 +56,7 @@ returns-in_err-walked-clause-makes g c t tells is =
     let image = t.base.image in
     let walked = c.in_err-walked.ensures in
     tries_early (Walked × ℕ) Room _ _ _ _ _ _ t (broken_at (pages_of History image)) (room_cause image) (room_in image).draft.strokes c.from_residual.ensures
-    (λ r e. first_here (broken_at (pages_of History image)) (short_for (free_spot (spots History image)) image ∷ not_of_form (room_in image).draft ∷ no_room (room_in image).draft ∷ no_scn image ∷ []) r e) (walked.test t tells here) (walked.same ∙ ap but_pages c.self.view_is) walked.quiet is (walked.open t tells here)
+    (λ r e. first_here (broken_at (pages_of History image)) (short_for (free_spot (spots History image)) image ∷ not_of_form (room_in image).draft ∷ no_room (room_in image).draft ∷ no_scn image ∷ []) r e) (walked.test t tells here) (walked.looks.same ∙ ap but_pages c.self.view_is) walked.looks.quiet is (walked.looks.opened t tells here)
 
 pub returns-in_err-check_room-in-Some-clause-makes : goal.returns-in_err-check_room-in-Some-clause-makes
 returns-in_err-check_room-in-Some-clause-makes g c t tells is =
@@ -86,7 +64,7 @@ returns-in_err-check_room-in-Some-clause-makes g c t tells is =
     let walked = c.in_ok-walked.ensures in
     let tests = c.in_err-check_room-in-Some.ensures in
     tries_early (Unit {0}) Room _ _ _ _ _ _ t _ (room_cause t.base.image) (room_in t.base.image).draft.strokes c.from_residual-in_err-check_room-in-Some.ensures (λ r e. cause_is g at t tells is ∙ e)
-    (tests.test t tells (walked_some g at t tells is) (kind g at t tells is)) (tests.same ∙ walked.same ∙ ap but_pages c.self.view_is) (quiet_joined _ _ _ walked.quiet tests.quiet) is (tests.open t tells (walked_some g at t tells is))
+    (tests.test t tells (walked_some g at t tells is) (kind g at t tells is)) (tests.looks.same ∙ walked.looks.same ∙ ap but_pages c.self.view_is) (quiet_joined _ _ _ walked.looks.quiet tests.looks.quiet) is (tests.looks.opened t tells (walked_some g at t tells is))
 
 pub returns-in_ok-check_room-in-Some-clause-makes : goal.returns-in_ok-check_room-in-Some-clause-makes
 returns-in_ok-check_room-in-Some-clause-makes g c t tells is =
@@ -96,7 +74,7 @@ returns-in_ok-check_room-in-Some-clause-makes g c t tells is =
     let tests = c.in_ok-check_room-in-Some.ensures in
     tries_made (Ok c.in-Some.room) _ _ _ _ t (room_cause t.base.image) (room_in t.base.image).draft.strokes (cause_is g at t tells is ∙ tests.test t tells (walked_some g at t tells is) (kind g at t tells is)) tt
     (subst (λ (ss : List Stroke). Makes (Ok c.in-Some.room) (g.H.Host.world c.args.host.now) (g.H.Host.world c.check_room.new.host) c.args.self.now c.check_room.new.store t ss) (sym (kept_none t.base.image slot.spot slot.is))
-    (makes_none (Ok c.in-Some.room) _ _ _ _ t (tests.same ∙ walked.same ∙ ap but_pages c.self.view_is) (quiet_joined _ _ _ walked.quiet tests.quiet) is (tests.open t tells (walked_some g at t tells is))))
+    (makes_none (Ok c.in-Some.room) _ _ _ _ t (tests.looks.same ∙ walked.looks.same ∙ ap but_pages c.self.view_is) (quiet_joined _ _ _ walked.looks.quiet tests.looks.quiet) is (tests.looks.opened t tells (walked_some g at t tells is))))
 
 pub returns-in_err-number-in-None-clause-makes : goal.returns-in_err-number-in-None-clause-makes
 returns-in_err-number-in-None-clause-makes g c t tells is =
@@ -109,7 +87,7 @@ returns-in_err-number-in-None-clause-makes g c t tells is =
     tries_passed c.from_residual-in_err-number-in-None.result fault (λ r. Tries r w new c.args.self.now c.grow.new.store t (room_cause image) (room_in image).draft.strokes) c.from_residual-in_err-number-in-None.ensures
     (tries_named {T = Room} (Err fault) w new c.args.self.now c.grow.new.store t (grow_cause image pages) (room_cause image) (grown History pages [] (drafted image)).0.strokes (room_in image).draft.strokes (grown_cause image (none g at t tells is) (linked_none g at t tells is)) (sym (grown_draft image (none g at t tells is)))
     (tries_other ℕ Room fault _ _ _ _ t _ _
-    (tries_after {T = ℕ} (Err fault) _ _ _ _ _ _ t _ _ (c.in_ok-walked.ensures.same ∙ ap but_pages c.self.view_is) c.in_ok-walked.ensures.quiet is
+    (tries_after {T = ℕ} (Err fault) _ _ _ _ _ _ t _ _ (c.in_ok-walked.ensures.looks.same ∙ ap but_pages c.self.view_is) c.in_ok-walked.ensures.looks.quiet is
     (c.in_err-number-in-None.ensures.makes t pages tells (walked_none g at t tells is) (shaped g at t tells is) (last_is g at t tells is) (is_data g at t tells is)))))
 
 pub returns-in_ok-number-in-None-clause-makes : goal.returns-in_ok-number-in-None-clause-makes
@@ -120,7 +98,7 @@ returns-in_ok-number-in-None-clause-makes g c t tells is =
     let room : Room = record { page = c.in_ok-number-in-None.number; slot = 0 } in
     tries_named (Ok room) _ _ c.args.self.now c.grow.new.store t (grow_cause image pages) (room_cause image) (grown History pages [] (drafted image)).0.strokes (room_in image).draft.strokes (grown_cause image (none g at t tells is) (linked_none g at t tells is)) (sym (grown_draft image (none g at t tells is)))
     (tries_valued c.in_ok-number-in-None.number room _ _ _ _ t _ _
-    (tries_after (Ok c.in_ok-number-in-None.number) _ _ _ _ _ _ t _ _ (c.in_ok-walked.ensures.same ∙ ap but_pages c.self.view_is) c.in_ok-walked.ensures.quiet is
+    (tries_after (Ok c.in_ok-number-in-None.number) _ _ _ _ _ _ t _ _ (c.in_ok-walked.ensures.looks.same ∙ ap but_pages c.self.view_is) c.in_ok-walked.ensures.looks.quiet is
     (c.in_ok-number-in-None.ensures.makes t pages tells (walked_none g at t tells is) (shaped g at t tells is) (last_is g at t tells is) (is_data g at t tells is))))
 
 pub returns-in_ok-check_room-in-Some-clause-room : goal.returns-in_ok-check_room-in-Some-clause-room

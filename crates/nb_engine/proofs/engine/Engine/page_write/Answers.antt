@@ -1,35 +1,14 @@
-use Rattle.std.proofs.Common.{◌≡◌, ◌<◌, List, [], ◌∷◌, ◌++◌, refl, sym, subst, ◌∙◌, arith, ap}
-use Rattle.std.specs.Prelude.{None, Ok, Err, IsTrue}
-use Rattle.nb_host.specs.Faults.{as_fault}
-use Rattle.nb_fields.specs.Places.{entries_in}
-use Rattle.nb_model.specs.declared.reply.Reply.TheVariants.{Done}
-use Rattle.nb_model.specs.Image.{page_at, image_size}
-use Rattle.nb_model.specs.Strokes.{Stroke}
-use Rattle.nb_model.specs.Causes.{first_cause, read_only, not_raw, too_long}
-use Rattle.nb_model.specs.Outcomes.{Seen}
-use Rattle.nb_model.specs.Pages.{write_turn}
-use Rattle.nb_model.specs.Trail.{Trail}
-use Rattle.nb_state.specs.Open.{Held, IsOpen, but_pages}
-use Rattle.nb_state.specs.Does.{Does}
-use Rattle.nb_alloc.specs.Tries.{Tries}
-use Rattle.nb_alloc.specs.Put.{entry_cause, raise_strokes, raw_stroke}
-use Rattle.nb_engine.specs.Replies.{done}
-use Rattle.nb_alloc.proofs.TestLaws.{vec_whole}
-use Rattle.nb_alloc.proofs.MarkLaws.{entries_some}
-use Rattle.nb_alloc.proofs.DoesLaws.{seeing, tested_does, tries_does, if_err, tries_passed, tries_after, tries_front, tries_opened}
+use Rattle.std.proofs.Common.{◌≡◌, ◌<◌, List, [], ◌∷◌, ◌++◌, refl, sym, subst, ◌∙◌, arith, ap, None, Ok, Err, IsTrue}
+use Rattle.nb_engine.proofs.Common.{as_fault, entries_in, Done, page_at, image_size, Stroke, first_cause, read_only, not_raw, too_long, Seen, write_turn, Trail, Held, IsOpen, but_pages, Does, Tries, entry_cause, raise_strokes, raw_stroke, done, vec_whole, entries_some, seeing, tested_does, tries_does, if_err, tries_passed, tries_after, tries_front, tries_opened, counts_passed, memory_wanted, none_wanted, none_refused, after_strokes, stops_first, stops_then, stops_after}
 use Rattle.nb_engine.proofs.WriteLaws.{no_header, write_untaken, write_checked, write_is, write_does}
-use Rattle.nb_change.proofs.FaultLaws.{counts_passed, memory_wanted, none_wanted}
 use Rattle.nb_change.proofs.ResultLaws.{passed_on}
-use Rattle.nb_state.proofs.MakesLaws.{none_refused}
-use Rattle.nb_base.specs.Takes.{after_strokes}
-use Rattle.nb_alloc.proofs.WantLaws.{stops_first, stops_then, stops_after}
 use Rattle.nb_engine.proofs.engine.Engine.page_write.Goals as goal
 use Rattle.nb_engine.proofs.engine.Engine.page_write.Goals.{After-deref_mut-2}
 
 -- The page was taken, and its entry was raised.
 module _ (g : _) (c : goal.After-deref_mut-2 g) (t : Trail) (tells : IsTrue g.H.Host.tells) (is : IsOpen (g.H.Host.world c.args.host.now) c.args.self.now t) where
   still : IsOpen (g.H.Host.world c.read_raw.new.host) c.read_raw.new.store t
-  still = c.in_ok-read_raw.ensures.open t tells (subst (λ (h : Held). IsOpen (g.H.Host.world c.args.host.now) h t) (sym c.self.view_is) is)
+  still = c.in_ok-read_raw.ensures.looks.opened t tells (subst (λ (h : Held). IsOpen (g.H.Host.world c.args.host.now) h t) (sym c.self.view_is) is)
 
   taken : not_raw t.base.image c.args.number ≡ None
   taken = (c.in_ok-read_raw.ensures.reads t tells (subst (λ (h : Held). IsOpen (g.H.Host.world c.args.host.now) h t) (sym c.self.view_is) is)).test
@@ -50,13 +29,13 @@ module _ (g : _) (c : goal.After-deref_mut-2 g) (t : Trail) (tells : IsTrue g.H.
   raised : Tries {T = Unit {0}} (Ok tt) (g.H.Host.world c.args.host.now) (g.H.Host.world c.raise_entry.new.host) c.args.self.now c.raise_entry.new.store t (entry_cause t.base.image c.args.number) (raise_strokes t.base.image c.args.number)
   raised =
       let raw = c.in_ok-read_raw.ensures in
-      tries_after {T = Unit {0}} (Ok tt) _ _ _ c.args.self.now _ c.raise_entry.new.store t _ _ (raw.same ∙ ap but_pages c.self.view_is) raw.quiet is (c.in_ok-raise_entry.ensures.tries t tells still)
+      tries_after {T = Unit {0}} (Ok tt) _ _ _ c.args.self.now _ c.raise_entry.new.store t _ _ (raw.looks.same ∙ ap but_pages c.self.view_is) raw.looks.quiet is (c.in_ok-raise_entry.ensures.tries t tells still)
 
 pub returns-in_err-read_raw-clause-turn : goal.returns-in_err-read_raw-clause-turn
 returns-in_err-read_raw-clause-turn g c s t tells same is =
     let here = subst (λ (h : Held). IsOpen (g.H.Host.world c.args.host.now) h t) (sym c.self.view_is) is in
     let raw = c.in_err-read_raw.ensures in
-    tested_does (Unit {0}) (Unit {0}) done _ _ _ _ _ _ t s (λ (x : Seen). write_turn x c.args.number c.args.text.now) _ c.from_residual.ensures same (raw.same ∙ ap but_pages c.self.view_is) raw.quiet is (raw.open t tells here)
+    tested_does (Unit {0}) (Unit {0}) done _ _ _ _ _ _ t s (λ (x : Seen). write_turn x c.args.number c.args.text.now) _ c.from_residual.ensures same (raw.looks.same ∙ ap but_pages c.self.view_is) raw.looks.quiet is (raw.looks.opened t tells here)
     (raw.reads t tells here).test (write_untaken (seeing s t.base) c.args.number c.args.text.now)
 
 pub returns-then-number-eq0-clause-turn : goal.returns-then-number-eq0-clause-turn
@@ -68,8 +47,8 @@ pub returns-in_err-check_write-clause-turn : goal.returns-in_err-check_write-cla
 returns-in_err-check_write-clause-turn g c s t tells same is =
     let here = subst (λ (h : Held). IsOpen (g.H.Host.world c.args.host.now) h t) (sym c.self.view_is) is in
     let raw = c.in_ok-read_raw.ensures in
-    let still = raw.open t tells here in
-    tested_does (Unit {0}) (Unit {0}) done _ _ _ _ _ _ t s (λ (x : Seen). write_turn x c.args.number c.args.text.now) _ c.from_residual-in_err-check_write.ensures same (raw.same ∙ ap but_pages c.self.view_is) raw.quiet is (raw.open t tells here)
+    let still = raw.looks.opened t tells here in
+    tested_does (Unit {0}) (Unit {0}) done _ _ _ _ _ _ t s (λ (x : Seen). write_turn x c.args.number c.args.text.now) _ c.from_residual-in_err-check_write.ensures same (raw.looks.same ∙ ap but_pages c.self.view_is) raw.looks.quiet is (raw.looks.opened t tells here)
     (c.in_err-check_write.ensures.test t.base.image (c.is_read_only.ensures ∙ still.agrees.read_only)) (write_checked (seeing s t.base) c.args.number c.args.text.now (raw.reads t tells here).test)
 
 pub returns-in_err-raise_entry-clause-turn : goal.returns-in_err-raise_entry-clause-turn
@@ -81,7 +60,7 @@ returns-in_err-raise_entry-clause-turn g c s t tells same is =
     let new = g.H.Host.world c.raise_entry.new.host in
     let here = subst (λ (h : Held). IsOpen old h t) (sym c.self.view_is) is in
     let raw = c.in_ok-read_raw.ensures in
-    let still = raw.open t tells here in
+    let still = raw.looks.opened t tells here in
     let some = entries_some _ image c.self.invariant.0 here.files.agrees.page_size in
     let turn = write_is (seeing s t.base) p text (raw.reads t tells here).test (c.in_ok-check_write.ensures.test image (c.is_read_only.ensures ∙ still.agrees.read_only)) some in
     let both : List Stroke = raise_strokes image p ++ raw_stroke image p text ∷ [] in
@@ -89,7 +68,7 @@ returns-in_err-raise_entry-clause-turn g c s t tells same is =
     let result = c.from_residual-in_err-raise_entry.result in
     let tries = tries_passed result fault (λ r. Tries r old new c.args.self.now c.raise_entry.new.store t (entry_cause image p) both) c.from_residual-in_err-raise_entry.ensures
     (tries_front (Unit {0}) (Unit {0}) fault _ _ _ _ t _ (raise_strokes image p) (raw_stroke image p text ∷ [])
-    (tries_after {T = Unit {0}} (Err fault) _ _ _ _ _ _ t _ _ (raw.same ∙ ap but_pages c.self.view_is) raw.quiet is (c.in_err-raise_entry.ensures.tries t tells still))) in
+    (tries_after {T = Unit {0}} (Err fault) _ _ _ _ _ _ t _ _ (raw.looks.same ∙ ap but_pages c.self.view_is) raw.looks.quiet is (c.in_err-raise_entry.ensures.tries t tells still))) in
     tries_does done result old new _ _ t s (λ (x : Seen). write_turn x p text) _ Done refl both same turn (if_err result fault _ c.from_residual-in_err-raise_entry.ensures) tries
 
 pub returns-clause-turn : goal.returns-clause-turn
@@ -112,8 +91,8 @@ returns-in_err-raise_entry-clause-on_memory g c t tells is memory =
     let here = subst (λ (h : Held). IsOpen (g.H.Host.world c.args.host.now) h t) (sym c.self.view_is) is in
     let raw = c.in_ok-read_raw.ensures in
     let wants = sym (passed_on c.from_residual-in_err-raise_entry.result c.in_err-raise_entry.field-0.0 c.from_residual-in_err-raise_entry.ensures) ∙ memory in
-    let left = c.in_err-raise_entry.ensures.on_memory t tells (raw.open t tells here) wants in
-    stops_after _ _ _ c.args.self.now _ c.raise_entry.new.store t _ (raw.same ∙ ap but_pages c.self.view_is) raw.quiet is (stops_first _ _ c.read_raw.new.store c.raise_entry.new.store t _ left.0 left.1)
+    let left = c.in_err-raise_entry.ensures.on_memory t tells (raw.looks.opened t tells here) wants in
+    stops_after _ _ _ c.args.self.now _ c.raise_entry.new.store t _ (raw.looks.same ∙ ap but_pages c.self.view_is) raw.looks.quiet is (stops_first _ _ c.read_raw.new.store c.raise_entry.new.store t _ left.0 left.1)
 
 pub returns-in_err-write_raw-clause-on_memory : goal.returns-in_err-write_raw-clause-on_memory
 returns-in_err-write_raw-clause-on_memory g c t tells is memory =
@@ -132,7 +111,7 @@ pub returns-in_err-write_raw-clause-takes_none : goal.returns-in_err-write_raw-c
 returns-in_err-write_raw-clause-takes_none g c unstalled =
     let raw = c.in_ok-read_raw.ensures in
     none_wanted c.from_residual-in_err-write_raw.result c.in_err-write_raw.field-0.0 c.from_residual-in_err-write_raw.ensures
-    (c.in_err-write_raw.ensures.takes_none (λ one. unstalled (sym (ap (λ (h : Held). h.files.state) (raw.same ∙ ap but_pages c.self.view_is)) ∙ sym c.in_ok-raise_entry.ensures.goes.state ∙ one)))
+    (c.in_err-write_raw.ensures.takes_none (λ one. unstalled (sym (ap (λ (h : Held). h.files.state) (raw.looks.same ∙ ap but_pages c.self.view_is)) ∙ sym c.in_ok-raise_entry.ensures.goes.state ∙ one)))
 
 pub write_raw-requires-clause-inside : goal.write_raw-requires-clause-inside
-write_raw-requires-clause-inside g c = omega (arith, c.in_ok-read_raw.ensures.inside, ap (λ (h : Held). h.files.count) c.in_ok-read_raw.ensures.same, c.in_ok-raise_entry.ensures.goes.longer)
+write_raw-requires-clause-inside g c = omega (arith, c.in_ok-read_raw.ensures.inside, ap (λ (h : Held). h.files.count) c.in_ok-read_raw.ensures.looks.same, c.in_ok-raise_entry.ensures.goes.longer)

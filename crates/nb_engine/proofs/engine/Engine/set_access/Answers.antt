@@ -1,22 +1,10 @@
-use Rattle.std.proofs.Common.{◌≡◌, ℕ, ◌∙◌, refl, sym, ap, subst, rules, arith}
-use Rattle.std.specs.Prelude.{None, Some}
-use Rattle.nb_fields.specs.States.{normal_state}
+use Rattle.std.proofs.Common.{◌≡◌, ℕ, ◌∙◌, refl, sym, ap, subst, rules, arith, None, Some}
+use Rattle.nb_engine.proofs.Common.{normal_state, WrongState, quiet_begun, Done, flag, Cause, not_state, Seen, byte_strokes, access_turn, Held, IsOpen, Tries, done, seeing, if_ok, tries_failed, tries_does}
 use denote.Enum.Bare.{same_true, same_false}
-use Rattle.nb_host.specs.declared.refusals.Refusal.TheVariants.{WrongState}
-use Rattle.nb_page.proofs.QuietLaws.{quiet_begun}
-use Rattle.nb_model.specs.declared.reply.Reply.TheVariants.{Done}
-use Rattle.nb_model.specs.Lines.{flag}
-use Rattle.nb_model.specs.Causes.{Cause, not_state}
-use Rattle.nb_model.specs.Outcomes.{Seen}
-use Rattle.nb_model.specs.Pages.{byte_strokes, access_turn}
 use Rattle.nb_cases.specs.Events.{OnOpen}
 use Rattle.nb_cases.specs.contracts.events.Case.{the_type}
 use Rattle.nb_cases.specs.declared.events.Case.TheVariants as case
 use Rattle.nb_cases.proofs.StateLaws.{goes, only_normal}
-use Rattle.nb_state.specs.Open.{Held, IsOpen}
-use Rattle.nb_alloc.specs.Tries.{Tries}
-use Rattle.nb_engine.specs.Replies.{done}
-use Rattle.nb_alloc.proofs.DoesLaws.{seeing, if_ok, tries_failed, tries_does}
 use Rattle.nb_engine.proofs.FlagLaws.{access_is}
 use Rattle.nb_engine.proofs.engine.Engine.set_access.Goals as goal
 

@@ -1,18 +1,5 @@
-use Rattle.std.proofs.Common.{◌≡◌, ℕ, [], ◌∙◌, refl, sym, ap, subst}
-use Rattle.std.specs.Prelude.{true, None}
-use Rattle.nb_page.specs.Quiet.{Quiet}
-use Rattle.nb_page.proofs.QuietLaws.{quiet_begun}
-use Rattle.nb_model.specs.declared.reply.Reply.TheVariants.{Done}
-use Rattle.nb_model.specs.Image.{is_read_only}
-use Rattle.nb_model.specs.Lines.{flag}
-use Rattle.nb_model.specs.Causes.{Cause, read_only}
-use Rattle.nb_model.specs.Outcomes.{Seen}
-use Rattle.nb_model.specs.Pages.{byte_strokes, forced_turn}
-use Rattle.nb_base.specs.Takes.{Strikes}
-use Rattle.nb_state.specs.Open.{Held, IsOpen, NoPageWaits, but_pages, name_of}
-use Rattle.nb_alloc.specs.Tries.{Tries}
-use Rattle.nb_engine.specs.Replies.{done}
-use Rattle.nb_alloc.proofs.DoesLaws.{seeing, if_ok, tries_failed, tries_does}
+use Rattle.std.proofs.Common.{◌≡◌, ℕ, [], ◌∙◌, refl, sym, ap, subst, true, None}
+use Rattle.nb_engine.proofs.Common.{Quiet, quiet_begun, Done, is_read_only, flag, Cause, read_only, Seen, byte_strokes, forced_turn, Strikes, Held, IsOpen, NoPageWaits, but_pages, name_of, Tries, done, seeing, if_ok, tries_failed, tries_does}
 use Rattle.nb_engine.proofs.FreeLaws.{closed_cause, open_cause}
 use Rattle.nb_engine.proofs.FlagLaws.{forced_is}
 use Rattle.nb_engine.proofs.engine.Engine.set_forced.Goals as goal

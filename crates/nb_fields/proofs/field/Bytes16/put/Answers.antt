@@ -1,5 +1,5 @@
 use Rattle.std.proofs.Common.{◌≡◌, ◌+◌, ◌-◌, length, ap, ◌∙◌, arith}
-use Rattle.nb_fields.specs.Bytes.{number_in, part, with_part}
+use Rattle.nb_fields.proofs.Common.{number_in, part, with_part}
 use Rattle.nb_fields.proofs.PartLaws.{part-with_part, part-with_part_other, number_in-with_part_other, put_mid-with_part}
 use Rattle.nb_fields.proofs.field.Bytes16.put.Goals as goal
 

@@ -1,5 +1,5 @@
 use Rattle.std.proofs.Common.{ℕ, ◌+◌, length, subst, sym}
-use Rattle.nb_file.specs.Whole.{IsWhole}
+use Rattle.nb_file.proofs.Common.{IsWhole}
 use Rattle.nb_file.proofs.GrowthLaws.{page-ends}
 use Rattle.nb_file.proofs.held.Held.write_page.Goals as goal
 

@@ -1,5 +1,5 @@
 use Rattle.std.proofs.Common.{◌≡◌, ◌⊎◌, inl, inr, ◌∙◌, ◌++◌, ap, List, [], ℕ, take, Result, Ok, Err, is_ok, if◌then◌else◌}
-use Rattle.std.proofs.lemmas.List.{take_min}
+use Rattle.nb_file.proofs.Common.{take_min}
 use Rattle.nb_file.proofs.said.Said.keep.Goals as goal
 
 -- all of the front is kept, or nothing

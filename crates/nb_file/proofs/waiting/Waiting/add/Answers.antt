@@ -1,6 +1,5 @@
 use Rattle.std.proofs.Common.{◌≡◌, ◌++◌, List, ℕ, ap, sym, ◌∙◌, Result, is_ok, if◌then◌else◌, OnOk, Ok, Err}
-use Rattle.nb_host.specs.Files.{put_at}
-use Rattle.nb_file.specs.Gathered.{seen}
+use Rattle.nb_file.proofs.Common.{put_at, seen}
 use Rattle.nb_file.proofs.GatheredLaws.{seen-more}
 use Rattle.nb_file.proofs.waiting.Waiting.add.Goals as goal
 

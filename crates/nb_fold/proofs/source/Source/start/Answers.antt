@@ -1,6 +1,5 @@
 use Rattle.std.proofs.Common.{refl, ap}
-use Rattle.nb_fold.specs.Sources.{Held, IsGiven, IsOpened, Waits}
-use Rattle.nb_chain.proofs.AnswerLaws.{passed}
+use Rattle.nb_fold.proofs.Common.{Held, IsGiven, IsOpened, Waits, passed}
 use Rattle.nb_fold.proofs.OpenLaws.{not_begun, coming_now, opened, given_by}
 use Rattle.nb_fold.proofs.source.Source.start.Goals as goal
 

@@ -1,7 +1,5 @@
 use Rattle.std.proofs.Common.{sym, ap, subst}
-use Rattle.nb_level.specs.Heads.{head_of}
-use Rattle.nb_gather.specs.Gathering.{LevelWriting, IsHeaded}
-use Rattle.nb_gather.specs.Making.{IsMade, IsUnfinished}
+use Rattle.nb_gather.proofs.Common.{head_of, LevelWriting, IsHeaded, IsMade, IsUnfinished}
 use Rattle.nb_gather.proofs.QuietLaws.{renamed}
 use Rattle.nb_gather.proofs.HeadLaws.{head_left, head_reads, head_taken}
 use Rattle.nb_gather.proofs.TouchLaws.{touches_named, touches_bytes}

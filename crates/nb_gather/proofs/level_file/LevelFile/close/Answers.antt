@@ -1,10 +1,5 @@
-use Rattle.std.proofs.Common.{inl, ℕ, List, sym, ap, subst, ◌∙◌}
-use Rattle.std.specs.Prelude.{OnOk}
-use Rattle.nb_host.specs.Files.{File, Files}
-use Rattle.nb_level.specs.Heads.{head_of}
-use Rattle.nb_model.specs.Levels.{level_bytes}
-use Rattle.nb_gather.specs.Gathering.{LevelWriting}
-use Rattle.nb_gather.specs.Making.{IsUnfinishedOr, IsKept}
+use Rattle.std.proofs.Common.{inl, ℕ, List, sym, ap, subst, ◌∙◌, OnOk}
+use Rattle.nb_gather.proofs.Common.{File, Files, head_of, level_bytes, LevelWriting, IsUnfinishedOr, IsKept}
 use Rattle.nb_gather.proofs.QuietLaws.{renamed, sync_then, sync_kept}
 use Rattle.nb_gather.proofs.CloseLaws.{more_than, front_reads, synced_left, ended_left, ended_or, ended_reads}
 use Rattle.nb_gather.proofs.TouchLaws.{touches_named, touches_then, touches_still, touches_bytes}

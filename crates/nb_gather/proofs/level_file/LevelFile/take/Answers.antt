@@ -1,14 +1,7 @@
-use Rattle.std.proofs.Common.{◌≡◌, ◌<◌, ◌≤◌, List, ◌++◌, sym, ap, subst, ◌∙◌, arith}
-use Rattle.std.specs.Prelude.{OnOk}
-use Rattle.std.proofs.lemmas.List.{append-nil}
-use Rattle.nb_fields.specs.Page.{stamp_of}
+use Rattle.std.proofs.Common.{◌≡◌, ◌<◌, ◌≤◌, List, ◌++◌, sym, ap, subst, ◌∙◌, arith, OnOk}
+use Rattle.nb_gather.proofs.Common.{append-nil, stamp_of, Numbered, Only, remade_begun, LevelWriting, HasTaken, MayHave, IsUnfinished, stamp_in}
 use Rattle.nb_page.specs.declared.page.PageHead.{PageHead}
-use Rattle.nb_model.specs.Image.{Numbered}
-use Rattle.nb_change.specs.Changes.{Only}
-use Rattle.nb_change.proofs.MovedLaws.{remade_begun}
-use Rattle.nb_gather.specs.Gathering.{LevelWriting, HasTaken, MayHave}
-use Rattle.nb_gather.specs.Making.{IsUnfinished}
-use Rattle.nb_gather.proofs.CloseLaws.{taken_one, taken_none, stamp_in}
+use Rattle.nb_gather.proofs.CloseLaws.{taken_one, taken_none}
 use Rattle.nb_gather.proofs.TouchLaws.{touches_none}
 use Rattle.nb_gather.proofs.level_file.LevelFile.take.Goals as goal
 

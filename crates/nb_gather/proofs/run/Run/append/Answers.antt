@@ -1,8 +1,5 @@
 use Rattle.std.proofs.Common.{◌++◌, ◌*◌, take, ap, subst, arith, mul-le-mul_right}
-use Rattle.nb_fields.specs.Bytes.{bytes_of}
-use Rattle.nb_fields.proofs.SizeLaws.{size_facts}
-use Rattle.nb_level.specs.Adding.{AddsTwo}
-use Rattle.nb_gather.specs.Gathering.{Waiting}
+use Rattle.nb_gather.proofs.Common.{bytes_of, size_facts, AddsTwo, Waiting}
 use Rattle.nb_gather.proofs.WaitingLaws.{run_adds}
 use Rattle.nb_gather.proofs.run.Run.append.Goals as goal
 

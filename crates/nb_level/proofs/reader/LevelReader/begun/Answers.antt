@@ -1,8 +1,5 @@
-use Rattle.std.proofs.Common.{◌≡◌, inl, inr, ⊎_elim, ℕ, sym, ap, ◌∙◌, subst, arith}
-use Rattle.std.specs.Prelude.{IsTrue}
-use Rattle.nb_fields.specs.Places.{is_page_size}
-use Rattle.nb_fields.specs.Bytes.{number_in}
-use Rattle.nb_model.specs.Levels.{Head, head_in}
+use Rattle.std.proofs.Common.{◌≡◌, inl, inr, ⊎_elim, ℕ, sym, ap, ◌∙◌, subst, arith, IsTrue}
+use Rattle.nb_level.proofs.Common.{is_page_size, number_in, Head, head_in}
 use Rattle.nb_level.proofs.reader.LevelReader.begun.Goals as goal
 
 pub invariant_of-result : goal.invariant_of-result

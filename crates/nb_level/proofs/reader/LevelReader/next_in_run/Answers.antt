@@ -1,6 +1,5 @@
 use Rattle.std.proofs.Common.{◌≡◌, List, ℕ, take, drop, length, refl, sym, ap, ◌∙◌, arith}
-use Rattle.nb_host.specs.Files.{bytes_of}
-use Rattle.nb_level.specs.Reading.{Reading}
+use Rattle.nb_level.proofs.Common.{bytes_of, Reading}
 use Rattle.nb_level.proofs.NextLaws.{read_cut, read_whole, run-cut, run-more}
 use Rattle.nb_level.proofs.reader.LevelReader.next_in_run.Goals as goal
 

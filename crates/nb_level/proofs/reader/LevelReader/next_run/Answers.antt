@@ -1,14 +1,8 @@
-use Rattle.std.proofs.Common.{◌≡◌, ◌+◌, ◌-◌, ◌≤◌, List, ℕ, take, drop, length, Option, Some, Ok, IfSome, subst, refl, sym, ap, ◌∙◌, arith}
-use Rattle.nb_fields.specs.Bytes.{number_in, part}
-use Rattle.nb_fields.proofs.PartLaws.{number_in-take}
-use Rattle.nb_fields.proofs.SizeLaws.{size_facts}
-use Rattle.nb_fields.specs.Places.{most_pages}
-use Rattle.nb_host.specs.Files.{bytes_of}
-use Rattle.nb_level.specs.Reading.{Reading}
+use Rattle.std.proofs.Common.{◌≡◌, ◌+◌, ◌-◌, ◌≤◌, List, ℕ, take, drop, length, Option, Some, Ok, IfSome, subst, refl, sym, ap, ◌∙◌, arith, IsTrue}
+use Rattle.nb_level.proofs.Common.{number_in, part, number_in-take, size_facts, most_pages, bytes_of, Reading}
 use Rattle.nb_level.proofs.NextLaws.{filled, to_end, window_is, page_is, run-broken, run-end, run-gives}
 use Rattle.nb_level.proofs.reader.LevelReader.next_run.Goals as goal
 use Rattle.nb_level.proofs.reader.LevelReader.next_run.Goals.{After-run_step}
-use Rattle.std.specs.Prelude.{IsTrue}
 
 -- What was read.
 module _ (g : _) (c : goal.After-run_step g) where

@@ -1,5 +1,5 @@
 use Rattle.std.proofs.Common.{◌≡◌}
-use Rattle.nb_mem.specs.Histories.{with_guids}
+use Rattle.nb_mem.proofs.Common.{with_guids}
 use Rattle.nb_mem.proofs.history.History.give_guids.Given as goal
 
 abbrev pub invariant-loop : goal.invariant-loop

@@ -1,15 +1,6 @@
-use Rattle.std.proofs.Common.{◌≡◌, ◌<◌, ◌≤◌, ◌+◌, List, [], ◌∷◌, ◌++◌, length, get_or, ◌∙◌, sym, ap, ap₂, subst, take, drop, add-one}
-use Rattle.std.specs.Prelude.{reverse}
-use Rattle.std.proofs.lemmas.List.{take_more, take_all, drop_all}
+use Rattle.std.proofs.Common.{◌≡◌, ◌<◌, ◌≤◌, ◌+◌, List, [], ◌∷◌, ◌++◌, length, get_or, ◌∙◌, sym, ap, ap₂, subst, take, drop, add-one, reverse}
+use Rattle.nb_mem.proofs.Common.{take_more, take_all, drop_all, Leaves, Entry, Slot, Choices, names_in, world_of, IsLeft, placed, left_by, outcome_by, placed_all, picked, begun}
 use Rattle.std.proofs.Math.Seq.{drop-cons}
-use Rattle.nb_host.specs.Crash.{Leaves}
-use Rattle.nb_mem.specs.declared.entry.Entry.{Entry}
-use Rattle.nb_mem.specs.declared.slots.Slot.{Slot}
-use Rattle.nb_mem.specs.declared.choices.Choices.{Choices}
-use Rattle.nb_mem.specs.Slots.{names_in}
-use Rattle.nb_mem.specs.Histories.{world_of}
-use Rattle.nb_mem.specs.Outcomes.{IsLeft, placed}
-use Rattle.nb_mem.specs.Chosen.{left_by, outcome_by, placed_all, picked, begun}
 use Rattle.nb_mem.proofs.OutcomeLaws.{left_leaves}
 use Rattle.nb_mem.proofs.LeftLaws.{IsLeftSoFar, one_placed, all_placed}
 use Rattle.nb_mem.proofs.history.History.left.Goals as goal

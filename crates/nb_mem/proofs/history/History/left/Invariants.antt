@@ -1,7 +1,5 @@
-use Rattle.std.proofs.Common.{◌≡◌, take, drop, []}
-use Rattle.std.specs.Prelude.{reverse}
-use Rattle.nb_mem.specs.Chosen.{begun, placed_all}
-use Rattle.nb_mem.specs.Slots.{names_in}
+use Rattle.std.proofs.Common.{◌≡◌, take, drop, [], reverse}
+use Rattle.nb_mem.proofs.Common.{begun, placed_all, names_in}
 use Rattle.nb_mem.proofs.LeftLaws.{IsLeftSoFar}
 use Rattle.nb_mem.proofs.history.History.left.Given as goal
 

@@ -1,8 +1,5 @@
 use Rattle.std.proofs.Common.{List, ◌∙◌, sym, ap, subst}
-use Rattle.nb_host.specs.Calls.{IsStill}
-use Rattle.nb_mem.specs.Histories.{guids_of, with_guids, world_of}
-use Rattle.nb_mem.specs.Memory.{Memory}
-use Rattle.nb_mem.specs.declared.entry.Entry.{Entry}
+use Rattle.nb_mem.proofs.Common.{IsStill, guids_of, with_guids, world_of, Memory, Entry}
 use Rattle.nb_mem.proofs.GuidLaws.{given_guids, given_still}
 use Rattle.nb_mem.proofs.host.MemHost.behind_guids.Goals as goal
 

@@ -1,8 +1,5 @@
-use Rattle.std.proofs.Common.{◌≡◌, ◌∙◌, ◌∷◌, ap, subst}
-use Rattle.std.specs.Prelude.{OnOk}
-use Rattle.nb_mem.specs.Memory.{Memory}
-use Rattle.nb_mem.specs.declared.entry.Change.TheVariants.{Synced}
-use Rattle.nb_mem.specs.declared.entry.Entry.TheVariants.{Changed}
+use Rattle.std.proofs.Common.{◌≡◌, ◌∙◌, ◌∷◌, ap, subst, OnOk}
+use Rattle.nb_mem.proofs.Common.{Memory, Synced, Changed}
 use Rattle.nb_mem.proofs.CallLaws.{synced}
 use Rattle.nb_mem.proofs.host.MemHostHost.sync.Goals as goal
 

@@ -1,15 +1,5 @@
-use Rattle.std.proofs.Common.{◌≡◌, List, ℕ, [], ◌∷◌, inl, sym, subst, ap, ◌∙◌}
-use Rattle.std.proofs.lemmas.Result.{on_ok_weaker}
-use Rattle.nb_change.proofs.ChangesLaws.{weaker_has}
-use Rattle.nb_change.proofs.ReachedLaws.{strokes_composed}
-use Rattle.nb_model.specs.Strokes.{begin}
-use Rattle.nb_model.specs.Trail.{StandsIn, after_stroke}
-use Rattle.nb_base.specs.Open.{OfFiles}
-use Rattle.nb_base.specs.Takes.{Strikes}
-use Rattle.nb_base.proofs.WriteLaws.{not_done}
-use Rattle.std.specs.Prelude.{nat_eq}
-use Rattle.std.specs.Map.{remove_entry}
-use Rattle.nb_owner.specs.Open.{Pages, bare, behind_first}
+use Rattle.std.proofs.Common.{◌≡◌, List, ℕ, [], ◌∷◌, inl, sym, subst, ap, ◌∙◌, nat_eq}
+use Rattle.nb_owner.proofs.Common.{on_ok_weaker, weaker_has, strokes_composed, begin, StandsIn, after_stroke, OfFiles, Strikes, not_done, remove_entry, Pages, bare, behind_first}
 use Rattle.nb_owner.proofs.OpenLaws.{bare_removed}
 use Rattle.nb_owner.proofs.pair.Pair.begin.Goals as goal
 

@@ -1,12 +1,5 @@
 use Rattle.std.proofs.Common.{[], ◌∷◌, refl, sym, subst, ◌∙◌}
-use Rattle.nb_model.specs.Strokes.{begin}
-use Rattle.nb_model.specs.Trail.{after_stroke}
-use Rattle.nb_base.specs.Takes.{Strikes}
-use Rattle.nb_base.proofs.FirmLaws.{strikes_left}
-use Rattle.nb_base.proofs.WriteLaws.{not_done}
-use Rattle.nb_cache.specs.Held.{NoneWaits}
-use Rattle.nb_owner.specs.Open.{Held, Pages, IsOpen, AreOf}
-use Rattle.nb_owner.specs.contracts.pair.Pair.{the_view}
+use Rattle.nb_owner.proofs.Common.{begin, after_stroke, Strikes, strikes_left, not_done, NoneWaits, Held, Pages, IsOpen, AreOf, the_view}
 use Rattle.nb_owner.proofs.RankLaws.{none_found}
 use Rattle.nb_owner.proofs.OpenLaws.{of_begun, gone_behind, valid_gone, none_gone}
 use Rattle.nb_owner.proofs.WaitLaws.{files_open, open_settled}

@@ -1,5 +1,5 @@
 use Rattle.std.proofs.Common.{sym, subst, arith}
-use Rattle.nb_cache.specs.Held.{NoneWaits}
+use Rattle.nb_owner.proofs.Common.{NoneWaits}
 use Rattle.nb_owner.proofs.OpenLaws.{valid_blank}
 use Rattle.nb_owner.proofs.pair.Pair.create.Goals as goal
 

@@ -1,10 +1,5 @@
-use Rattle.std.proofs.Common.{sym, subst}
-use Rattle.std.specs.Prelude.{IsTrue}
-use Rattle.nb_change.specs.Changes.{Only, Changes}
-use Rattle.nb_model.specs.Owner.{delta_name}
-use Rattle.nb_model.specs.Trail.{Trail, StandsIn}
-use Rattle.nb_cache.specs.Held.{NoneWaits}
-use Rattle.nb_owner.specs.Open.{Held, GoesSlot, waits}
+use Rattle.std.proofs.Common.{sym, subst, IsTrue}
+use Rattle.nb_owner.proofs.Common.{Only, Changes, delta_name, Trail, StandsIn, NoneWaits, Held, GoesSlot, waits}
 use Rattle.nb_owner.proofs.WaitLaws.{none_waits, open_settled}
 use Rattle.nb_owner.proofs.pair.Pair.enter.Goals as goal
 use Rattle.nb_owner.proofs.pair.Pair.enter.Goals.{After-enter}

@@ -1,6 +1,5 @@
 use Rattle.std.proofs.Common.{sym, subst, ◌∙◌}
-use Rattle.nb_cache.specs.Held.{NoneWaits}
-use Rattle.nb_owner.specs.Open.{Held, IsOpen}
+use Rattle.nb_owner.proofs.Common.{NoneWaits, Held, IsOpen}
 use Rattle.nb_owner.proofs.WaitLaws.{none_waits, none_drafted}
 use Rattle.nb_owner.proofs.pair.Pair.enter_rest.Goals as goal
 

@@ -1,11 +1,6 @@
-use Rattle.std.proofs.Common.{◌≡◌, ◌<◌, ⊎_elim, length, refl, ap, sym, subst, ◌∙◌, arith}
-use Rattle.std.specs.Prelude.{None, is_some}
-use Rattle.nb_host.specs.Files.{Files}
-use Rattle.nb_model.specs.Trail.{ShowsIn}
+use Rattle.std.proofs.Common.{◌≡◌, ◌<◌, ⊎_elim, length, refl, ap, sym, subst, ◌∙◌, arith, None, is_some}
+use Rattle.nb_owner.proofs.Common.{Files, ShowsIn, slot_of, rank_of, dropped, NoneWaits, Held, IsOpen, AreOf, IsValid, cache_of, bare, used, the_view}
 use Rattle.nb_model.proofs.MainLaws.{some_page}
-use Rattle.nb_cache.specs.Held.{slot_of, rank_of, dropped, NoneWaits}
-use Rattle.nb_owner.specs.Open.{Held, IsOpen, AreOf, IsValid, cache_of, bare, used}
-use Rattle.nb_owner.specs.contracts.pair.Pair.{the_view}
 use Rattle.nb_owner.proofs.OpenLaws.{bare_put, put_page, first_block}
 use Rattle.nb_owner.proofs.WaitLaws.{files_still, read_open, absent_page, absent_waits, clean_entry, sees_size, kept_ranks}
 use Rattle.nb_owner.proofs.pair.Pair.fetch.Goals as goal

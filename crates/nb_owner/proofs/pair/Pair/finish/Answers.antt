@@ -1,12 +1,6 @@
 use Rattle.std.proofs.Common.{◌≡◌, ◌-◌, length, ap, sym, subst, ◌∙◌, arith, nat_eq}
-use Rattle.std.specs.List.{IsDistinct}
-use Rattle.std.specs.Map.{keys_of}
-use Rattle.nb_model.specs.Strokes.{finish}
-use Rattle.nb_model.specs.Trail.{after_stroke}
+use Rattle.nb_owner.proofs.Common.{IsDistinct, keys_of, finish, after_stroke, not_done, NoneWaits, Held, Pages, IsOpen, AreOf, behind_first, but_below}
 use Rattle.nb_base.specs.Open.{IsOpen as AreOpen}
-use Rattle.nb_base.proofs.WriteLaws.{not_done}
-use Rattle.nb_cache.specs.Held.{NoneWaits}
-use Rattle.nb_owner.specs.Open.{Held, Pages, IsOpen, AreOf, behind_first, but_below}
 use Rattle.nb_owner.proofs.OpenLaws.{of_finished, below_waits, finished_count}
 use Rattle.nb_owner.proofs.UsedLaws.{once_removed}
 use Rattle.nb_owner.proofs.WaitLaws.{open_settled}

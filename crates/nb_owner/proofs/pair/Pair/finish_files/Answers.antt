@@ -1,11 +1,5 @@
 use Rattle.std.proofs.Common.{[], ◌∷◌, length, refl, ap, sym, subst, ◌∙◌}
-use Rattle.nb_model.specs.Strokes.{finish}
-use Rattle.nb_base.specs.Open.{AreMerged}
-use Rattle.nb_base.specs.Takes.{Strikes}
-use Rattle.nb_base.proofs.FirmLaws.{strikes_left}
-use Rattle.nb_base.proofs.WriteLaws.{not_done}
-use Rattle.nb_owner.specs.Open.{Held, IsOpen}
-use Rattle.nb_owner.specs.contracts.pair.Pair.{the_view}
+use Rattle.nb_owner.proofs.Common.{finish, AreMerged, Strikes, strikes_left, not_done, Held, IsOpen, the_view}
 use Rattle.nb_owner.proofs.RankLaws.{none_found}
 use Rattle.nb_owner.proofs.OpenLaws.{valid_gone, none_gone}
 use Rattle.nb_owner.proofs.WaitLaws.{files_open}

@@ -1,14 +1,5 @@
 use Rattle.std.proofs.Common.{◌≡◌, inl, inr, refl, sym, ap, ◌∙◌, arith}
-use Rattle.nb_fields.specs.States.{normal_state, stalled_state}
-use Rattle.nb_change.specs.Changes.{Only}
-use Rattle.nb_change.proofs.ChangesLaws.{weakened}
-use Rattle.nb_change.proofs.ResultLaws.{on_ok}
-use Rattle.nb_model.specs.Image.{image_state}
-use Rattle.nb_model.specs.Owner.{delta_name}
-use Rattle.nb_model.specs.Trail.{StandsIn}
-use Rattle.nb_base.specs.Open.{OfFiles}
-use Rattle.nb_base.proofs.TouchLaws.{touched, main_in, delta_in}
-use Rattle.nb_owner.specs.Open.{Held}
+use Rattle.nb_owner.proofs.Common.{normal_state, stalled_state, Only, weakened, image_state, delta_name, StandsIn, OfFiles, touched, main_in, delta_in, Held, on_ok}
 use Rattle.nb_owner.proofs.pair.Pair.flush_all.Goals as goal
 
 pub returns-then-state-eq-STALLED-clause-takes : goal.returns-then-state-eq-STALLED-clause-takes

@@ -1,11 +1,5 @@
 use Rattle.std.proofs.Common.{List, ℕ, sym, subst, ap}
-use Rattle.nb_change.specs.Changes.{Only, Changes}
-use Rattle.nb_change.proofs.ChangesLaws.{composed}
-use Rattle.nb_change.proofs.ResultLaws.{on_ok}
-use Rattle.nb_model.specs.Owner.{delta_name}
-use Rattle.nb_model.specs.Trail.{StandsIn}
-use Rattle.nb_cache.specs.Held.{NoneWaits}
-use Rattle.nb_owner.specs.Open.{Pages}
+use Rattle.nb_owner.proofs.Common.{Only, Changes, composed, delta_name, StandsIn, NoneWaits, Pages, on_ok}
 use Rattle.nb_owner.proofs.SlotLaws.{start_slots}
 use Rattle.nb_owner.proofs.pair.Pair.flush_delta.Goals as goal
 

@@ -1,12 +1,6 @@
 use Rattle.std.proofs.Common.{sym, subst}
-use Rattle.std.proofs.lemmas.Result.{on_ok_weaker}
-use Rattle.nb_change.specs.Changes.{Only}
-use Rattle.nb_change.proofs.ChangesLaws.{begun}
-use Rattle.nb_model.specs.Trail.{settled, IsFirm, StandsIn}
-use Rattle.nb_model.specs.Behind.{IsOnTheWay}
+use Rattle.nb_owner.proofs.Common.{on_ok_weaker, Only, begun, settled, IsFirm, StandsIn, IsOnTheWay, Held, GoesOut, NoScnWaits, the_view}
 use Rattle.nb_base.specs.Open.{IsOpen as AreOpen}
-use Rattle.nb_owner.specs.Open.{Held, GoesOut, NoScnWaits}
-use Rattle.nb_owner.specs.contracts.pair.Pair.{the_view}
 use Rattle.nb_owner.proofs.OutLaws.{start_way, start_firm, synced_firm, reads_agree, none_scn, quiet_more}
 use Rattle.nb_owner.proofs.pair.Pair.flush_first.Goals as goal
 

@@ -1,7 +1,5 @@
 use Rattle.std.proofs.Common.{List, ℕ, subst, ap}
-use Rattle.nb_change.specs.Changes.{Only, Changes}
-use Rattle.nb_change.proofs.ChangesLaws.{composed}
-use Rattle.nb_model.specs.Trail.{StandsIn}
+use Rattle.nb_owner.proofs.Common.{Only, Changes, composed, StandsIn}
 use Rattle.nb_owner.proofs.pair.Pair.flush_main.Goals as goal
 
 pub returns-in_err-flush_first-clause-left : goal.returns-in_err-flush_first-clause-left

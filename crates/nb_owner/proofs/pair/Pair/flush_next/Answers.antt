@@ -1,13 +1,5 @@
-use Rattle.std.proofs.Common.{◌≡◌, length, sym, subst, ap, ◌∙◌, arith}
-use Rattle.std.specs.Prelude.{IsTrue}
-use Rattle.std.proofs.lemmas.List.{take_at}
-use Rattle.nb_change.specs.Changes.{Only, Changes}
-use Rattle.nb_model.specs.Image.{page_at}
-use Rattle.nb_model.specs.Strokes.{page, on_base}
-use Rattle.nb_model.specs.Trail.{Trail, ShowsIn}
-use Rattle.nb_base.specs.Put.{MayPut, PutLeft}
-use Rattle.nb_cache.specs.Held.{rank_of, NoneWaits}
-use Rattle.nb_owner.specs.Open.{Held, AreOf}
+use Rattle.std.proofs.Common.{◌≡◌, length, sym, subst, ap, ◌∙◌, arith, IsTrue}
+use Rattle.nb_owner.proofs.Common.{take_at, Only, Changes, page_at, page, on_base, Trail, ShowsIn, MayPut, PutLeft, rank_of, NoneWaits, Held, AreOf}
 use Rattle.nb_owner.proofs.RankLaws.{marked_none}
 use Rattle.nb_owner.proofs.OpenLaws.{peeked, valid_marked}
 use Rattle.nb_owner.proofs.pair.Pair.flush_next.Goals as goal

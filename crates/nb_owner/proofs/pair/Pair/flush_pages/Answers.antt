@@ -1,6 +1,5 @@
 use Rattle.std.proofs.Common.{◌<◌, sym, subst, ap}
-use Rattle.nb_model.specs.Trail.{IsFirm}
-use Rattle.nb_owner.specs.Open.{Held, GoesOut, NoScnWaits}
+use Rattle.nb_owner.proofs.Common.{IsFirm, Held, GoesOut, NoScnWaits}
 use Rattle.nb_owner.proofs.KeepLaws.{keeps_begun, keeps_on}
 use Rattle.nb_owner.proofs.RankLaws.{waiting_count, fewer_wait}
 use Rattle.nb_owner.proofs.OutLaws.{firm_begun, firm_changes, firm_more, none_more, out_open}

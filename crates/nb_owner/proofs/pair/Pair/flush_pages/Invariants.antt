@@ -1,7 +1,5 @@
-use Rattle.std.specs.Prelude.{IsTrue}
-use Rattle.nb_change.specs.Changes.{Only, Changes}
-use Rattle.nb_model.specs.Trail.{Trail, IsFirm, StandsIn}
-use Rattle.nb_owner.specs.Open.{GoesOut, NoScnWaits}
+use Rattle.std.proofs.Common.{IsTrue}
+use Rattle.nb_owner.proofs.Common.{Only, Changes, Trail, IsFirm, StandsIn, GoesOut, NoScnWaits}
 use Rattle.nb_owner.proofs.KeepLaws.{Keeps}
 use Rattle.nb_owner.proofs.RankLaws.{waiting_count}
 use Rattle.nb_owner.proofs.pair.Pair.flush_pages.Given as goal

@@ -1,6 +1,5 @@
 use Rattle.std.proofs.Common.{◌<◌, sym, subst, ap}
-use Rattle.nb_model.specs.Behind.{IsOnTheWay}
-use Rattle.nb_owner.specs.Open.{Held, GoesOut}
+use Rattle.nb_owner.proofs.Common.{IsOnTheWay, Held, GoesOut}
 use Rattle.nb_owner.proofs.KeepLaws.{keeps_begun, keeps_on}
 use Rattle.nb_owner.proofs.RankLaws.{waiting_count, fewer_wait}
 use Rattle.nb_owner.proofs.OutLaws.{way_begun, way_changes, way_more, none_scn}

@@ -1,9 +1,5 @@
-use Rattle.std.proofs.Common.{◌≢◌, []}
-use Rattle.std.specs.Prelude.{IsTrue}
-use Rattle.nb_change.specs.Changes.{Only, Changes}
-use Rattle.nb_model.specs.Trail.{Trail, StandsIn}
-use Rattle.nb_model.specs.Behind.{IsOnTheWay}
-use Rattle.nb_owner.specs.Open.{GoesOut}
+use Rattle.std.proofs.Common.{◌≢◌, [], IsTrue}
+use Rattle.nb_owner.proofs.Common.{Only, Changes, Trail, StandsIn, IsOnTheWay, GoesOut}
 use Rattle.nb_owner.proofs.KeepLaws.{Keeps}
 use Rattle.nb_owner.proofs.RankLaws.{waiting_count}
 use Rattle.nb_owner.proofs.pair.Pair.flush_scn_pages.Given as goal

@@ -1,14 +1,5 @@
-use Rattle.std.proofs.Common.{◌≡◌, ℕ, length, sym, subst, ap, ◌∙◌, arith}
-use Rattle.std.specs.Prelude.{None, Some, IsTrue}
-use Rattle.std.proofs.lemmas.List.{take_at}
-use Rattle.nb_change.specs.Changes.{Only, Changes}
-use Rattle.nb_model.specs.Image.{Page, page_at}
-use Rattle.nb_model.specs.Owner.{delta_name}
-use Rattle.nb_model.specs.Trail.{Trail, StandsIn}
-use Rattle.nb_base.specs.Going.{GoesIn, MaySlot}
-use Rattle.nb_cache.specs.Held.{rank_of, with_rank, NoneWaits}
-use Rattle.nb_owner.specs.Open.{Held, GoesSlot, waits}
-use Rattle.nb_owner.specs.contracts.pair.Pair.{the_view}
+use Rattle.std.proofs.Common.{◌≡◌, ℕ, length, sym, subst, ap, ◌∙◌, arith, None, Some, IsTrue}
+use Rattle.nb_owner.proofs.Common.{take_at, Only, Changes, Page, page_at, delta_name, Trail, StandsIn, GoesIn, MaySlot, rank_of, with_rank, NoneWaits, Held, GoesSlot, waits, the_view}
 use Rattle.nb_owner.proofs.RankLaws.{marked_none}
 use Rattle.nb_owner.proofs.OpenLaws.{peeked, valid_marked}
 use Rattle.nb_owner.proofs.SlotLaws.{may_slot, waits_later, slot_out}

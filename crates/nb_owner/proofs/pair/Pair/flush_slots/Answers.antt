@@ -1,9 +1,5 @@
 use Rattle.std.proofs.Common.{◌<◌, ℕ, List, sym, subst, ap}
-use Rattle.nb_change.specs.Changes.{Only, Changes}
-use Rattle.nb_change.proofs.ChangesLaws.{composed}
-use Rattle.nb_model.specs.Owner.{delta_name}
-use Rattle.nb_model.specs.Trail.{StandsIn}
-use Rattle.nb_owner.specs.Open.{Held}
+use Rattle.nb_owner.proofs.Common.{Only, Changes, composed, delta_name, StandsIn, Held}
 use Rattle.nb_owner.proofs.KeepLaws.{keeps_begun, keeps_on}
 use Rattle.nb_owner.proofs.RankLaws.{waiting_count, fewer_wait}
 use Rattle.nb_owner.proofs.SlotLaws.{slots_begun}

@@ -1,8 +1,5 @@
-use Rattle.std.specs.Prelude.{IsTrue}
-use Rattle.nb_change.specs.Changes.{Only, Changes}
-use Rattle.nb_model.specs.Owner.{delta_name}
-use Rattle.nb_model.specs.Trail.{Trail, StandsIn}
-use Rattle.nb_owner.specs.Open.{GoesSlot}
+use Rattle.std.proofs.Common.{IsTrue}
+use Rattle.nb_owner.proofs.Common.{Only, Changes, delta_name, Trail, StandsIn, GoesSlot}
 use Rattle.nb_owner.proofs.KeepLaws.{Keeps}
 use Rattle.nb_owner.proofs.RankLaws.{waiting_count}
 use Rattle.nb_owner.proofs.pair.Pair.flush_slots.Given as goal

@@ -1,6 +1,5 @@
 use Rattle.std.proofs.Common.{refl, sym, subst}
-use Rattle.nb_cache.specs.Held.{NoneWaits}
-use Rattle.nb_owner.specs.Open.{Held}
+use Rattle.nb_owner.proofs.Common.{NoneWaits, Held}
 use Rattle.nb_owner.proofs.RankLaws.{none_found}
 use Rattle.nb_owner.proofs.OpenLaws.{valid_dropped, none_waits_gone}
 use Rattle.nb_owner.proofs.pair.Pair.forget.Goals as goal

@@ -1,6 +1,5 @@
 use Rattle.std.proofs.Common.{◌≡◌, ◌-◌, ap, sym, ◌∙◌, arith, nat_eq}
-use Rattle.std.specs.Map.{remove_entry}
-use Rattle.nb_owner.specs.Open.{Held, Pages, but_below}
+use Rattle.nb_owner.proofs.Common.{remove_entry, Held, Pages, but_below}
 use Rattle.nb_owner.proofs.OpenLaws.{below_none, below_next}
 use Rattle.nb_owner.proofs.pair.Pair.forget_behind.Goals as goal
 

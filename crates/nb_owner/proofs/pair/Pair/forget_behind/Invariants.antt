@@ -1,6 +1,5 @@
 use Rattle.std.proofs.Common.{◌≡◌, ◌-◌, ◌≤◌}
-use Rattle.nb_cache.specs.Held.{NoneWaits}
-use Rattle.nb_owner.specs.Open.{but_below}
+use Rattle.nb_owner.proofs.Common.{NoneWaits, but_below}
 use Rattle.nb_owner.proofs.pair.Pair.forget_behind.Given as goal
 
 -- the pages from this number on are held no longer

@@ -1,6 +1,5 @@
 use Rattle.std.proofs.Common.{refl, sym, subst}
-use Rattle.nb_cache.specs.Held.{NoneWaits}
-use Rattle.nb_owner.specs.Open.{Held, Pages}
+use Rattle.nb_owner.proofs.Common.{NoneWaits, Held, Pages}
 use Rattle.nb_owner.proofs.OpenLaws.{valid_kept, kept_pages, none_waits_kept}
 use Rattle.nb_owner.proofs.pair.Pair.keep_read.Goals as goal
 

@@ -1,5 +1,5 @@
 use Rattle.std.proofs.Common.{refl, ap, arith}
-use Rattle.nb_owner.specs.Open.{Held}
+use Rattle.nb_owner.proofs.Common.{Held}
 use Rattle.nb_owner.proofs.OpenLaws.{valid_kept, valid_marked}
 use Rattle.nb_owner.proofs.pair.Pair.keep_waiting.Goals as goal
 

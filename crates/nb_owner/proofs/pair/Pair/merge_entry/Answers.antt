@@ -1,12 +1,6 @@
-use Rattle.std.proofs.Common.{[], ap, sym, subst, ◌∙◌}
-use Rattle.std.specs.Prelude.{slice_index, OnOk}
-use Rattle.std.proofs.lemmas.Result.{on_ok_weaker}
+use Rattle.std.proofs.Common.{[], ap, sym, subst, ◌∙◌, slice_index, OnOk}
+use Rattle.nb_owner.proofs.Common.{on_ok_weaker, AreMerged, Strikes, strikes_left, Held, IsOpen, the_view}
 use Rattle.nb_base.specs.Merging.{PutsPage}
-use Rattle.nb_base.specs.Open.{AreMerged}
-use Rattle.nb_base.specs.Takes.{Strikes}
-use Rattle.nb_base.proofs.FirmLaws.{strikes_left}
-use Rattle.nb_owner.specs.Open.{Held, IsOpen}
-use Rattle.nb_owner.specs.contracts.pair.Pair.{the_view}
 use Rattle.nb_owner.proofs.WaitLaws.{files_open, open_settled}
 use Rattle.nb_owner.proofs.pair.Pair.merge_entry.Goals as goal
 

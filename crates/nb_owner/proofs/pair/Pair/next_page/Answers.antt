@@ -1,13 +1,8 @@
-use Rattle.std.proofs.Common.{◌≡◌, ℕ, sym, ap, ◌∙◌}
-use Rattle.std.specs.Prelude.{None, Some}
-use Rattle.nb_cache.specs.Held.{GoesFirst, rank_of}
-use Rattle.nb_owner.specs.Open.{Held}
+use Rattle.std.proofs.Common.{sym, ap, ◌∙◌, Some}
+use Rattle.nb_owner.proofs.Common.{GoesFirst, rank_of, Held, none_some}
 use Rattle.nb_owner.proofs.RankLaws.{none_found}
 use Rattle.nb_owner.proofs.OpenLaws.{first_waits}
 use Rattle.nb_owner.proofs.pair.Pair.next_page.Goals as goal
-
-none_some : (r : ℕ) → None ≡ Some r → ⊥
-none_some r e = cc
 
 pub returns-in-Some-clause-next : goal.returns-in-Some-clause-next
 returns-in-Some-clause-next c =

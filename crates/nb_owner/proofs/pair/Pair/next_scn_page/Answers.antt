@@ -1,7 +1,5 @@
-use Rattle.std.proofs.Common.{◌≡◌, ◌≤◌, sym, ap, ◌∙◌, arith}
-use Rattle.std.specs.Prelude.{None, Some}
-use Rattle.nb_cache.specs.Held.{GoesFirst, rank_of}
-use Rattle.nb_owner.specs.Open.{Held}
+use Rattle.std.proofs.Common.{◌≡◌, ◌≤◌, sym, ap, ◌∙◌, arith, None, Some}
+use Rattle.nb_owner.proofs.Common.{GoesFirst, rank_of, Held}
 use Rattle.nb_owner.proofs.RankLaws.{none_found}
 use Rattle.nb_owner.proofs.OpenLaws.{first_waits, first_lowest}
 use Rattle.nb_owner.proofs.pair.Pair.next_scn_page.Goals as goal

@@ -1,13 +1,15 @@
-use Rattle.std.proofs.Common.{◌≡◌, ◌<◌, refl, ap, sym, subst, ◌∙◌}
-use Rattle.std.specs.Prelude.{None, IsSome}
-use Rattle.std.proofs.lemmas.Result.{on_ok_weaker, on_err_weaker}
-use Rattle.nb_cache.specs.Held.{dropped, NoneWaits}
-use Rattle.nb_owner.specs.Open.{Held, Pages, IsOpen, AreOf, cache_of, bare, used}
-use Rattle.nb_owner.specs.contracts.pair.Pair.{the_view}
+use Rattle.std.proofs.Common.{◌≡◌, ◌<◌, ℕ, nat_eq, false, is_some, refl, ap, sym, subst, ◌∙◌, None, IsSome}
+use Rattle.nb_owner.proofs.Common.{on_ok_weaker, on_err_weaker, promoted, slot_of, dropped, NoneWaits, Held, Pages, IsOpen, IsValid, AreOf, cache_of, bare, used, the_view, not_there}
 use Rattle.nb_owner.proofs.RankLaws.{rank_promoted}
-use Rattle.nb_owner.proofs.OpenLaws.{of_read, valid_looked, found_put, found_slot, missed_slot, missed_same, found_page, put_page, first_block, bare_put, looked_none, kept_drops}
+use Rattle.nb_owner.proofs.OpenLaws.{of_read, valid_looked, found_put, found_slot, missed_same, found_page, put_page, first_block, bare_put, looked_none, kept_drops}
 use Rattle.nb_owner.proofs.WaitLaws.{open_with}
 use Rattle.nb_owner.proofs.pair.Pair.read.Goals as goal
+
+-- A page that isn't in memory was looked for: what is held is as it was.
+held_missed : (files : Rattle.nb_base.specs.Open.Held) (cache after : Rattle.nb_cache.specs.Held.Held) (held : Held) (p : ℕ) → IsValid cache files.page_size → after ≡ record cache { pages = promoted (nat_eq p) cache.pages } → is_some (slot_of cache.pages p) ≡ false
+    → ◌≡◌ {A = Held} (record { files = files; pages = cache.pages; cap = cache.cap }) held → ◌≡◌ {A = Held} (record { files = files; pages = after.pages; cap = after.cap }) held
+held_missed files cache after held p valid looked none view =
+    ap (λ (k : Rattle.nb_cache.specs.Held.Held). let h : Held = record { files = files; pages = k.pages; cap = k.cap } in h) (missed_same cache after files.page_size files.page_size valid refl p looked (not_there _ none)) ∙ view
 
 pub invariant_of-self : goal.invariant_of-self
 invariant_of-self g c = (
@@ -63,44 +65,34 @@ returns-then-look-clause-full g c full =
 
 pub fetch-requires-clause-absent : goal.fetch-requires-clause-absent
 fetch-requires-clause-absent g c =
-    let none = missed_slot _ (sym c.look.ensures.found ∙ c.if-look.false) in
+    let none = not_there _ (sym c.look.ensures.found ∙ c.if-look.false) in
     ap (λ (k : Rattle.nb_cache.specs.Held.Held). Rattle.nb_cache.specs.Held.slot_of k.pages c.args.number)
     (missed_same c.self.inside.cache c.look.new.self c.self.inside.files.page_size c.self.inside.files.page_size c.self.invariant.0 refl c.args.number c.look.ensures.moved none) ∙ none
 
 pub returns-clause-failed : goal.returns-clause-failed
 returns-clause-failed g c =
-    let none = missed_slot _ (sym c.look.ensures.found ∙ c.if-look.false) in
-    let missed = missed_same c.self.inside.cache c.look.new.self c.self.inside.files.page_size c.self.inside.files.page_size c.self.invariant.0 refl c.args.number c.look.ensures.moved none in
-    let same = ap (λ (k : Rattle.nb_cache.specs.Held.Held). let h : Held = record { files = c.self.inside.files; pages = k.pages; cap = k.cap } in h) missed ∙ c.self.view_is in
+    let same = held_missed c.self.inside.files c.self.inside.cache c.look.new.self c.args.self.now c.args.number c.self.invariant.0 c.look.ensures.moved (sym c.look.ensures.found ∙ c.if-look.false) c.self.view_is in
     on_err_weaker c.fetch.result (λ failed. failed ∙ same) c.fetch.ensures.failed
 
 pub returns-clause-page : goal.returns-clause-page
 returns-clause-page g c t tells given low =
-    let none = missed_slot _ (sym c.look.ensures.found ∙ c.if-look.false) in
-    let missed = missed_same c.self.inside.cache c.look.new.self c.self.inside.files.page_size c.self.inside.files.page_size c.self.invariant.0 refl c.args.number c.look.ensures.moved none in
-    let same = ap (λ (k : Rattle.nb_cache.specs.Held.Held). let h : Held = record { files = c.self.inside.files; pages = k.pages; cap = k.cap } in h) missed ∙ c.self.view_is in
+    let same = held_missed c.self.inside.files c.self.inside.cache c.look.new.self c.args.self.now c.args.number c.self.invariant.0 c.look.ensures.moved (sym c.look.ensures.found ∙ c.if-look.false) c.self.view_is in
     c.fetch.ensures.page t tells (subst (λ (h : Held). IsOpen (g.H.Host.world c.args.host.now) h t) (sym same) given) low
 
 pub returns-clause-open : goal.returns-clause-open
 returns-clause-open g c t tells given =
-    let none = missed_slot _ (sym c.look.ensures.found ∙ c.if-look.false) in
-    let missed = missed_same c.self.inside.cache c.look.new.self c.self.inside.files.page_size c.self.inside.files.page_size c.self.invariant.0 refl c.args.number c.look.ensures.moved none in
-    let same = ap (λ (k : Rattle.nb_cache.specs.Held.Held). let h : Held = record { files = c.self.inside.files; pages = k.pages; cap = k.cap } in h) missed ∙ c.self.view_is in
+    let same = held_missed c.self.inside.files c.self.inside.cache c.look.new.self c.args.self.now c.args.number c.self.invariant.0 c.look.ensures.moved (sym c.look.ensures.found ∙ c.if-look.false) c.self.view_is in
     c.fetch.ensures.open t tells (subst (λ (h : Held). IsOpen (g.H.Host.world c.args.host.now) h t) (sym same) given)
 
 pub returns-clause-used : goal.returns-clause-used
 returns-clause-used g c low drops =
-    let none = missed_slot _ (sym c.look.ensures.found ∙ c.if-look.false) in
-    let missed = missed_same c.self.inside.cache c.look.new.self c.self.inside.files.page_size c.self.inside.files.page_size c.self.invariant.0 refl c.args.number c.look.ensures.moved none in
-    let same = ap (λ (k : Rattle.nb_cache.specs.Held.Held). let h : Held = record { files = c.self.inside.files; pages = k.pages; cap = k.cap } in h) missed ∙ c.self.view_is in
+    let same = held_missed c.self.inside.files c.self.inside.cache c.look.new.self c.args.self.now c.args.number c.self.invariant.0 c.look.ensures.moved (sym c.look.ensures.found ∙ c.if-look.false) c.self.view_is in
     on_ok_weaker c.fetch.result (λ put. put ∙ ap (λ (h : Held). used (bare h.pages) h.cap c.args.number c.fetch.new.into) same)
     (c.fetch.ensures.used (subst (λ (h : Held). c.args.number < h.files.count) (sym same) low) (subst (λ (h : Held). dropped (cache_of h) c.args.number ≡ None) (sym same) drops))
 
 pub returns-clause-full : goal.returns-clause-full
 returns-clause-full g c full =
-    let none = missed_slot _ (sym c.look.ensures.found ∙ c.if-look.false) in
-    let missed = missed_same c.self.inside.cache c.look.new.self c.self.inside.files.page_size c.self.inside.files.page_size c.self.invariant.0 refl c.args.number c.look.ensures.moved none in
-    let same = ap (λ (k : Rattle.nb_cache.specs.Held.Held). let h : Held = record { files = c.self.inside.files; pages = k.pages; cap = k.cap } in h) missed ∙ c.self.view_is in
+    let same = held_missed c.self.inside.files c.self.inside.cache c.look.new.self c.args.self.now c.args.number c.self.invariant.0 c.look.ensures.moved (sym c.look.ensures.found ∙ c.if-look.false) c.self.view_is in
     c.fetch.ensures.full (subst (λ (h : Held). IsSome (dropped (cache_of h) c.args.number)) (sym same) full) ∙ same
 
 pub returns-then-look-clause-ranks : goal.returns-then-look-clause-ranks
@@ -110,9 +102,7 @@ returns-then-look-clause-ranks g c p =
 
 pub returns-clause-ranks : goal.returns-clause-ranks
 returns-clause-ranks g c p =
-    let none = missed_slot _ (sym c.look.ensures.found ∙ c.if-look.false) in
-    let missed = missed_same c.self.inside.cache c.look.new.self c.self.inside.files.page_size c.self.inside.files.page_size c.self.invariant.0 refl c.args.number c.look.ensures.moved none in
-    let same = ap (λ (k : Rattle.nb_cache.specs.Held.Held). let h : Held = record { files = c.self.inside.files; pages = k.pages; cap = k.cap } in h) missed ∙ c.self.view_is in
+    let same = held_missed c.self.inside.files c.self.inside.cache c.look.new.self c.args.self.now c.args.number c.self.invariant.0 c.look.ensures.moved (sym c.look.ensures.found ∙ c.if-look.false) c.self.view_is in
     c.fetch.ensures.ranks p ∙ ap (λ (h : Held). Rattle.nb_cache.specs.Held.rank_of h.pages p) same
 
 pub returns-then-look-clause-none_waits : goal.returns-then-look-clause-none_waits

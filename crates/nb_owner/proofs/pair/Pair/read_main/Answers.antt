@@ -1,9 +1,5 @@
 use Rattle.std.proofs.Common.{length, sym, subst, ap, ◌∙◌, arith}
-use Rattle.std.proofs.lemmas.Result.{on_ok_weaker}
-use Rattle.nb_fields.specs.Header.{state_of}
-use Rattle.nb_model.specs.Image.{Image, page_at}
-use Rattle.nb_owner.specs.Open.{Held, IsOpen}
-use Rattle.nb_owner.specs.contracts.pair.Pair.{the_view}
+use Rattle.nb_owner.proofs.Common.{on_ok_weaker, state_of, Image, page_at, Held, IsOpen, the_view}
 use Rattle.nb_owner.proofs.WaitLaws.{files_still, sees_size}
 use Rattle.nb_owner.proofs.pair.Pair.read_main.Goals as goal
 

@@ -1,8 +1,4 @@
-use Rattle.nb_change.proofs.ResultLaws.{on_ok}
-use Rattle.nb_model.specs.Trail.{StandsIn}
-use Rattle.nb_base.specs.Open.{OfFiles}
-use Rattle.nb_base.proofs.TouchLaws.{touched_joined, quiet_touched}
-use Rattle.nb_base.proofs.WriteLaws.{not_done}
+use Rattle.nb_owner.proofs.Common.{StandsIn, OfFiles, touched_joined, quiet_touched, not_done, on_ok}
 use Rattle.nb_owner.proofs.OutLaws.{quiet_more}
 use Rattle.nb_owner.proofs.pair.Pair.sync.Goals as goal
 

@@ -1,10 +1,5 @@
 use Rattle.std.proofs.Common.{sym, subst}
-use Rattle.std.proofs.lemmas.Result.{on_ok_weaker}
-use Rattle.nb_model.specs.Trail.{settled}
-use Rattle.nb_base.specs.Open.{AreMerged}
-use Rattle.nb_cache.specs.Held.{NoneWaits}
-use Rattle.nb_owner.specs.Open.{Held, IsOpen}
-use Rattle.nb_owner.specs.contracts.pair.Pair.{the_view}
+use Rattle.nb_owner.proofs.Common.{on_ok_weaker, settled, AreMerged, NoneWaits, Held, IsOpen, the_view}
 use Rattle.nb_owner.proofs.WaitLaws.{files_still, files_open, open_settled}
 use Rattle.nb_owner.proofs.pair.Pair.sync_files.Goals as goal
 

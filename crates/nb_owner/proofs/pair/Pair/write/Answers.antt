@@ -1,21 +1,6 @@
-use Rattle.std.proofs.Common.{◌≡◌, ℕ, List, [], ◌∷◌, inl, refl, sym, subst, ap, ◌∙◌, arith}
-use Rattle.std.specs.Prelude.{is_some, nat_eq}
-use Rattle.std.proofs.lemmas.Bool.{true≢false}
-use Rattle.std.proofs.lemmas.Result.{on_ok_weaker, on_err_weaker}
-use Rattle.lru.specs.LruCache.{lru_cache, put_entries}
+use Rattle.std.proofs.Common.{◌≡◌, ℕ, List, [], ◌∷◌, inl, refl, sym, subst, ap, ◌∙◌, arith, is_some, nat_eq}
+use Rattle.nb_owner.proofs.Common.{true≢false, on_ok_weaker, on_err_weaker, lru_cache, put_entries, begun, weaker_has, strokes_composed, Reached, page, StandsIn, after_stroke, OfFiles, AreMerged, Strikes, WritesIn, none_touched, touched_joined, not_done, Slot, rank_of, Held, Pages, IsOpen, cache_of, bare, used}
 use Rattle.nb_host.specs.Causes.{CountsRun}
-use Rattle.nb_change.proofs.ChangesLaws.{begun, weaker_has}
-use Rattle.nb_change.proofs.ReachedLaws.{strokes_composed}
-use Rattle.nb_change.specs.Changes.{Reached}
-use Rattle.nb_model.specs.Strokes.{page}
-use Rattle.nb_model.specs.Trail.{StandsIn, after_stroke}
-use Rattle.nb_base.specs.Open.{OfFiles, AreMerged}
-use Rattle.nb_base.specs.Takes.{Strikes}
-use Rattle.nb_base.specs.Touches.{WritesIn}
-use Rattle.nb_base.proofs.TouchLaws.{none_touched, touched_joined}
-use Rattle.nb_base.proofs.WriteLaws.{not_done}
-use Rattle.nb_cache.specs.Held.{Slot, rank_of}
-use Rattle.nb_owner.specs.Open.{Held, Pages, IsOpen, cache_of, bare, used}
 use Rattle.nb_owner.proofs.RankLaws.{marked_bare, rank_marked, rank_marked_other, rank_kept_other, slot_kept}
 use Rattle.nb_owner.proofs.OpenLaws.{bare_put, may_write}
 use Rattle.nb_owner.proofs.WaitLaws.{may_wait_parts, held_open}

@@ -1,24 +1,14 @@
-use Rattle.std.proofs.Common.{◌≡◌, ℕ, [], sym, subst, ◌∙◌}
-use Rattle.std.specs.Prelude.{None, Some, true}
-use Rattle.std.proofs.lemmas.Bool.{true≢false}
-use Rattle.nb_host.specs.World.{World}
-use Rattle.nb_model.specs.Image.{is_forced}
-use Rattle.nb_model.specs.Trail.{Trail}
-use Rattle.nb_change.proofs.ResultLaws.{on_ok}
-use Rattle.nb_cache.specs.Held.{NoneWaits}
-use Rattle.nb_owner.specs.Open.{Held, Pages, IsOpen}
+use Rattle.std.proofs.Common.{◌≡◌, [], sym, subst, ◌∙◌, None, Some, true}
+use Rattle.nb_owner.proofs.Common.{true≢false, World, is_forced, Trail, NoneWaits, Held, Pages, IsOpen, none_there, on_ok}
 use Rattle.nb_owner.proofs.RankLaws.{none_found}
 use Rattle.nb_owner.proofs.WaitLaws.{none_drafted, settled_none, forced_none}
 use Rattle.nb_owner.proofs.pair.Pair.write_out.Goals as goal
 
-none_some : {r : ℕ} → None ≡ Some r → ⊥
-none_some e = cc
-
 pub returns-in-Some-clause-idle : goal.returns-in-Some-clause-idle
-returns-in-Some-clause-idle g c none no_drafts = absurd (none_some (sym (none_found c.args.self.now.pages none c.in-Some.field-0) ∙ c.in-Some.ensures.next.1))
+returns-in-Some-clause-idle g c none no_drafts = absurd (none_there (sym (none_found c.args.self.now.pages none c.in-Some.field-0) ∙ c.in-Some.ensures.next.1))
 
 pub returns-in-Some-clause-outside : goal.returns-in-Some-clause-outside
-returns-in-Some-clause-outside g c merges = absurd (none_some (sym (c.next_page.ensures.merge merges) ∙ c.in-Some.is))
+returns-in-Some-clause-outside g c merges = absurd (none_there (sym (c.next_page.ensures.merge merges) ∙ c.in-Some.is))
 
 pub returns-in-Some-clause-at_settled : goal.returns-in-Some-clause-at_settled
 returns-in-Some-clause-at_settled g c t tells is none = absurd ((is.waits.each c.in-Some.field-0 c.in-Some.ensures.next.0 c.in-Some.ensures.next.1).unsettled none)

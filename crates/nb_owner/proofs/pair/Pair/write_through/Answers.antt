@@ -1,13 +1,5 @@
 use Rattle.std.proofs.Common.{[], ◌∷◌, refl, ap, sym, subst, ◌∙◌}
-use Rattle.nb_model.specs.Strokes.{page}
-use Rattle.nb_model.specs.Trail.{after_stroke}
-use Rattle.nb_base.specs.Takes.{Strikes}
-use Rattle.nb_base.specs.Touches.{WritesIn}
-use Rattle.nb_base.proofs.FirmLaws.{strikes_left}
-use Rattle.nb_base.proofs.WriteLaws.{not_done}
-use Rattle.nb_cache.specs.Held.{NoneWaits, rank_of}
-use Rattle.nb_owner.specs.Open.{Held, Pages, IsOpen, AreOf, bare, used}
-use Rattle.nb_owner.specs.contracts.pair.Pair.{the_view}
+use Rattle.nb_owner.proofs.Common.{page, after_stroke, Strikes, WritesIn, strikes_left, not_done, NoneWaits, rank_of, Held, Pages, IsOpen, AreOf, bare, used, the_view}
 use Rattle.nb_owner.proofs.OpenLaws.{of_written, none_dropped, none_waits_kept, kept_pages, valid_kept, bare_put}
 use Rattle.nb_owner.proofs.WaitLaws.{files_open, open_settled}
 use Rattle.nb_owner.proofs.pair.Pair.write_through.Goals as goal

@@ -1,5 +1,5 @@
 use Rattle.std.proofs.Common.{length, ap, sym, ◌∙◌, arith, eqb-true}
-use Rattle.nb_script.specs.Lines.{lines_of, numbered}
+use Rattle.nb_script.proofs.Common.{lines_of, numbered}
 use Rattle.nb_script.proofs.LineLaws.{kept, skipped, no_lines, none_numbered}
 use Rattle.nb_script.proofs.lines.Lines.next.Goals as goal
 

@@ -1,5 +1,5 @@
 use Rattle.std.proofs.Common.{◌≡◌, ◌+◌, ◌≤◌, length}
-use Rattle.nb_script.specs.Lines.{lines_of, numbered}
+use Rattle.nb_script.proofs.Common.{lines_of, numbered}
 use Rattle.nb_script.proofs.lines.Lines.next.Given as goal
 
 abbrev pub invariant-loop-line : goal.invariant-loop-line

@@ -1,9 +1,6 @@
-use Rattle.std.proofs.Common.{ap, ◌∙◌, arith, List, ◌-◌, ◌<◌, length}
-use Rattle.std.specs.Global.{Vec}
-use Rattle.std.specs.Prelude.{Result, Ok, Err, OnErr}
+use Rattle.std.proofs.Common.{ap, ◌∙◌, arith, List, ◌-◌, ◌<◌, length, Result, Ok, Err, OnErr}
+use Rattle.nb_script.proofs.Common.{Vec, Statement, Plan, with_statement}
 use Rattle.std.proofs.Math.Seq.{map-set_same}
-use Rattle.nb_model.specs.declared.statement.Statement.{Statement}
-use Rattle.nb_script.specs.Scripts.{Plan, with_statement}
 use Rattle.nb_script.proofs.Sessions.{one_more}
 use Rattle.nb_script.proofs.script.Script.add.Goals as goal
 

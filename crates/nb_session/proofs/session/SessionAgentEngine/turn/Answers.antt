@@ -1,9 +1,5 @@
 use Rattle.std.proofs.Common.{◌<◌, ◌^◌, inr, get_or, refl, ap, sym, subst, ◌∙◌, arith}
-use Rattle.std.specs.List.{AllByRecursion}
-use Rattle.std.proofs.lemmas.List.{drop_more}
-use Rattle.nb_script.specs.Asked.{IsFurther}
-use Rattle.nb_session.specs.Askers.{Asker, TaskFits, left_task, task_left}
-use Rattle.nb_session.specs.declared.task.Left.{Left}
+use Rattle.nb_session.proofs.Common.{AllByRecursion, drop_more, IsFurther, Asker, TaskFits, left_task, task_left, Left}
 use Rattle.nb_session.proofs.StepLaws.{went_failed, went_same, went_other, began_failed, began_taken, begun_within}
 use Rattle.nb_session.proofs.session.SessionAgentEngine.turn.Goals as goal
 

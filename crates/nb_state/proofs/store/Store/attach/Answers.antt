@@ -1,5 +1,5 @@
 use Rattle.std.proofs.Common.{refl, ◌∙◌, arith}
-use Rattle.nb_fields.proofs.SizeLaws.{size_facts}
+use Rattle.nb_state.proofs.Common.{size_facts}
 use Rattle.nb_state.proofs.BeginLaws.{attached, open_read}
 use Rattle.nb_state.proofs.store.Store.attach.Goals as goal
 

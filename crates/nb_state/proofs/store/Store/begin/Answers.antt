@@ -1,11 +1,5 @@
-use Rattle.std.proofs.Common.{inl, ℕ, List, [], ◌∷◌, replicate, refl, sym, subst, ◌∙◌}
-use Rattle.std.specs.Prelude.{Ok}
-use Rattle.nb_host.specs.World.{World}
-use Rattle.nb_host.specs.declared.faults.Fault.TheVariants.{Device}
-use Rattle.nb_model.specs.Strokes.{begin}
-use Rattle.nb_state.specs.Open.{Held}
-use Rattle.nb_state.specs.Turns.{Begins}
-use Rattle.nb_change.proofs.ResultLaws.{passed_on}
+use Rattle.std.proofs.Common.{inl, ℕ, List, [], ◌∷◌, replicate, refl, sym, subst, ◌∙◌, Ok}
+use Rattle.nb_state.proofs.Common.{World, Device, begin, Held, Begins, passed_on}
 use Rattle.nb_state.proofs.MakesLaws.{still_open}
 use Rattle.nb_state.proofs.TurnLaws.{still_struck, given_guid, begin_failed, begin_done}
 use Rattle.nb_state.proofs.store.Store.begin.Goals as goal

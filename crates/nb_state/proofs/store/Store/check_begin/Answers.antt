@@ -1,14 +1,6 @@
-use Rattle.std.proofs.Common.{ℕ, sym, ap, subst, ◌∙◌, rules, arith}
-use Rattle.std.specs.Prelude.{Some}
-use Rattle.nb_fields.specs.States.{normal_state}
-use denote.Enum.Bare.{same_true, same_false}
-use Rattle.nb_host.specs.declared.refusals.Refusal.TheVariants.{WrongState, ScnExhausted}
-use Rattle.nb_model.specs.Causes.{not_state}
-use Rattle.nb_cases.specs.Events.{OnOpen}
-use Rattle.nb_cases.specs.contracts.events.Case.{the_type}
+use Rattle.std.proofs.Common.{ℕ, sym, ap, subst, ◌∙◌, rules, arith, Some}
+use Rattle.nb_state.proofs.Common.{normal_state, same_true, same_false, WrongState, ScnExhausted, not_state, OnOpen, the_type, goes, only_normal, Held}
 use Rattle.nb_cases.specs.declared.events.Case.TheVariants as case
-use Rattle.nb_cases.proofs.StateLaws.{goes, only_normal}
-use Rattle.nb_state.specs.Open.{Held}
 use Rattle.nb_state.proofs.TestLaws.{other_state, last_scn, may_begin}
 use Rattle.nb_state.proofs.store.Store.check_begin.Goals as goal
 

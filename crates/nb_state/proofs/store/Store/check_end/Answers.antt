@@ -1,12 +1,6 @@
-use Rattle.std.proofs.Common.{ℕ, sym, ap, subst, ◌∙◌, rules, arith}
-use Rattle.std.specs.Prelude.{Some}
-use denote.Enum.Bare.{same_true, same_false}
-use Rattle.nb_host.specs.declared.refusals.Refusal.TheVariants.{WrongState}
-use Rattle.nb_cases.specs.Events.{OnOpen, none_to_end}
-use Rattle.nb_cases.specs.contracts.events.Case.{the_type}
+use Rattle.std.proofs.Common.{ℕ, sym, ap, subst, ◌∙◌, rules, arith, Some}
+use Rattle.nb_state.proofs.Common.{same_true, same_false, WrongState, OnOpen, none_to_end, the_type, goes, some_backup, Held}
 use Rattle.nb_cases.specs.declared.events.Case.TheVariants as case
-use Rattle.nb_cases.proofs.StateLaws.{goes, some_backup}
-use Rattle.nb_state.specs.Open.{Held}
 use Rattle.nb_state.proofs.TestLaws.{no_backup, other_runs, this_runs, none_runs}
 use Rattle.nb_state.proofs.store.Store.check_end.Goals as goal
 

@@ -1,18 +1,8 @@
-use Rattle.std.proofs.Common.{◌≡◌, ℕ, ◌+◌, List, refl, sym, ap, subst, ◌∙◌, arith}
-use Rattle.std.specs.Prelude.{Result}
-use Rattle.nb_fields.specs.States.{stalled_state}
-use Rattle.nb_host.specs.World.{World}
-use Rattle.nb_host.specs.declared.faults.Fault.{Fault}
-use Rattle.nb_host.specs.declared.faults.Fault.TheVariants.{Device}
-use Rattle.nb_model.specs.Strokes.{Stroke}
-use Rattle.nb_model.specs.Image.{image_state}
-use Rattle.nb_model.proofs.HeaderLaws.{header-room}
-use Rattle.nb_base.specs.Takes.{Strikes, after_strokes}
-use Rattle.nb_state.specs.Open.{Held, IsOpen, name_of}
-use Rattle.nb_state.specs.Turns.{Ends}
-use Rattle.nb_change.proofs.ResultLaws.{passed_on}
+use Rattle.std.proofs.Common.{◌≡◌, ℕ, ◌+◌, List, refl, sym, ap, subst, ◌∙◌, arith, Result}
+use Rattle.nb_state.proofs.Common.{stalled_state, World, Fault, Device, Stroke, image_state, header-room, Strikes, after_strokes, Held, IsOpen, name_of, Ends, passed_on}
 use Rattle.nb_state.proofs.MakesLaws.{none_yet, gave_none}
-use Rattle.nb_state.proofs.TurnLaws.{no_call, open_struck, end_stalled, end_other, scn_stalled, scn_other, end_refused, end_failed, end_done}
+use Rattle.nb_state.proofs.TurnLaws.{open_struck, end_stalled, end_other, scn_stalled, scn_other, end_refused, end_failed, end_done}
+use Rattle.nb_page.proofs.QuietLaws.{quiet_begun}
 use Rattle.nb_state.proofs.store.Store.end.Goals as goal
 
 pub returns-in_err-check_end-clause-ends : goal.returns-in_err-check_end-clause-ends
@@ -21,7 +11,7 @@ returns-in_err-check_end-clause-ends g c t tells is =
     let held : Held = c.args.self.now in
     let test = c.in_err-check_end.ensures.test t.base.image is.files.agrees.state in
     subst (λ (r : Result ℕ Fault). Ends r old old held held t c.args.session) (sym (passed_on c.from_residual.result c.in_err-check_end.field-0.0 c.from_residual.ensures))
-    (end_refused old held t c.args.session c.in_err-check_end.field-0.0 is (no_call old (g.met.H.Host.timely _)) test)
+    (end_refused old held t c.args.session c.in_err-check_end.field-0.0 is (quiet_begun old (g.met.H.Host.timely _)) test)
 
 pub returns-in_err-scn-clause-ends : goal.returns-in_err-scn-clause-ends
 returns-in_err-scn-clause-ends g c t tells is =
@@ -56,7 +46,7 @@ returns-clause-ends g c t tells given =
     let old : World = g.H.Host.world c.args.host.now in
     let held : Held = c.args.self.now in
     let is = subst (λ (h : Held). IsOpen old h t) (sym c.self.view_is) given in
-    let quiet = no_call old (g.met.H.Host.timely _) in
+    let quiet = quiet_begun old (g.met.H.Host.timely _) in
     let other : image_state t.base.image ≡ stalled_state → ⊥ = λ e. c.if-state-eq-STALLED.false (c.state.ensures.value ∙ is.files.agrees.state ∙ e) in
     let allowed = c.in_ok-check_end.ensures.test t.base.image given.files.agrees.state in
     let strokes = end_other t.base.image other in

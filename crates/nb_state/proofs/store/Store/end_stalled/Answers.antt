@@ -1,9 +1,5 @@
 use Rattle.std.proofs.Common.{[], ◌∷◌, sym, ap, subst, ◌∙◌}
-use Rattle.nb_host.specs.World.{World}
-use Rattle.nb_model.specs.Strokes.{ends}
-use Rattle.nb_base.specs.Takes.{Strikes}
-use Rattle.nb_base.proofs.WriteLaws.{not_done}
-use Rattle.nb_state.specs.Open.{Held, IsOpen, name_of}
+use Rattle.nb_state.proofs.Common.{World, ends, Strikes, not_done, Held, IsOpen, name_of}
 use Rattle.nb_state.proofs.TurnLaws.{open_ended, end_room}
 use Rattle.nb_state.proofs.store.Store.end_stalled.Goals as goal
 

@@ -1,12 +1,6 @@
-use Rattle.std.proofs.Common.{◌≡◌, ◌+◌, ◌<◌, ◌≤◌, [], ◌∷◌, length, refl, sym, ap, subst, ◌∙◌, arith}
-use Rattle.std.specs.Prelude.{slice_index, None}
-use Rattle.nb_host.specs.World.{World}
-use Rattle.nb_model.specs.Strokes.{finish}
-use Rattle.nb_model.specs.Owner.{delta_name}
+use Rattle.std.proofs.Common.{◌≡◌, ◌+◌, ◌<◌, ◌≤◌, [], ◌∷◌, length, refl, sym, ap, subst, ◌∙◌, arith, slice_index, None}
+use Rattle.nb_state.proofs.Common.{World, finish, delta_name, Strikes, Held, IsOpen, name_of, passed_on}
 use Rattle.nb_base.specs.Merging.{PutsPage}
-use Rattle.nb_base.specs.Takes.{Strikes}
-use Rattle.nb_state.specs.Open.{Held, IsOpen, name_of}
-use Rattle.nb_change.proofs.ResultLaws.{passed_on}
 use Rattle.nb_state.proofs.TurnLaws.{struck_front, open_more, open_finished, all_merged, merge_failed}
 use Rattle.nb_state.proofs.store.Store.merge_turn.Goals as goal
 

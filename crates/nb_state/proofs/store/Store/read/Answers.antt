@@ -1,5 +1,5 @@
 use Rattle.std.proofs.Common.{sym, ap, subst, ◌∙◌}
-use Rattle.nb_state.specs.Open.{NoPageWaits}
+use Rattle.nb_state.proofs.Common.{NoPageWaits}
 use Rattle.nb_state.proofs.store.Store.read.Goals as goal
 
 pub returns-clause-none_waits : goal.returns-clause-none_waits

@@ -1,5 +1,5 @@
 use Rattle.std.proofs.Common.{ap, sym, subst}
-use Rattle.nb_state.specs.Open.{Held, IsOpen}
+use Rattle.nb_state.proofs.Common.{Held, IsOpen}
 use Rattle.nb_state.proofs.MakesLaws.{open_still}
 use Rattle.nb_state.proofs.store.Store.read_main.Goals as goal
 

@@ -1,9 +1,5 @@
 use Rattle.std.proofs.Common.{[], refl, sym, subst}
-use Rattle.std.proofs.lemmas.Result.{on_ok_weaker}
-use Rattle.nb_model.specs.Trail.{settled}
-use Rattle.nb_base.specs.Takes.{Strikes}
-use Rattle.nb_base.specs.Touches.{WritesIn}
-use Rattle.nb_state.specs.Open.{Held, IsOpen, name_of}
+use Rattle.nb_state.proofs.Common.{on_ok_weaker, settled, Strikes, WritesIn, Held, IsOpen, name_of}
 use Rattle.nb_state.proofs.TurnLaws.{open_out}
 use Rattle.nb_state.proofs.store.Store.sync.Goals as goal
 

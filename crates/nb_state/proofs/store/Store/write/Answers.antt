@@ -1,19 +1,9 @@
-use Rattle.std.proofs.Common.{◌≢◌, [], ◌∷◌, refl, sym, ap, subst, ◌∙◌, arith}
-use Rattle.std.specs.Prelude.{Result, IfErr}
-use Rattle.nb_fields.proofs.SizeLaws.{size_facts}
-use Rattle.nb_host.specs.World.{World}
-use Rattle.nb_host.specs.Faults.{as_fault, as_answer}
-use Rattle.nb_host.specs.declared.faults.RunError.{RunError}
+use Rattle.std.proofs.Common.{◌≢◌, [], ◌∷◌, refl, sym, ap, subst, ◌∙◌, arith, Result, IfErr}
+use Rattle.nb_state.proofs.Common.{size_facts, World, as_fault, as_answer, RunError, page, Strikes, WritesIn, Held, IsOpen, HasBlock, NoPageWaits, name_of, pair_of, Goes, Makes, passed_on}
 use Rattle.nb_host.specs.declared.faults.RunError.TheVariants.{Memory}
-use Rattle.nb_model.specs.Strokes.{page}
-use Rattle.nb_base.specs.Takes.{Strikes}
-use Rattle.nb_base.specs.Touches.{WritesIn}
 use Rattle.nb_owner.proofs.OpenLaws.{may_write}
-use Rattle.nb_state.specs.Open.{Held, IsOpen, HasBlock, NoPageWaits, name_of, pair_of}
 use Rattle.nb_state.specs.contracts.store.Store.{the_view}
-use Rattle.nb_state.specs.Does.{Goes, Makes}
 use Rattle.nb_state.proofs.AgreeLaws.{open_written, goes_files, goes_written}
-use Rattle.nb_change.proofs.ResultLaws.{passed_on}
 use Rattle.nb_state.proofs.MakesLaws.{never_ended, none_refused}
 use Rattle.nb_state.proofs.TurnLaws.{open_wanting}
 use Rattle.nb_state.proofs.store.Store.write.Goals as goal

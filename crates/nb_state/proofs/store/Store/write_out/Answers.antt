@@ -1,11 +1,5 @@
-use Rattle.std.proofs.Common.{◌≡◌, [], refl, sym, subst, ap, ◌∙◌}
-use Rattle.std.specs.Prelude.{Result, Ok, Err, OnOk}
-use Rattle.std.proofs.lemmas.Result.{on_ok_weaker}
-use Rattle.nb_base.specs.Open.{AreMerged}
-use Rattle.nb_base.specs.Takes.{Strikes}
-use Rattle.nb_base.specs.Touches.{WritesIn}
-use Rattle.nb_cache.specs.Held.{NoneWaits}
-use Rattle.nb_state.specs.Open.{Held, IsOpen, name_of}
+use Rattle.std.proofs.Common.{◌≡◌, [], refl, sym, subst, ap, ◌∙◌, Result, Ok, Err, OnOk}
+use Rattle.nb_state.proofs.Common.{on_ok_weaker, AreMerged, Strikes, WritesIn, NoneWaits, Held, IsOpen, name_of}
 use Rattle.nb_state.proofs.TurnLaws.{open_out}
 use Rattle.nb_state.proofs.store.Store.write_out.Goals as goal
 
