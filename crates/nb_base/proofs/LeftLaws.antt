@@ -12,7 +12,6 @@ merged_fits (suc p) bytes image front = refl
 
 -- A page stroke.
 module _ (b : Base) (p : ℕ) (bytes : Page) where
-
   pub stroke-stalled : image_state b.image ≡ stalled_state → (on_base (page p bytes) b).diverted ≡ noted p b.diverted
   unfolding on_base
   stroke-stalled is = elim (eqb_tells (image_state b.image) 1) [

@@ -31,7 +31,6 @@ module _ {X : Type 0} (test : X → Bool) (x : X) where
 
 -- As a walk holds it, and one slot more.
 module _ {A : Type 0} (at : Option Spot → Option A) (test : Spot → Bool) (ss : List Spot) (s : Spot) (held : Option A) (is : held ≡ at (first_such test ss)) (none : is_some (at None) ≡ false) (some : (x : Spot) → is_some (at (Some x)) ≡ true) where
-
   none_yet : is_some held ≡ false → first_such test ss ≡ None
   none_yet e = by (first_such test ss) refl
     where

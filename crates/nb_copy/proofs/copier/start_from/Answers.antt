@@ -197,15 +197,21 @@ returns-in_err-head-2-clause-made_first g c t tells is plain =
     let makes = (c.in_ok-room.ensures.makes t tells (check.looks.opened t tells is)).makes in
     let fault = c.in_err-head-2.field-0.0 in
     let sure = subst (λ (r : Result Backed Fault). IsNotMemory r) (sym (passed_on c.from_residual-in_err-head-2.result fault c.from_residual-in_err-head-2.ensures)) c.in_err-head-2.ensures.takes_none in
-    inr (made_since (g.H.Host.world c.history_room.new.host) (g.H.Host.world c.make.new.self) (g.H.Host.world c.begin.new.host) c.args.engine.now c.history_room.new.self c.begin.new.engine _ c.args.name.now (Err fault) c.args.session c.in_ok-head.head (makes.goes.name ∙ ap name_of check.looks.same)
-    (free_apart (g.H.Host.world c.args.host.now) c.args.engine.now t c.args.name.now is (check.free tells) plain) makes.opened (λ n. g.met.H.Host.reads_left _ tells n) (remade_alone _ _ (g.H.Host.world c.history_room.new.host) (g.H.Host.world c.make.new.self) c.args.name.now _ IsEmpty tells (g.met.H.Host.timely _) make.files make.log.said make.time refl)
-    (is_made _ _ _ _ c.args.name.now tells make.files) (c.begin.ensures.asks tells) (λ guid opened given. c.in_err-head-2.ensures.begins _ guid None tells opened given), sure)
+    inr (
+      made_since (g.H.Host.world c.history_room.new.host) (g.H.Host.world c.make.new.self) (g.H.Host.world c.begin.new.host) c.args.engine.now c.history_room.new.self c.begin.new.engine _ c.args.name.now (Err fault) c.args.session c.in_ok-head.head (makes.goes.name ∙ ap name_of check.looks.same)
+          (free_apart (g.H.Host.world c.args.host.now) c.args.engine.now t c.args.name.now is (check.free tells) plain) makes.opened (λ n. g.met.H.Host.reads_left _ tells n) (remade_alone _ _ (g.H.Host.world c.history_room.new.host) (g.H.Host.world c.make.new.self) c.args.name.now _ IsEmpty tells (g.met.H.Host.timely _) make.files make.log.said make.time refl)
+          (is_made _ _ _ _ c.args.name.now tells make.files) (c.begin.ensures.asks tells) (λ guid opened given. c.in_err-head-2.ensures.begins _ guid None tells opened given),
+      sure,
+    )
 
 pub returns-clause-made_first : goal.returns-clause-made_first
 returns-clause-made_first g c t tells is plain =
     let check = c.in_ok-head.ensures in
     let make = c.in_ok-make.ensures in
     let makes = (c.in_ok-room.ensures.makes t tells (check.looks.opened t tells is)).makes in
-    inr (made_since (g.H.Host.world c.history_room.new.host) (g.H.Host.world c.make.new.self) (g.H.Host.world c.begin.new.host) c.args.engine.now c.history_room.new.self c.begin.new.engine _ c.args.name.now (Ok c.in_ok-head-2.head) c.args.session c.in_ok-head.head (makes.goes.name ∙ ap name_of check.looks.same)
-    (free_apart (g.H.Host.world c.args.host.now) c.args.engine.now t c.args.name.now is (check.free tells) plain) makes.opened (λ n. g.met.H.Host.reads_left _ tells n) (remade_alone _ _ (g.H.Host.world c.history_room.new.host) (g.H.Host.world c.make.new.self) c.args.name.now _ IsEmpty tells (g.met.H.Host.timely _) make.files make.log.said make.time refl)
-    (is_made _ _ _ _ c.args.name.now tells make.files) (c.begin.ensures.asks tells) (λ guid opened given. c.in_ok-head-2.ensures.begins _ guid None tells opened given), tt)
+    inr (
+      made_since (g.H.Host.world c.history_room.new.host) (g.H.Host.world c.make.new.self) (g.H.Host.world c.begin.new.host) c.args.engine.now c.history_room.new.self c.begin.new.engine _ c.args.name.now (Ok c.in_ok-head-2.head) c.args.session c.in_ok-head.head (makes.goes.name ∙ ap name_of check.looks.same)
+          (free_apart (g.H.Host.world c.args.host.now) c.args.engine.now t c.args.name.now is (check.free tells) plain) makes.opened (λ n. g.met.H.Host.reads_left _ tells n) (remade_alone _ _ (g.H.Host.world c.history_room.new.host) (g.H.Host.world c.make.new.self) c.args.name.now _ IsEmpty tells (g.met.H.Host.timely _) make.files make.log.said make.time refl)
+          (is_made _ _ _ _ c.args.name.now tells make.files) (c.begin.ensures.asks tells) (λ guid opened given. c.in_ok-head-2.ensures.begins _ guid None tells opened given),
+      tt,
+    )
