@@ -33,12 +33,12 @@ def build(program, to, progress):
     """Proves the program over its libraries, and leaves it."""
     with rooms.Room(program) as room:
         # `rt` builds a program to run it: told nothing, it says how it is used.
-        _, text = room.rt("run")
-        made = f"{room.folder}/out/{program}"
+        _, text = room.rt("run", "--jobs", str(len(os.sched_getaffinity(0))), at=program)
+        made = f"{room.folder(program)}/out/{program}"
         stands = os.path.isfile(made)
         progress(program, stands, text)
         if stands:
-            room.hand_back()
+            room.hand_back(program)
             os.makedirs(os.path.dirname(to) or ".", exist_ok=True)
             shutil.copy(made, to)
 

@@ -1,7 +1,7 @@
 """Works on crates side by side, each in a room of its own.
 
 `rt` holds the folders of all crates below the one that it works on, so two runs in one tree wait for each other. A room is a folder with a copy of a crate's
-text and of the text below it, and with what `rt` has kept of these crates in their out/. What is proved in a room goes back to crates/NAME/out, where `rt`,
+text, or of some crates', and of the text below, and with what `rt` has kept of these crates in their out/. What is proved in a room goes back to crates/NAME/out, where `rt`,
 `make` and `make wrong` find it, with a sum of all that it was proved of, by which it is known again.
 """
 import concurrent.futures
@@ -103,42 +103,46 @@ def copy_kept(name, part, room):
 
 
 class Room:
-    """A room for one crate, which is removed at the end."""
+    """A room for these crates, which is removed at the end."""
 
-    def __init__(self, name):
-        self.name, self.place = name, tempfile.TemporaryDirectory(prefix=f"room-{name}-")
-        self.top, self.folder = self.place.name, f"{self.place.name}/crates/{name}"
+    def __init__(self, *names):
+        self.names, self.place = names, tempfile.TemporaryDirectory(prefix=f"room-{names[0]}-")
+        self.top = self.place.name
 
     def __enter__(self):
-        names, room = {self.name, *below(self.name)}, self.place.name
-        for name in names:
-            shutil.copytree(f"{ROOT}/crates/{name}", f"{room}/crates/{name}", ignore=shutil.ignore_patterns("out", "must-fail", "wrong"))
-            copy_kept(name, BUILT, room)
-        copy_kept(self.name, CHECKED, room)
-        shutil.copy(f"{ROOT}/HANDLES", room)
-        with open(f"{ROOT}/crates.txt", encoding="utf-8") as lines, open(f"{room}/crates.txt", "w", encoding="utf-8") as to:
-            to.writelines(line for line in lines if line.split(":")[0].split()[:1] and line.split(":")[0].split()[0] in names)
+        every = set(self.names).union(*(below(it) for it in self.names))
+        for name in every:
+            shutil.copytree(f"{ROOT}/crates/{name}", self.folder(name), ignore=shutil.ignore_patterns("out", "must-fail", "wrong"))
+            copy_kept(name, BUILT, self.top)
+        for name in self.names:
+            copy_kept(name, CHECKED, self.top)
+        shutil.copy(f"{ROOT}/HANDLES", self.top)
+        with open(f"{ROOT}/crates.txt", encoding="utf-8") as lines, open(f"{self.top}/crates.txt", "w", encoding="utf-8") as to:
+            to.writelines(line for line in lines if line.split(":")[0].split()[:1] and line.split(":")[0].split()[0] in every)
         return self
 
     def __exit__(self, *_):
         self.place.cleanup()
 
-    def rt(self, *words, at=None):
-        """Runs `rt` on the crate. Answers its status and what it said."""
+    def folder(self, name):
+        return f"{self.top}/crates/{name}"
+
+    def rt(self, *words, at=""):
+        """Runs `rt`, in the folder of a crate if it is named. Answers its status and what it said."""
         how = {"stdin": subprocess.DEVNULL, "stdout": subprocess.PIPE, "stderr": subprocess.STDOUT}
-        ran = subprocess.run(["rt", *words], cwd=at or self.folder, text=True, errors="replace", check=False, **how)
+        ran = subprocess.run(["rt", *words], cwd=self.folder(at) if at else self.top, text=True, errors="replace", check=False, **how)
         return ran.returncode, ran.stdout
 
-    def hand_back(self):
-        """Leaves what was proved here in the crate's own out/."""
+    def hand_back(self, name):
+        """Leaves what was proved of a crate here in its own out/."""
         for part in (BUILT, CHECKED):
-            made, to = f"{self.folder}/out/{part}", f"{ROOT}/crates/{self.name}/out/{part}"
+            made, to = f"{self.folder(name)}/out/{part}", f"{ROOT}/crates/{name}/out/{part}"
             if os.path.isdir(made):
                 shutil.rmtree(to, ignore_errors=True)
                 os.makedirs(os.path.dirname(to), exist_ok=True)
                 shutil.move(made, to)
-        with open(f"{ROOT}/crates/{self.name}/out/{SUM}", "w", encoding="utf-8") as kept:
-            kept.write(sum_of(self.name))
+        with open(f"{ROOT}/crates/{name}/out/{SUM}", "w", encoding="utf-8") as kept:
+            kept.write(sum_of(name))
 
 
 def side_by_side(waits, weight, work):
@@ -182,9 +186,9 @@ def prove(names, said):
             said(name, True, "")
             return True
         with Room(name) as room:
-            status, text = room.rt("lib", "--jobs", str(jobs))
+            status, text = room.rt("lib", "--jobs", str(jobs), at=name)
             if status == 0:
-                room.hand_back()
+                room.hand_back(name)
         said(name, status == 0, text)
         return status == 0
 
