@@ -33,7 +33,7 @@ def build(program, to, progress):
     """Proves the program over its libraries, and leaves it."""
     with rooms.Room(program) as room:
         # `rt` builds a program to run it: told nothing, it says how it is used.
-        _, text = room.rt("run", "--jobs", str(len(os.sched_getaffinity(0))), at=program)
+        _, text = room.rt("run", "--jobs", str(rooms.processors()), at=program)
         made = f"{room.folder(program)}/out/{program}"
         stands = os.path.isfile(made)
         progress(program, stands, text)

@@ -18,6 +18,11 @@ ROOT = os.path.dirname(os.path.dirname(os.path.abspath(__file__)))
 BUILT, CHECKED, SUM = "rlib", "incremental", "sum"
 
 
+def processors():
+    """How many processors there are to prove with."""
+    return len(os.sched_getaffinity(0))
+
+
 def libraries():
     """The crates of the repository, and which of them each uses, by crates.txt."""
     with open(f"{ROOT}/crates.txt", encoding="utf-8") as lines:
@@ -148,7 +153,7 @@ class Room:
 def side_by_side(waits, weight, work):
     """Calls `work` with each name and how many processors it may use, once it has answered true for all names that the one waits for: those first behind
     which the greatest weight stands. Answers the names for which it didn't answer true, or wasn't called."""
-    processors, behind = len(os.sched_getaffinity(0)), {}
+    behind = {}
 
     def weigh(name):
         if name not in behind:
@@ -156,10 +161,10 @@ def side_by_side(waits, weight, work):
         return behind[name]
 
     left, running, done = sorted(waits, key=weigh, reverse=True), {}, set()
-    with concurrent.futures.ThreadPoolExecutor(processors) as pool:
+    with concurrent.futures.ThreadPoolExecutor(processors()) as pool:
         while True:
             ready = [it for it in left if done.issuperset(waits[it])]
-            idle = processors - sum(jobs for _, jobs in running.values())
+            idle = processors() - sum(jobs for _, jobs in running.values())
             for at, name in enumerate(ready[:idle]):
                 # It gets the processors that nothing else can use.
                 jobs = max(1, idle // (len(ready) - at))

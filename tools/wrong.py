@@ -61,7 +61,8 @@ def main(names):
     print(f"{count} edits of {len(names)} crates are tried, after {(time.time() - began) / 60:.0f} minutes", flush=True)
     said, text = tried(names)
     left = show(names, said)
-    if not said:
+    if any((it, edit) not in said for it in names for edit in edits_of(it)):
+        # rt ended before it had tried them all: it says why.
         print(text)
     print(f"{left} not refused, {(time.time() - began) / 60:.0f} minutes")
     return min(left, 255)

@@ -1,5 +1,5 @@
 -- The causes of a page that is tested.
-use Rattle.std.proofs.Common.{◌≡◌, ◌≢◌, inl, inr, ℕ, ◌/◌, ◌%◌, ◌<◌, ◌≤◌, List, [], ◌∷◌, ◌++◌, length, get_or, take, drop, sym, ap, ◌∙◌, subst, arith, Bool, true, false, not, ◌&&◌, ◌==◌, nat_le, Some, None, Result, Ok, Err, IsOk, OnOk}
+use Rattle.std.proofs.Common.{◌≡◌, ◌≢◌, ◌↔◌, inl, inr, ℕ, ◌/◌, ◌%◌, ◌<◌, ◌≤◌, List, [], ◌∷◌, ◌++◌, length, get_or, take, drop, refl, sym, ap, ◌∙◌, subst, arith, Bool, true, false, not, ◌&&◌, ◌==◌, nat_le, Some, None, Result, Ok, Err, IsOk, IsTrue, OnOk}
 use Rattle.nb_alloc.proofs.Common.{leb_tells, length-take, take_at, bits_in, inventory_place, kind_of, bit_of, text_length, text_of, inventory_kind, raw_kind, Refusal, NotDatabase, PageRange, NotAllocated, SystemPage, Access, TextLong, bits, get_or-bits, Page, Image, page_at, image_size, is_read_only, is_kind, is_free_page, inventory_of, bit_number, Cause, first_cause, when, read_only, too_long, past_end, not_kind, not_raw, no_text, Value, Seen, says, le_no, lt_no, lt_yes, eq_no, eq_yes, not_taken, applies, first_here, first_next, le_yes, never, no_cause, when_false}
 use Rattle.std.proofs.lemmas.Nat.Bits.{bit_at-lt}
 use Rattle.nb_page.specs.declared.page.PageHead.{PageHead}
@@ -79,18 +79,16 @@ module _ (image : Image) (p : ℕ) where
   bit_read : (map : Page) (bit : ℕ) → ReadsBit image p map bit → get_or (bits map) bit 0 ≡ bit_of inventory (bit_number image p)
   bit_read map bit reads = get_or-bits map bit 0 reads.inside ∙ ap (λ (m : Page). bit_of m bit) reads.page ∙ ap (bit_of inventory) reads.number
 
-  pub free_read : (map : Page) (bit : ℕ) → ReadsBit image p map bit → get_or (bits map) bit 0 ≢ 0 → is_free_page image p ≡ true
+  -- whether it is free, as the bit tells
+  pub free_is : (map : Page) (bit : ℕ) → ReadsBit image p map bit → (used : Bool) → (IsTrue used ↔ (get_or (bits map) bit 0 ≡ 0)) → not used ≡ is_free_page image p
   unfolding is_free_page
-  free_read map bit reads some =
+  free_is map bit reads true tells =
+      let read : bit_of inventory (bit_number image p) ≡ 0 = sym (bit_read map bit reads) ∙ tells.0 refl in
+      sym (eq_no _ 1 (λ e. absurd (omega (arith, e, read))))
+  free_is map bit reads false tells =
       let small : bit_of inventory (bit_number image p) < 2 = bit_at-lt _ _ in
-      let other : bit_of inventory (bit_number image p) ≢ 0 = λ e. some (bit_read map bit reads ∙ e) in
-      eq_yes _ 1 (omega (arith, small, other))
-
-  pub used_read : (map : Page) (bit : ℕ) → ReadsBit image p map bit → get_or (bits map) bit 0 ≡ 0 → is_free_page image p ≡ false
-  unfolding is_free_page
-  used_read map bit reads none =
-      let read : bit_of inventory (bit_number image p) ≡ 0 = sym (bit_read map bit reads) ∙ none in
-      eq_no _ 1 (λ e. absurd (omega (arith, e, read)))
+      let other : bit_of inventory (bit_number image p) ≢ 0 = λ e. never (tells.1 (bit_read map bit reads ∙ e)) in
+      sym (eq_yes _ 1 (omega (arith, small, other)))
 
   abbrev untaken : List Cause
   untaken = not_kind image inventory_kind (inventory_of image p) ∷ when (is_free_page image p) (NotAllocated p) ∷ []

@@ -6,7 +6,7 @@
 //! inventory page that has a bit. Page numbers, SCNs and places of system pages are those of the image.
 //!
 //! A layer above may rely on this, on every database that opens, whatever its pages are. A call that tests or reads (`read_system`, `read_data`,
-//! `read_raw`, `is_free`, `is_there`, `find_lacking`, `check_new`, `check_rooms`) changes nothing but which pages are in memory, wants no memory, and
+//! `read_raw`, `is_page_free`, `is_there`, `find_lacking`, `check_new`, `check_rooms`) changes nothing but which pages are in memory, wants no memory, and
 //! is refused exactly where its cause holds. A call that writes makes its strokes in order, in every backup state: the SCN entry of a page before the
 //! page (`raise_entry`, `put_page`), the page before its bit (`make_new`); at each moment a crash leaves what may be left after a front of them, and
 //! the database is open after all of them once the call has answered a value or a refusal. It wants memory in the stalled state alone. The search for
@@ -30,6 +30,6 @@ pub use find::FIRST_TO_GIVE;
 pub use make::{make_new, put_page};
 pub use pages::{InventoryPage, ScnPage};
 pub use put::{raise_entry, write_raw};
-pub use reads::{is_free, read_data, read_raw, read_system};
+pub use reads::{is_page_free, read_data, read_raw, read_system};
 pub use rooms::{check_new, check_rooms};
 pub use way::is_there;

@@ -89,7 +89,7 @@ pub fn read_data<H: Host>(
 
 /// Whether the inventory page of page `number` says that it is free. It takes one read at most, changes nothing but which pages are in memory,
 /// and wants no memory. The refusal is `NotDatabase` of the inventory page.
-pub fn is_free<H: Host>(
+pub fn is_page_free<H: Host>(
     store: &mut Store,
     host: &mut H,
     number: u32,
@@ -108,10 +108,7 @@ pub fn is_free<H: Host>(
     let page_size = store.page_size();
     let (k, bit) = covers(page_size, number);
     map.read(store, host, place_of(page_size, k))?;
-    if map.is_used(bit) {
-        return Ok(false);
-    }
-    Ok(true)
+    Ok(!map.is_used(bit))
 }
 
 /// Tests that page `number` is taken. The refusals are `NotDatabase` of its inventory page, and `NotAllocated`.
@@ -130,7 +127,7 @@ fn check_taken<H: Host>(
     ensures cause { CountsDevice result (H.faults host.old) (H.faults host.new) }
     ensures takes_none { IfErr result (λ fault. fault ≢ Memory) }
 {
-    let free = is_free(store, host, number, map)?;
+    let free = is_page_free(store, host, number, map)?;
     if free {
         return Err(Fault::Refused(Refusal::NotAllocated { page: number }));
     }

@@ -74,7 +74,7 @@ pub use Rattle.nb_state.proofs.LooksLaws.{looks_begun, looks_then}
 pub use Rattle.nb_state.proofs.MakesLaws.{goes_nowhere, goes_on, makes_front, makes_none, makes_then}
 pub use Rattle.nb_state.specs.Does.{Does, Goes, Makes, Tested, unless_by}
 pub use Rattle.nb_state.specs.Looks.{Looks}
-pub use Rattle.nb_state.specs.Open.{Held, IsOpen, but_pages}
+pub use Rattle.nb_state.specs.Open.{Held, IsOpen}
 pub use Rattle.nb_walk.proofs.SlotLaws.{slot_inside, slots_step}
 pub use Rattle.nb_walk.proofs.WalkLaws.{Walks, so, walks_all, walks_broken, walks_first, walks_length, walks_next, walks_none, walks_over, walks_split}
 pub use Rattle.nb_walk.specs.Walks.{chain_by, not_linked}

@@ -2,7 +2,7 @@
 use Rattle.std.proofs.Common.{inl, refl, arith, Bool}
 use Rattle.nb_cli.proofs.Common.{Asked, EndsRun}
 use Rattle.nb_host.specs.World.{World}
-use Rattle.nb_top.specs.declared.status.Status.{Status}
+use Rattle.nb_ended.specs.declared.status.Status.{Status}
 use Rattle.nb_top.specs.Goes.{IsRun}
 
 -- nothing is written after the run

@@ -1,10 +1,9 @@
 //! The program: the words of the command line, real files, and the exit status.
 //!
-//! It rests on `nb_top`, whose `run_read` does what words ask, on `nb_file` for the outside, and on `nb_advice` for what the standard error says.
-//! On the standard output it says nothing itself. `serve` is the whole way from the words to the exit status, over any outside. Before a run it tells
-//! the host which database the run changes and how long locks are waited for; after it the standard error has which word is wrong, which
-//! line of a script, what to do about a refusal, or what stands where the run ended early (`beside`). For that it looks at files by itself
-//! (`look`), without a lock, and changes nothing.
+//! It rests on `nb_top`, whose `run_read` does what words ask, on `nb_file` for the outside, and on `nb_beside` for what is done beside a run: before it
+//! the host is told which database the run changes and how long locks are waited for; after it the standard error has which word is wrong, which
+//! line of a script, what to do about a refusal, or what stands where the run ended early. On the standard output it says nothing itself. `serve` is
+//! the whole way from the words to the exit status, over any outside.
 #![tactic(auto)]
 
 ghost use Rattle.std.specs.Prelude.{◌≡◌, ◌≢◌, None, IsErr, map, string_bytes, IfOk, IfErr};
@@ -16,20 +15,12 @@ ghost use Rattle.nb_top.specs.Requests.{Asked, IsAskedBy, IsReadJob, NamesNone};
 ghost use Rattle.nb_cli.specs.Ended.{EndsRun, ExitsAs, IsAskedOf, IsReadOf};
 ghost use Rattle.nb_cli.specs.Exit.{number_of};
 
-mod after;
-mod beside;
-mod changed;
-mod look;
-mod progress;
-mod seeing;
-mod settings;
-
-use beside::{Beside, End};
+use nb_beside::{Beside, End};
+use nb_ended::{Broken, Status};
 use nb_file::FileHost;
 use nb_host::{Fault, Refusal};
 use nb_model::Job;
-use nb_top::broken::Broken;
-use nb_top::{Status, run_read};
+use nb_top::run_read;
 use nb_words::read_job;
 use std::alloc::Global;
 use std::env;

@@ -81,7 +81,7 @@ pub use Rattle.nb_model.specs.Trail.{Trail}
 pub use Rattle.nb_model.specs.declared.reply.Reply.TheVariants.{Done, PageMade, Refused, Scn, Value}
 pub use Rattle.nb_page.proofs.QuietLaws.{quiet_begun, quiet_joined}
 pub use Rattle.nb_page.specs.Quiet.{Quiet}
-pub use Rattle.nb_state.proofs.LooksLaws.{looks_begun, looks_then}
+pub use Rattle.nb_state.proofs.LooksLaws.{looks_begun, looks_named, looks_then}
 pub use Rattle.nb_state.proofs.MakesLaws.{makes_none, none_refused, none_yet, open_still}
 pub use Rattle.nb_state.specs.Does.{Does, Makes, Tested, has_only_told, unless_by}
 pub use Rattle.nb_state.specs.Looks.{Looks}

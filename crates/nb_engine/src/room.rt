@@ -23,7 +23,7 @@ ghost use Rattle.nb_alloc.specs.Tries.{Tries};
 use crate::grow::grow_from;
 use crate::rows::{HistoryRow, put_slot};
 use crate::walk::Room;
-use nb_alloc::{InventoryPage, ScnPage, check_rooms, is_free, put_page};
+use nb_alloc::{InventoryPage, ScnPage, check_rooms, is_page_free, put_page};
 use nb_fields::PageKind;
 use nb_host::{Fault, Host, Refusal};
 use nb_state::Store;
@@ -91,7 +91,7 @@ pub(crate) fn check_room<H: Host>(
     ensures takes_none { IfErr result (λ fault. fault ≢ Memory) }
 {
     let scn = store.scn();
-    let free = is_free(store, host, number, map)?;
+    let free = is_page_free(store, host, number, map)?;
     check_scn_page(store, host, number, scn_page)?;
     if free {
         return Err(Fault::Refused(Refusal::NotDatabase { page: number }));

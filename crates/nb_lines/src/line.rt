@@ -3,8 +3,9 @@ ghost use Rattle.std.specs.Prelude.{◌≡◌, ◌++◌, ◌∷◌, [], take, dr
 ghost use Rattle.nb_host.specs.declared.faults.Fault.TheVariants.{Memory};
 ghost use Rattle.nb_model.specs.declared.reply.Reply.TheVariants.{Leaked, Planned};
 ghost use Rattle.nb_model.specs.Lines.{is, line_text, number, spaced, name_words, page_words, reply_words, refusal_words, row_words};
+ghost use Rattle.nb_lines.specs.Words.{shown_words};
 
-use crate::word::{Word, push_number, push_ok, push_words};
+use crate::word::{Word, push_number, push_ok, push_one, push_two, push_words};
 use nb_host::{Fault, Name, Refusal};
 use nb_model::{NameList, PageList, Reply, RowList};
 use std::alloc::{AllocError, Global};
@@ -188,49 +189,12 @@ fn push_plan(
     Ok(())
 }
 
-/// The words of a reply.
-fn push_reply(line: &mut Vec<u8>, reply: &Reply) -> Result<(), AllocError>
-    ensures { OnOk result (line.new.items ≡ line.old.items ++ spaced (reply_words reply.now)) }
+/// The words of a reply that shows something, and nothing of another.
+#[tactic(auto, using(crate::proofs::WordLaws::no_words))]
+fn push_shown(line: &mut Vec<u8>, reply: &Reply) -> Result<(), AllocError>
+    ensures { OnOk result (line.new.items ≡ line.old.items ++ spaced (shown_words reply.now)) }
 {
     match reply {
-        Reply::Done => push_ok(line, &[]),
-        Reply::Pages { pages } => push_ok(line, &[("pages", Word::Number(*pages as u64))]),
-        Reply::Opened { pages, state } => push_ok(
-            line,
-            &[
-                ("pages", Word::Number(*pages as u64)),
-                ("state", Word::Number(*state as u64)),
-            ],
-        ),
-        Reply::PageMade { page } => push_ok(line, &[("page", Word::Number(*page as u64))]),
-        Reply::Value { text } => push_words(line, &[Word::Is("ok"), Word::Quoted(text.as_slice())]),
-        Reply::Scn { scn } => push_ok(line, &[("scn", Word::Number(*scn as u64))]),
-        Reply::ScnPages { scn, pages } => push_ok(
-            line,
-            &[
-                ("scn", Word::Number(*scn as u64)),
-                ("pages", Word::Number(*pages as u64)),
-            ],
-        ),
-        Reply::Level {
-            level,
-            scn,
-            pages,
-            guid,
-        } => push_ok(
-            line,
-            &[
-                ("level", Word::Number(*level as u64)),
-                ("scn", Word::Number(*scn as u64)),
-                ("pages", Word::Number(*pages as u64)),
-                ("guid", Word::Guid(guid)),
-            ],
-        ),
-        Reply::Rows { rows } => {
-            push_ok(line, &[("rows", Word::Number(rows.len() as u64))])?;
-            push_rows(line, rows)?;
-            Ok(())
-        }
         Reply::HeaderShown {
             page_size,
             pages,
@@ -280,15 +244,54 @@ fn push_reply(line: &mut Vec<u8>, reply: &Reply) -> Result<(), AllocError>
                 ("sha256", Word::Digest(sha256)),
             ],
         ),
-        Reply::CacheShown { capacity, held } => push_ok(
+        Reply::CacheShown { capacity, held } => {
+            push_two(line, ("cache", *capacity as u64), ("held", *held as u64))
+        }
+        _ => Ok(()),
+    }
+}
+
+/// The words of a reply.
+fn push_reply(line: &mut Vec<u8>, reply: &Reply) -> Result<(), AllocError>
+    ensures { OnOk result (line.new.items ≡ line.old.items ++ spaced (reply_words reply.now)) }
+{
+    match reply {
+        Reply::Done => push_ok(line, &[]),
+        Reply::Pages { pages } => push_one(line, "pages", *pages as u64),
+        Reply::Opened { pages, state } => {
+            push_two(line, ("pages", *pages as u64), ("state", *state as u64))
+        }
+        Reply::PageMade { page } => push_one(line, "page", *page as u64),
+        Reply::Value { text } => push_words(line, &[Word::Is("ok"), Word::Quoted(text.as_slice())]),
+        Reply::Scn { scn } => push_one(line, "scn", *scn as u64),
+        Reply::ScnPages { scn, pages } => {
+            push_two(line, ("scn", *scn as u64), ("pages", *pages as u64))
+        }
+        Reply::Level {
+            level,
+            scn,
+            pages,
+            guid,
+        } => push_ok(
             line,
             &[
-                ("cache", Word::Number(*capacity as u64)),
-                ("held", Word::Number(*held as u64)),
+                ("level", Word::Number(*level as u64)),
+                ("scn", Word::Number(*scn as u64)),
+                ("pages", Word::Number(*pages as u64)),
+                ("guid", Word::Guid(guid)),
             ],
         ),
+        Reply::Rows { rows } => {
+            push_ok(line, &[("rows", Word::Number(rows.len() as u64))])?;
+            push_rows(line, rows)?;
+            Ok(())
+        }
+        Reply::HeaderShown { .. }
+        | Reply::PagesShown { .. }
+        | Reply::ImageShown { .. }
+        | Reply::CacheShown { .. } => push_shown(line, reply),
         Reply::Leaked { pages } => push_leaked(line, pages),
-        Reply::Freed { pages } => push_ok(line, &[("freed", Word::Number(*pages as u64))]),
+        Reply::Freed { pages } => push_one(line, "freed", *pages as u64),
         Reply::Planned {
             kept,
             dropped,

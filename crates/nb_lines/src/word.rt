@@ -3,7 +3,7 @@ ghost use Rattle.std.specs.Prelude.{◌≡◌, ◌++◌, ◌∷◌, [], map, fla
 ghost use Rattle.std.specs.Fmt.{decimal};
 ghost use Rattle.uuid.specs.Text.{hyphenated_text, lower};
 ghost use Rattle.hex.specs.Hex.{encode_lower};
-ghost use Rattle.nb_model.specs.Lines.{is, word_text, spaced};
+ghost use Rattle.nb_model.specs.Lines.{is, number, word_text, spaced};
 ghost use Rattle.nb_lines.specs.Words.{seen, named};
 
 use nb_host::Name;
@@ -94,4 +94,24 @@ pub fn push_ok(line: &mut Vec<u8>, fields: &[(&str, Word<'_>)]) -> Result<(), Al
         push_words(line, &[Word::Is(*name), *value])?;
     }
     Ok(())
+}
+
+/// Appends `ok` and one number by its name.
+pub fn push_one(line: &mut Vec<u8>, name: &str, value: u64) -> Result<(), AllocError>
+    ensures { OnOk result (line.new.items ≡ line.old.items ++ spaced (is (codes "ok") ∷ is name.now ∷ number value ∷ [])) }
+{
+    push_ok(line, &[(name, Word::Number(value))])
+}
+
+/// Appends `ok` and two numbers, each by its name.
+pub fn push_two(line: &mut Vec<u8>, one: (&str, u64), other: (&str, u64)) -> Result<(), AllocError>
+    ensures { OnOk result (line.new.items ≡ line.old.items ++ spaced (is (codes "ok") ∷ is one.entry.0.now ∷ number one.entry.1 ∷ is other.entry.0.now ∷ number other.entry.1 ∷ [])) }
+{
+    push_ok(
+        line,
+        &[
+            (one.0, Word::Number(one.1)),
+            (other.0, Word::Number(other.1)),
+        ],
+    )
 }

@@ -16,14 +16,12 @@ pub use Rattle.nb_model.specs.Forms.{Draft, drafted}
 pub use Rattle.nb_model.specs.Image.{Image, Page, image_size, page_at}
 unfoldable pub use Rattle.nb_model.specs.Pages.{image_turn}
 pub use Rattle.nb_model.specs.Trail.{Trail}
-pub use Rattle.nb_page.proofs.QuietLaws.{quiet_begun, quiet_joined}
-pub use Rattle.nb_page.specs.Quiet.{Quiet}
 pub use Rattle.nb_shown.specs.Counts.{counts_below, inventories_below, is_taken_of, one_if, sum_of, with_page}
 pub use Rattle.nb_shown.specs.Replies.{bytes_of_image, image_shown, pages_shown}
 pub use Rattle.nb_shown.specs.declared.counts.PageCounts.{PageCounts}
 pub use Rattle.nb_state.proofs.LooksLaws.{looks_begun, looks_then}
 pub use Rattle.nb_state.proofs.MakesLaws.{goes_nowhere}
 pub use Rattle.nb_state.specs.Looks.{Looks}
-pub use Rattle.nb_state.specs.Open.{Held, IsOpen, but_pages}
+pub use Rattle.nb_state.specs.Open.{Held, IsOpen}
 pub use Rattle.sha2.specs.Hashers.{Holds256}
 pub use Rattle.std.proofs.Math.Nat.{le-div_iff_mul-le}

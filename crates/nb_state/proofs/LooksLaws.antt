@@ -1,5 +1,5 @@
 -- What calls that only look make together.
-use Rattle.std.proofs.Common.{◌∙◌, Bool, refl}
+use Rattle.std.proofs.Common.{◌≡◌, ◌∙◌, Bool, refl, subst}
 use Rattle.nb_state.proofs.Common.{World, IsTimely, Held, Quiet, Looks, quiet_begun, quiet_joined}
 use Rattle.nb_state.proofs.MakesLaws.{open_quiet}
 
@@ -10,6 +10,10 @@ looks_then first second = record {
   same = second.same ∙ first.same;
   quiet = quiet_joined _ _ _ first.quiet second.quiet;
 }
+
+-- what looks at a database looks at one that is seen as it
+pub looks_named : {tells : Bool} {old new : World} {held named after : Held} → held ≡ named → Looks tells old new held after → Looks tells old new named after
+looks_named {tells} {old} {new} {after} is looks = subst (λ (h : Held). Looks tells old new h after) is looks
 
 -- a call that is quiet and doesn't take the database looks at it
 pub looks_quiet : {tells : Bool} {old new : World} {held : Held} → Quiet old new → Looks tells old new held held

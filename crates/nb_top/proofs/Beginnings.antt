@@ -2,7 +2,7 @@
 use Rattle.std.proofs.Common.{◌≡◌, ◌≢◌, ℕ, List, [], ◌++◌, Bool, sym, ap, subst, ◌∙◌, Result, Ok, Err, None, Some, IfOk, OnOk, if◌then◌else◌}
 use Rattle.nb_top.proofs.Common.{World, Leaves, Untouched, AtEachMoment, IsTimely, Fault, Refused, Refusal, Usage, RunError, Other, GaveNothing, Quiet, Reply, Account, Base, IsMaking, line_text, Given, status_after, Event, Now, base_now, begun, opening, after_steps, steps_in, settled, status_refused, OfFiles, Held, NoPageWaits, name_of, IsAskable, Plan, IsReady, SaysLine, Status, EndsAs, number_of, ScriptByTurns, TurnsFrom, RunsTo, HasSmallScn, PlaysOpened, first_event, opened_reply, pages_first, refused_at, told_first, told_later, Telling, ToRun}
 use Rattle.nb_model.specs.declared.reply.Reply.TheVariants.{Refused as RefusedReply}
-use Rattle.nb_top.specs.declared.status.Status.TheVariants.{Refused as RefusedStatus}
+use Rattle.nb_ended.specs.declared.status.Status.TheVariants.{Refused as RefusedStatus}
 use Rattle.nb_top.proofs.BegunRuns.{Left, start, first_one, begun_fails, begun_runs}
 use Rattle.nb_top.proofs.ByTurnsLaws.{OpensBeside, script_turns}
 use Rattle.nb_top.proofs.FirstLaws.{First}

@@ -160,8 +160,8 @@ pub use Rattle.nb_top.specs.Shown.{BreaksAt, IfShown, IsShownOf}
 pub use Rattle.nb_top.specs.Standing.{HoldsKept, NextMayBegin, StandsFor}
 pub use Rattle.nb_top.specs.Touched.{AsksToMake, MayTouch, OfAsked, OfTarget, ReadMakes, SaysRefusal, TouchesOnly, ends_refused}
 pub use Rattle.nb_top.specs.Worlds.{AreCopies, ArePlain, HaveNames, LeaveNames, NameNone, StartsFrom, account_of, empty, no_files}
-pub use Rattle.nb_top.specs.declared.status.Status.{Status}
-pub use Rattle.nb_top.specs.declared.status.Status.TheVariants.{Done}
+pub use Rattle.nb_ended.specs.declared.status.Status.{Status}
+pub use Rattle.nb_ended.specs.declared.status.Status.TheVariants.{Done}
 pub use Rattle.nb_top.specs.declared.telling.Telling.{Telling}
 pub use Rattle.nb_top.specs.declared.telling.Telling.TheVariants.{All, Quietly, Sparingly, WithSize}
 pub use Rattle.std.proofs.lemmas.Bool.{and_from, and_parts, le-leb, le-ltb, leb-true, lt-ltb, true≢false}

@@ -4,7 +4,7 @@ use Rattle.nb_top.proofs.Common.{append-nil, is_free_file, File, Files, with_fil
 use Rattle.nb_change.proofs.SettledLaws.{durable_is}
 use Rattle.nb_page.proofs.FreeLaws.{is_free_name-false}
 use Rattle.nb_model.specs.declared.reply.Reply.TheVariants.{Refused}
-use Rattle.nb_top.specs.declared.status.Status.TheVariants.{Refused as RefusedStatus}
+use Rattle.nb_ended.specs.declared.status.Status.TheVariants.{Refused as RefusedStatus}
 use Rattle.nb_top.proofs.GeneratedEvents.{IsApart, SomeRun, its_database, its_target, read_run, script_apart, some_run, with_script}
 use Rattle.nb_top.proofs.MadeRuns.{first_or, none_yet}
 use Rattle.nb_top.proofs.QuietRuns.{given_from, left_quietly, runs_quietly}

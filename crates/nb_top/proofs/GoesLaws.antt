@@ -3,7 +3,7 @@ use Rattle.std.proofs.Common.{◌≡◌, List, [], ℕ, sym, subst, Bool, IsTrue
 use Rattle.nb_top.proofs.Common.{Files, World, Leaves, LeavesAll, IsTimely, Fault, Refusal, RunError, GaveNothing, Quiet, Deed, Reply, Account, line_text, Given, status_after, SaysLine, grows_none, grows_joined, Status, Done, AskedByTurns, EndsEarly, Goes, IsDone, number_of, OneTurn, one_turn, GoesTo, KnowsAsked, MayBeGiven, Performs, Request, Asked, Runs, Does, Serves, TurnsTo, reply_told, status_told, quiet_gave}
 use Rattle.nb_host.specs.declared.faults.Fault.TheVariants.{Refused as RefusedFault}
 use Rattle.nb_model.specs.declared.reply.Reply.TheVariants.{Refused as RefusedReply}
-use Rattle.nb_top.specs.declared.status.Status.TheVariants.{Device, Memory}
+use Rattle.nb_ended.specs.declared.status.Status.TheVariants.{Device, Memory}
 use Rattle.nb_top.specs.Goes.{IsRun}
 use Rattle.nb_top.proofs.ByTurnsLaws.{early_err, run_quietly, run_undone}
 use Rattle.nb_top.proofs.JobRuns.{job_refused, performs_device, performs_ended, performs_memory, undone_goes}

@@ -2,7 +2,7 @@
 use Rattle.std.proofs.Common.{◌≡◌, ◌≢◌, inl, ⊎_elim, ℕ, List, [], ◌++◌, length, take, refl, sym, ap, subst, ◌∙◌, arith, Result, Ok, Err, IfOk, IfErr, OnOk}
 use Rattle.nb_top.proofs.Common.{File, Files, World, Leaves, IsNow, IsTimely, AtEachMoment, Refusal, Usage, RunError, left_before, weaker, Quiet, Deed, Account, line_text, Given, status_after, IsNoneOf, Event, files_made, steps_of, status_refused, SaysLine, Status, number_of, HasSmallScn, RunLeft, RunReads, RunStands, RunsTo, GoesTo, KnowsAsked, Performs, PerformsRun, StandsAfter, Finished, IsPerformed, IsSure, IsUndone, Knows, MayBeGiven, kept_after, target_of, first_event, refused_job, HoldsKept, StandsFor, Request, ToRun, ToGenerate, Asked, Runs, Does, script_in, DoesTurn, FitsDeed, TurnEnded, one_turn, TurnsTo}
 use Rattle.nb_model.specs.declared.reply.Reply.TheVariants.{Refused as RefusedReply}
-use Rattle.nb_top.specs.declared.status.Status.TheVariants.{Refused as RefusedStatus, Usage as UsageStatus, Device, Memory}
+use Rattle.nb_ended.specs.declared.status.Status.TheVariants.{Refused as RefusedStatus, Usage as UsageStatus, Device, Memory}
 use Rattle.nb_top.proofs.Deeds.{sound_deed}
 use Rattle.nb_top.proofs.GeneratedRuns.{generated_unbegun}
 use Rattle.nb_top.proofs.GeneratedSure.{generated_after, generated_left, generated_end}

@@ -2,7 +2,7 @@
 use Rattle.std.proofs.Common.{◌≡◌, ◌≢◌, ℕ, zero, suc, ◌+◌, List, [], ◌∷◌, ◌++◌, length, sym, ap, subst, ◌∙◌, Bool, true, false, Some, None, Result, Ok, Err, IfOk, nat_lt, if◌then◌else◌}
 use Rattle.nb_top.proofs.Common.{File, World, Refusal, BadScript, NoFile, ScriptLong, RunError, Quiet, status_after, Plan, Numbered, of_lines, script_of, left, lines_of, with_first, is_next, list_of, names_on, some_names_on, names_in, Status, Goes, number_of, script_in, to_plan, status_refused}
 use Rattle.nb_model.specs.declared.reply.Reply.TheVariants.{Refused as RefusedReply}
-use Rattle.nb_top.specs.declared.status.Status.TheVariants.{Refused}
+use Rattle.nb_ended.specs.declared.status.Status.TheVariants.{Refused}
 use Rattle.nb_top.proofs.GoesLaws.{goes_quietly, goes_turn_quietly}
 use Rattle.nb_top.proofs.ScriptRead.{IsBroken, all_broken}
 use Rattle.nb_top.proofs.ChainRefusals.{IsFine}

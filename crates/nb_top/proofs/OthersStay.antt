@@ -4,7 +4,7 @@ use Rattle.nb_top.proofs.Common.{true≢false, File, Files, with_file, World, Le
 use Rattle.nb_model.specs.declared.reply.Reply.TheVariants.{Refused as RefusedReply}
 use Rattle.nb_model.specs.Outcomes.{Turn}
 use Rattle.nb_model.specs.Run.{IsRun as IsWholeRun}
-use Rattle.nb_top.specs.declared.status.Status.TheVariants.{Refused as RefusedStatus, Usage as UsageStatus, Device, Memory}
+use Rattle.nb_ended.specs.declared.status.Status.TheVariants.{Refused as RefusedStatus, Usage as UsageStatus, Device, Memory}
 use Rattle.nb_top.specs.Goes.{IsRun}
 use Rattle.nb_top.proofs.KnownLaws.{account_told, told_known}
 use Rattle.nb_top.proofs.MadeRuns.{first_or, made_behind, none_made}

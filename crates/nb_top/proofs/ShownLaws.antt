@@ -1,8 +1,8 @@
 -- The line that is shown of a script which breaks its form.
 use Rattle.std.proofs.Common.{◌≡◌, ◌≢◌, ℕ, List, sym, ap, subst, Bool, Option, Some, None, Result, Ok, Err, IsErr}
 use Rattle.nb_top.proofs.Common.{Refusal, BadScript, Usage, RunError, Files, World, Deed, Job, Status, Goes, Request, Asked, Runs, Does, request_of, to_plan, BreaksAt, IfShown, IsShownOf}
-use Rattle.nb_top.specs.declared.broken.Broken.{Broken}
-use Rattle.nb_top.specs.Shown.{Names}
+use Rattle.nb_ended.specs.declared.broken.Broken.{Broken}
+use Rattle.nb_ended.specs.Shown.{Names}
 
 -- it isn't refused for a line
 abbrev pub IsUnbroken : Asked → Type 0

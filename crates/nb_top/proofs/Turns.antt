@@ -3,7 +3,7 @@ use Rattle.std.proofs.Common.{true≢false, ◌≡◌, ◌⊎◌, inl, inr, ⊎_
 use Rattle.nb_top.proofs.Common.{append-nil, File, Files, World, Leaves, LeavesAll, IsTimely, AtEachMoment, Fault, Refusal, RunError, Other, GaveNothing, joined, left_before, weaker, Quiet, Reply, Account, only_refusal, line_text, output, status_after, status_of, Event, replies_of, output_one, status_one, status_refused, FrontSaid, SaysLine, IsSaid, now_left, Status, Done, number_of, OneTurn, OfName, Was, IsAsWas, IsDoneFor, Read, FileLeft, IsOnItsWay, TurnEnded, TurnLeft, leaves_all, IsRefusedWith, IsServed, ServedAs, Serves, TurnsTo, take_self}
 use Rattle.nb_host.specs.declared.faults.Fault.TheVariants.{Refused as RefusedFault}
 use Rattle.nb_model.specs.declared.reply.Reply.TheVariants.{Refused as RefusedReply}
-use Rattle.nb_top.specs.declared.status.Status.TheVariants.{Refused}
+use Rattle.nb_ended.specs.declared.status.Status.TheVariants.{Refused}
 
 -- all are as they were, and so is that one
 as_was : (was : Was) (name : Option (List ℕ)) (files : Files) → ((m : List ℕ) → was m (files m)) → IsAsWas was name files

@@ -1,7 +1,7 @@
 -- Where the files stand for an account as a job of one turn begins, they stand for one at each moment of it, and after it, however it ended.
 use Rattle.std.proofs.Common.{true≢false, ◌≡◌, ◌≢◌, ◌⊎◌, inl, inr, ℕ, List, [], ◌∷◌, true, false, refl, sym, ap, subst, ◌∙◌, Bool, Ok, Option, Some, None}
 use Rattle.nb_top.proofs.Common.{is_free_file, File, Files, with_file, is_delta, World, Leaves, LeavesAll, IsTimely, AtEachMoment, Other, left_with, weaker, decide, with_file-same, with_file-other, Kept, Base, Entry, IsBase, Account, with_entry, account_behind, delta_name, owner, Event, account_after, with_made, Stands, Stroke, ShowsIn, IsWellBaseIn, stands_files, stands_with_well_in, opened_in_use, with_kept, no_main, stands_same, Status, OneTurn, OfName, Was, IsAsWas, Read, IsOnItsWay, behind, TurnEnded, TurnLeft, TurnStands, leaves_all, HoldsKept, StandsFor, some_same}
-use Rattle.nb_top.specs.declared.status.Status.TheVariants.{Device, Memory}
+use Rattle.nb_ended.specs.declared.status.Status.TheVariants.{Device, Memory}
 use Rattle.nb_top.proofs.OpenLaws.{none_shown}
 
 -- What a job that isn't refused leaves of the file of that name, half way and once it is done, and the entry that it has in the account after the

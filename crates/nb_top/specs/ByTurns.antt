@@ -20,8 +20,8 @@ use Rattle.nb_state.specs.Open.{Held}
 use Rattle.nb_script.specs.Scripts.{Plan, script_of}
 use Rattle.nb_session.specs.ByTurns.{GoesByTurns}
 use Rattle.nb_session.specs.Others.{LeavesOthers}
-use Rattle.nb_top.specs.declared.status.Status.{Status}
-use Rattle.nb_top.specs.declared.status.Status.TheVariants.{Device, Memory}
+use Rattle.nb_ended.specs.declared.status.Status.{Status}
+use Rattle.nb_ended.specs.declared.status.Status.TheVariants.{Device, Memory}
 use Rattle.nb_top.specs.declared.telling.Telling.{Telling}
 use Rattle.nb_top.specs.declared.telling.Telling.TheVariants.{Sparingly}
 use Rattle.nb_top.specs.Performed.{PlaysOpened, PlaysTold, pages_first, told_later}

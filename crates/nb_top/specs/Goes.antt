@@ -6,7 +6,7 @@ use Rattle.nb_model.specs.Account.{Account}
 use Rattle.nb_model.specs.Gifts.{Foretells}
 use Rattle.nb_model.specs.Outcomes.{Given}
 use Rattle.nb_session.specs.Acts.{Grows}
-use Rattle.nb_top.specs.declared.status.Status.{Status}
+use Rattle.nb_ended.specs.declared.status.Status.{Status}
 use Rattle.nb_top.specs.ByTurns.{AskedByTurns, EndsEarly}
 use Rattle.nb_top.specs.Performed.{GoesTo, KnowsAsked, MayBeGiven, Performs}
 use Rattle.nb_top.specs.Requests.{Asked}

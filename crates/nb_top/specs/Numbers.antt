@@ -1,8 +1,8 @@
 -- The numbers of statuses.
 use Rattle.std.specs.Prelude.{◌≡◌, ℕ, Bool, Result, Ok, Err, if◌then◌else◌}
 use Rattle.nb_host.specs.declared.faults.RunError.{RunError}
-use Rattle.nb_top.specs.declared.status.Status.{Status}
-use Rattle.nb_top.specs.declared.status.Status.TheVariants.{Done, Refused, Usage, Device, Memory}
+use Rattle.nb_ended.specs.declared.status.Status.{Status}
+use Rattle.nb_ended.specs.declared.status.Status.TheVariants.{Done, Refused, Usage, Device, Memory}
 
 -- the number that a program ends with
 abbrev pub number_of : Status → ℕ

@@ -51,8 +51,8 @@ use Rattle.nb_state.specs.Does.{only_tells}
 use Rattle.nb_session.specs.Replies.{is_refusal, only_told}
 use Rattle.nb_session.specs.Acts.{MadeLeft, AreKept as AreFilesKept}
 use Rattle.nb_session.specs.Stops.{IsSaid, IsFront, AreWhole, Plays}
-use Rattle.nb_top.specs.declared.status.Status.{Status}
-use Rattle.nb_top.specs.declared.status.Status.TheVariants.{Device, Memory}
+use Rattle.nb_ended.specs.declared.status.Status.{Status}
+use Rattle.nb_ended.specs.declared.status.Status.TheVariants.{Device, Memory}
 use Rattle.nb_top.specs.declared.telling.Telling.{Telling}
 use Rattle.nb_top.specs.declared.telling.Telling.TheVariants.{All, Quietly, WithSize, Sparingly}
 use Rattle.nb_top.specs.Numbers.{number_of}

@@ -17,8 +17,8 @@ use Rattle.nb_model.specs.Account.{Account}
 use Rattle.nb_model.specs.Jobs.{only_refusal}
 use Rattle.nb_model.specs.Output.{status_after}
 use Rattle.nb_model.specs.Run.{Event}
-use Rattle.nb_top.specs.declared.status.Status.{Status}
-use Rattle.nb_top.specs.declared.status.Status.TheVariants.{Done as DoneStatus, Refused as RefusedStatus}
+use Rattle.nb_ended.specs.declared.status.Status.{Status}
+use Rattle.nb_ended.specs.declared.status.Status.TheVariants.{Done as DoneStatus, Refused as RefusedStatus}
 use Rattle.nb_top.specs.OneTurn.{OneTurn, OfName, IsDoneFor, IsOnItsWay, Read, TurnEnded, TurnLeft, leaves_all}
 
 -- The turn says this reply to session 1, which is no refusal; where it changes its file, that was done for good.

@@ -1,17 +1,11 @@
 -- The line that is shown of a script which breaks its form.
 use Rattle.std.specs.Prelude.{◌≡◌, ◌≢◌, ℕ, Option, None, Some, Result, Ok, Err}
-use Rattle.nb_host.specs.declared.refusals.Refusal.{Refusal}
 use Rattle.nb_host.specs.declared.refusals.Refusal.TheVariants.{BadScript}
 use Rattle.nb_host.specs.declared.faults.RunError.{RunError}
-use Rattle.nb_top.specs.declared.broken.Broken.{Broken}
-use Rattle.nb_top.specs.declared.status.Status.{Status}
-use Rattle.nb_top.specs.declared.status.Status.TheVariants.{Device, Memory}
+use Rattle.nb_ended.specs.declared.broken.Broken.{Broken}
+use Rattle.nb_ended.specs.declared.status.Status.{Status}
+use Rattle.nb_ended.specs.declared.status.Status.TheVariants.{Device, Memory}
 use Rattle.nb_top.specs.Requests.{Asked, Runs}
-
--- the line is that of the refusal, which is for its form; none, where it is another refusal
-abbrev pub Names : Option Broken → Refusal → Type 0
-Names None refusal = (line : ℕ) → refusal ≢ BadScript line
-Names (Some broken) refusal = refusal ≡ BadScript broken.line
 
 -- what is asked for is refused for this line
 abbrev pub IsRefusedFor : Broken → Asked → Type 0

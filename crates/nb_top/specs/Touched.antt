@@ -13,8 +13,8 @@ use Rattle.nb_base.specs.Open.{OfFiles}
 use Rattle.nb_script.specs.Scripts.{Plan, script_of}
 use Rattle.nb_session.specs.MadeNames.{ScriptMakes}
 use Rattle.nb_session.specs.Others.{IsAdded, OthersLeft}
-use Rattle.nb_top.specs.declared.status.Status.{Status}
-use Rattle.nb_top.specs.declared.status.Status.TheVariants.{Refused as RefusedStatus, Usage as UsageStatus}
+use Rattle.nb_ended.specs.declared.status.Status.{Status}
+use Rattle.nb_ended.specs.declared.status.Status.TheVariants.{Refused as RefusedStatus, Usage as UsageStatus}
 use Rattle.nb_top.specs.Requests.{Request, ToRun, ToGenerate, Asked, Runs, Does}
 use Rattle.nb_top.specs.OneTurn.{OfName, one_turn}
 use Rattle.nb_top.specs.Performed.{Target, target_asked}

@@ -5,9 +5,9 @@ ghost use Rattle.nb_host.specs.Causes.{CountsRun};
 ghost use Rattle.nb_top.specs.Goes.{Goes};
 ghost use Rattle.nb_top.specs.Requests.{Runs, ToGenerate};
 
-use crate::Status;
 use crate::script::{refuse, run_script, settled};
 use crate::telling::Telling;
+use nb_ended::Status;
 use nb_gen::{generate, write_script};
 use nb_host::{Host, Name, Refusal, RunError};
 use nb_page::is_free;

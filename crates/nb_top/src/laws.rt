@@ -17,7 +17,7 @@ ghost use Rattle.nb_model.specs.Stands.{Stands};
 ghost use Rattle.nb_model.specs.declared.job.Ask.{Ask};
 ghost use Rattle.nb_model.specs.declared.job.Deed.{Deed};
 ghost use Rattle.nb_model.specs.declared.job.Job.TheVariants.{Attach, Turn};
-ghost use Rattle.nb_top.specs.declared.status.Status.{Status};
+ghost use Rattle.nb_ended.specs.declared.status.Status.{Status};
 ghost use Rattle.nb_top.specs.Goes.{IsRun};
 ghost use Rattle.nb_top.specs.OneTurn.{DoesTurn, leaves_all, one_turn};
 ghost use Rattle.nb_top.specs.Performed.{IsPerformed, IsSure, KnowsAsked, PerformsRun};

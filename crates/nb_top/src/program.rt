@@ -16,8 +16,6 @@ ghost use Rattle.nb_top.specs.Goes.{Goes, IsRun};
 ghost use Rattle.nb_top.specs.Requests.{Asked, FitsJob, IsAskedBy, IsReadJob, NamesNone, Runs, attached, plan_of, request_asked, request_of, script_in, to_plan, to_run};
 ghost use Rattle.nb_top.specs.Shown.{IsShown, IsShownOf};
 
-use crate::Status;
-use crate::broken::{Broken, broken_by};
 use crate::generating::run_generated;
 use crate::reading::read_file;
 use crate::request::{script_asking, telling_of};
@@ -25,6 +23,7 @@ use crate::script::{refuse, run_script, settled};
 use crate::telling::Telling;
 use crate::turn::run_turn;
 use nb_catalog::read_list;
+use nb_ended::{Broken, Status, broken_by};
 use nb_host::{Fault, Host, Name, Refusal, RunError};
 use nb_model::{Ask, Deed, Job};
 use nb_script::parse;

@@ -28,8 +28,8 @@ ghost use Rattle.nb_top.specs.Numbers.{EndsAs, number_of};
 ghost use Rattle.nb_top.specs.Goes.{Goes};
 ghost use Rattle.nb_top.specs.Requests.{Runs, ToRun};
 
-use crate::Status;
 use crate::telling::Telling;
+use nb_ended::Status;
 use nb_engine::Engine;
 use nb_host::{Fault, Host, Refusal, RunError};
 use nb_model::{Reply, Statement};

@@ -12,9 +12,9 @@ ghost use Rattle.nb_top.specs.Goes.{Goes};
 ghost use Rattle.nb_top.specs.Requests.{Does};
 ghost use Rattle.nb_top.specs.Served.{Serves, reply_told, status_told};
 
-use crate::Status;
 use crate::script::{refuse, settled};
 use nb_catalog::{named, plan_files};
+use nb_ended::Status;
 use nb_fixup::fix_up;
 use nb_fold::fold;
 use nb_host::{Fault, Host, Name, Refusal, RunError};

@@ -5,43 +5,31 @@ pub returns-in-Done : goal.returns-in-Done
 returns-in-Done c = rw c.in-Done.is c.push_ok.ensures
 
 pub returns-in-Pages : goal.returns-in-Pages
-returns-in-Pages c = rw c.in-Pages.is c.push_ok-in-Pages.ensures
+returns-in-Pages c = rw c.in-Pages.is c.push_one.ensures
 
 pub returns-in-Opened : goal.returns-in-Opened
-returns-in-Opened c = rw c.in-Opened.is c.push_ok-in-Opened.ensures
+returns-in-Opened c = rw c.in-Opened.is c.push_two.ensures
 
 pub returns-in-PageMade : goal.returns-in-PageMade
-returns-in-PageMade c = rw c.in-PageMade.is c.push_ok-in-PageMade.ensures
+returns-in-PageMade c = rw c.in-PageMade.is c.push_one-in-PageMade.ensures
 
 pub returns-in-Value : goal.returns-in-Value
 returns-in-Value c = rw (c.in-Value.is, ← c.as_slice.ensures) c.push_words.ensures
 
 pub returns-in-Scn : goal.returns-in-Scn
-returns-in-Scn c = rw c.in-Scn.is c.push_ok-in-Scn.ensures
+returns-in-Scn c = rw c.in-Scn.is c.push_one-in-Scn.ensures
 
 pub returns-in-ScnPages : goal.returns-in-ScnPages
-returns-in-ScnPages c = rw c.in-ScnPages.is c.push_ok-in-ScnPages.ensures
+returns-in-ScnPages c = rw c.in-ScnPages.is c.push_two-in-ScnPages.ensures
 
 pub returns-in-Level : goal.returns-in-Level
 returns-in-Level c = rw c.in-Level.is c.push_ok-in-Level.ensures
-
-pub returns-in-HeaderShown : goal.returns-in-HeaderShown
-returns-in-HeaderShown c = rw c.in-HeaderShown.is c.push_ok-in-HeaderShown.ensures
-
-pub returns-in-PagesShown : goal.returns-in-PagesShown
-returns-in-PagesShown c = rw c.in-PagesShown.is c.push_ok-in-PagesShown.ensures
-
-pub returns-in-ImageShown : goal.returns-in-ImageShown
-returns-in-ImageShown c = rw c.in-ImageShown.is c.push_ok-in-ImageShown.ensures
-
-pub returns-in-CacheShown : goal.returns-in-CacheShown
-returns-in-CacheShown c = rw c.in-CacheShown.is c.push_ok-in-CacheShown.ensures
 
 pub returns-in-Leaked : goal.returns-in-Leaked
 returns-in-Leaked c = rw c.in-Leaked.is c.push_leaked.ensures
 
 pub returns-in-Freed : goal.returns-in-Freed
-returns-in-Freed c = rw c.in-Freed.is c.push_ok-in-Freed.ensures
+returns-in-Freed c = rw c.in-Freed.is c.push_one-in-Freed.ensures
 
 pub returns-in-Planned : goal.returns-in-Planned
 returns-in-Planned c = rw c.in-Planned.is c.push_plan.ensures

@@ -1,4 +1,4 @@
-use Rattle.std.proofs.Common.{◌≡◌, [], ◌∷◌, length, sym, ap, subst, ◌∙◌, None, OnOk}
+use Rattle.std.proofs.Common.{◌≡◌, [], ◌∷◌, length, sym, subst, None, OnOk}
 use Rattle.nb_base.proofs.Common.{World, delta_name, finish, Held, IsOpen, AreMerged, StrikesFirm}
 use Rattle.nb_base.proofs.AgreeLaws.{open_seen}
 use Rattle.nb_base.proofs.FilledLaws.{open_still, merged_still, quiet_struck}
@@ -29,9 +29,6 @@ returns-clause-takes g c t tells is equal =
       left = quiet_struck old mid new c.args.self.now t (finish ∷ []) quiet is (subst (λ (h : Held). StrikesFirm mid new h.name t (finish ∷ [])) c.count_filled.ensures.same takes.left);
       done = takes.done;
     }
-
-pub finish_with-requires-clause-merge : goal.finish_with-requires-clause-merge
-finish_with-requires-clause-merge g c = ap (λ (h : Held). h.state) c.count_filled.ensures.same ∙ c.requires.merge
 
 pub returns-clause-gone : goal.returns-clause-gone
 returns-clause-gone g c tells = subst (λ (h : Held). OnOk c.finish_with.result ((g.H.Host.world c.finish_with.new.host).files (delta_name h.name) ≡ None)) c.count_filled.ensures.same (c.finish_with.ensures.gone tells)

@@ -1,5 +1,5 @@
-use Rattle.std.proofs.Common.{◌≡◌, ℕ, List, [], ◌∷◌, length, refl, sym, ap, subst, ◌∙◌, arith, None, OnOk}
-use Rattle.nb_base.proofs.Common.{Files, World, Changes, Only, Remade, Known, File, delta_name, finish, Held, IsOpen, AreMerged, StrikesFirm, on_ok}
+use Rattle.std.proofs.Common.{◌≡◌, ℕ, List, [], ◌∷◌, length, refl, sym, ap, subst, ◌∙◌, arith, None}
+use Rattle.nb_base.proofs.Common.{Files, World, Changes, Only, Remade, Known, File, finish, Held, IsOpen, AreMerged, StrikesFirm, on_ok}
 use Rattle.nb_base.proofs.StrokeLaws.{h0, waits, durable_main}
 use Rattle.nb_base.proofs.EndLaws.{size, finish_room, finish_struck, removed_struck, finish_open}
 use Rattle.nb_base.proofs.WriteLaws.{not_done}
@@ -41,6 +41,3 @@ returns-clause-takes g c t tells given equal filled =
       done = on_ok c.clear.result (finish_open old _ t is reads merges merged _ _ synced sync.files.still block _ done (λ (file : File). file ≡ None) removed _ refl (ap (λ (d : Known). d.page_size) c.clear.ensures.known) refl refl filled
           (ap (λ (d : Known). d.entries) c.clear.ensures.known) (ap (λ (d : Known). d.drafted) c.clear.ensures.known));
     }
-
-pub returns-clause-gone : goal.returns-clause-gone
-returns-clause-gone g c tells = subst (λ (n : List ℕ). OnOk c.clear.result ((g.H.Host.world c.clear.new.host).files n ≡ None)) (c.self.invariant.5 ∙ ap (λ (h : Held). delta_name h.name) c.self.view_is) (c.clear.ensures.gone tells)

@@ -1,11 +1,7 @@
-use Rattle.std.proofs.Common.{◌≡◌, ℕ, List, [], ◌∷◌, ◌++◌, sym, ap, subst, ◌∙◌, arith, Bool, true, false}
-use Rattle.nb_engine.proofs.Common.{append-nil, inventory_kind, lowest_broken, inventory_of, inventory_place_some, Held, IsOpen, entry_broken, give_broken, page_in, lacking_cause, other_none, other_page, inventory_place_is, looks_then, World, Looks}
+use Rattle.std.proofs.Common.{◌≡◌, ℕ, List, [], ◌∷◌, ◌++◌, sym, ap, subst, ◌∙◌, arith, true, false}
+use Rattle.nb_engine.proofs.Common.{append-nil, inventory_kind, lowest_broken, inventory_of, inventory_place_some, Held, IsOpen, entry_broken, give_broken, page_in, lacking_cause, other_none, other_page, inventory_place_is, looks_named, looks_then}
 use Rattle.nb_alloc.proofs.PassLaws.{map_found}
 use Rattle.nb_engine.proofs.engine.Engine.free_ready.Goals as goal
-
--- What looks at the store looks at the engine, which is seen as it.
-looks_named : {tells : Bool} {old new : World} {held named after : Held} → held ≡ named → Looks tells old new held after → Looks tells old new named after
-looks_named {tells} {old} {new} {after} is looks = subst (λ (h : Held). Looks tells old new h after) is looks
 
 pub find_lacking-requires-clause-low : goal.find_lacking-requires-clause-low
 find_lacking-requires-clause-low g c =

@@ -2,7 +2,7 @@
 ghost use Rattle.std.specs.Prelude.{◌≡◌, Some, None, IfSome, cond};
 ghost use Rattle.nb_model.specs.Jobs.{writes};
 ghost use Rattle.nb_model.specs.Words.{deed_database};
-ghost use Rattle.nb_cli.specs.Changed.{changed_by_words, database_in};
+ghost use Rattle.nb_beside.specs.Changed.{changed_by_words, database_in};
 
 use crate::look::look_at;
 use nb_host::Name;

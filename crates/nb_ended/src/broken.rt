@@ -1,6 +1,6 @@
 // The line of a script, or of a list of names, that breaks its form, for a reader.
 ghost use Rattle.std.specs.Prelude.{IfOk};
-ghost use Rattle.nb_top.specs.Shown.{Names};
+ghost use Rattle.nb_ended.specs.Shown.{Names};
 
 use nb_host::Refusal;
 use std::alloc::{AllocError, Global};
@@ -46,7 +46,7 @@ fn text_of(alloc: Global, bytes: &[u8], line: u32, wanted: &str) -> Result<Strin
 }
 
 /// The line that the refusal of these bytes names, where they are refused for their form. Where they end before it the text says what is `wanted`.
-pub(crate) fn broken_by(
+pub fn broken_by(
     alloc: Global,
     bytes: &[u8],
     refusal: &Refusal,
