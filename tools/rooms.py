@@ -10,6 +10,7 @@ import hashlib
 import os
 import shutil
 import subprocess
+import sys
 import tempfile
 
 ROOT = os.path.dirname(os.path.dirname(os.path.abspath(__file__)))
@@ -135,7 +136,8 @@ class Room:
     def rt(self, *words, at=""):
         """Runs `rt`, in the folder of a crate if it is named. Answers its status and what it said."""
         how = {"stdin": subprocess.DEVNULL, "stdout": subprocess.PIPE, "stderr": subprocess.STDOUT}
-        ran = subprocess.run(["rt", *words], cwd=self.folder(at) if at else self.top, text=True, errors="replace", check=False, **how)
+        command = [sys.executable, f"{ROOT}/tools/rt.py", *words]
+        ran = subprocess.run(command, cwd=self.folder(at) if at else self.top, text=True, errors="replace", check=False, **how)
         return ran.returncode, ran.stdout
 
     def hand_back(self, name):

@@ -54,7 +54,7 @@ pub use Rattle.nb_model.proofs.TurnCases.{is_so, no_cause, one_cause}
 pub use Rattle.nb_model.proofs.WholeLaws.{when_false}
 pub use Rattle.nb_model.specs.Account.{Base}
 unfoldable pub use Rattle.nb_model.specs.Causes.{first_cause, lowest_broken, not_raw}
-pub use Rattle.nb_model.specs.Causes.{Cause, lowest_of, no_room, no_text, not_kind, not_of_form, past_end, read_only, too_long, too_short, when}
+pub use Rattle.nb_model.specs.Causes.{Cause, Tested, lowest_of, no_room, no_text, not_kind, not_of_form, past_end, read_only, too_long, too_short, when}
 unfoldable pub use Rattle.nb_model.specs.Chains.{grown, put_slot}
 pub use Rattle.nb_model.specs.Chains.{Chain, Slot, last_of, owner_in, owner_of}
 unfoldable pub use Rattle.nb_model.specs.Forms.{entry_page, entry_raised, entry_written, first_not, free_from, has_entry, is_free_page, is_kept, is_kind, lowest_free, maps_from, needed_at, needs, new_within, old_page, other_kind, put, raised, scn_entry, set_bit, system_page, system_payload, with_bit, written, wrote}
@@ -79,7 +79,7 @@ pub use Rattle.nb_pip.specs.Bits.{AreUsed}
 pub use Rattle.nb_state.proofs.LooksLaws.{looks_begun, looks_then}
 pub use Rattle.nb_state.proofs.MakesLaws.{after_base, goes_nowhere, goes_on, makes_after, makes_before, makes_front, makes_none, makes_not, makes_then, none_refused, none_yet, where_ended}
 pub use Rattle.nb_state.proofs.TurnLaws.{unless_none}
-pub use Rattle.nb_state.specs.Does.{Answers, Does, Goes, Makes, Tested, WhereEnded, has_only_told, only_tells, unless_by}
+pub use Rattle.nb_state.specs.Does.{Answers, Does, Goes, Makes, WhereEnded, has_only_told, only_tells, unless_by}
 pub use Rattle.nb_state.specs.Looks.{Looks}
 pub use Rattle.nb_state.specs.Open.{Held, IsOpen, but_pages, name_of}
 pub use Rattle.std.proofs.Math.Nat.{div-mul-le_self, div-zero, lt-div-mul-add, mod-eq_of_lt, mul-add-mod_self_right, mul-div_cancel}

@@ -7,8 +7,8 @@ use Rattle.nb_host.specs.declared.faults.Fault.TheVariants.{Refused, Device, Mem
 use Rattle.nb_host.specs.declared.refusals.Refusal.TheVariants.{Full}
 use Rattle.nb_model.specs.Image.{Image, image_size}
 use Rattle.nb_model.specs.Forms.{Draft, is_kind, other_kind, has_entry, inventory_of, scn_page_of}
-use Rattle.nb_model.specs.Causes.{Cause, first_cause, when, lowest_broken}
-use Rattle.nb_state.specs.Does.{Tested, WhereEnded}
+use Rattle.nb_model.specs.Causes.{Cause, Tested, first_cause, when, lowest_broken}
+use Rattle.nb_state.specs.Does.{WhereEnded}
 use Rattle.nb_alloc.specs.declared.behind.Behind.{Behind}
 
 -- why new pages aren't made: these pages aren't of their kind, or no page is left

@@ -9,8 +9,7 @@ use Rattle.nb_host.specs.declared.refusals.Refusal.TheVariants.{NotAllocated}
 use Rattle.nb_model.specs.Image.{Page, Image, page_at, image_scn}
 use Rattle.nb_model.specs.Strokes.{Stroke, page}
 use Rattle.nb_model.specs.Forms.{inventory_of, is_free_page, scn_page_of, entry_number, scn_entry, has_entry}
-use Rattle.nb_model.specs.Causes.{Cause, first_cause, when, not_kind}
-use Rattle.nb_state.specs.Does.{Tested}
+use Rattle.nb_model.specs.Causes.{Cause, Tested, first_cause, when, not_kind}
 
 -- page p, which is below the length, isn't taken, or nothing says so
 abbrev pub not_taken : Image → ℕ → Cause

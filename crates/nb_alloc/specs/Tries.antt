@@ -4,12 +4,12 @@ use Rattle.nb_host.specs.World.{World}
 use Rattle.nb_host.specs.declared.faults.Fault.{Fault}
 use Rattle.nb_host.specs.declared.refusals.Refusal.{Refusal}
 use Rattle.nb_page.specs.Quiet.{Quiet}
-use Rattle.nb_model.specs.Causes.{Cause}
+use Rattle.nb_model.specs.Causes.{Cause, Tested}
 use Rattle.nb_model.specs.Strokes.{Stroke}
 use Rattle.nb_model.specs.Trail.{Trail}
 use Rattle.nb_base.specs.Takes.{Strikes, after_strokes}
 use Rattle.nb_state.specs.Open.{Held, IsOpen, name_of}
-use Rattle.nb_state.specs.Does.{Tested, unless_by, Makes}
+use Rattle.nb_state.specs.Does.{unless_by, Makes}
 
 -- The call is refused where there is this cause, and changes nothing then, whatever is answered. Otherwise it makes these strokes.
 pub record Tries {T : Type 0} (result : Result T Fault) (old new : World) (before after : Held) (t : Trail) (cause : Cause) (strokes : List Stroke) : Type 0 where

@@ -6,12 +6,11 @@ ghost use Rattle.nb_fields.specs.Kinds.{data_kind};
 ghost use Rattle.nb_host.specs.declared.faults.Fault.TheVariants.{Memory};
 ghost use Rattle.nb_host.specs.Causes.{CountsDevice, CountsFault};
 ghost use Rattle.nb_host.specs.declared.refusals.Refusal.TheVariants.{NotDatabase};
-ghost use Rattle.nb_model.specs.Causes.{lowest_broken};
+ghost use Rattle.nb_model.specs.Causes.{Tested, lowest_broken};
 ghost use Rattle.nb_model.specs.Forms.{is_kind, scn_page_of};
 ghost use Rattle.nb_model.specs.Trail.{Trail};
 ghost use Rattle.nb_state.specs.Open.{IsOpen};
 ghost use Rattle.nb_state.specs.Looks.{Looks};
-ghost use Rattle.nb_state.specs.Does.{Tested};
 ghost use Rattle.nb_alloc.specs.Behind.{judged, entry_broken, page_in, page_if, IsKnown, EndsAlike, entry_left, gone};
 
 use crate::pages::{InventoryPage, ScnPage};

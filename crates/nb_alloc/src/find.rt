@@ -5,13 +5,12 @@ ghost use Rattle.nb_fields.specs.Kinds.{inventory_kind};
 ghost use Rattle.nb_host.specs.declared.faults.Fault.TheVariants.{Memory};
 ghost use Rattle.nb_host.specs.Causes.{CountsDevice};
 ghost use Rattle.nb_model.specs.Image.{Page, Image, image_size};
-ghost use Rattle.nb_model.specs.Causes.{not_kind};
+ghost use Rattle.nb_model.specs.Causes.{Tested, not_kind};
 ghost use Rattle.nb_model.specs.Way.{maps_up_to};
 ghost use Rattle.nb_model.specs.Forms.{inventory_of, free_from, first_not};
 ghost use Rattle.nb_model.specs.Trail.{Trail};
 ghost use Rattle.nb_state.specs.Open.{IsOpen};
 ghost use Rattle.nb_state.specs.Looks.{Looks};
-ghost use Rattle.nb_state.specs.Does.{Tested};
 ghost use Rattle.nb_alloc.specs.Put.{Reads};
 ghost use Rattle.nb_alloc.specs.Find.{AreTaken, IsFreeNear, IsMap, EndsAt, RefusedFor, need_cause, AreMaps};
 

@@ -4,12 +4,11 @@ ghost use Rattle.nb_fields.specs.Kinds.{code_of, inventory_kind};
 ghost use Rattle.nb_fields.specs.Places.{is_page_size, most_pages};
 ghost use Rattle.nb_host.specs.declared.faults.Fault.TheVariants.{Memory};
 ghost use Rattle.nb_host.specs.Causes.{CountsDevice};
-ghost use Rattle.nb_model.specs.Causes.{not_kind, not_raw};
+ghost use Rattle.nb_model.specs.Causes.{Tested, not_kind, not_raw};
 ghost use Rattle.nb_model.specs.Forms.{inventory_of, is_free_page};
 ghost use Rattle.nb_model.specs.Trail.{Trail};
 ghost use Rattle.nb_state.specs.Open.{IsOpen};
 ghost use Rattle.nb_state.specs.Looks.{Looks};
-ghost use Rattle.nb_state.specs.Does.{Tested};
 ghost use Rattle.nb_alloc.specs.Data.{not_data};
 ghost use Rattle.nb_alloc.specs.Put.{Reads, not_taken};
 

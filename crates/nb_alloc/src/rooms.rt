@@ -10,7 +10,7 @@ ghost use Rattle.nb_model.specs.Trail.{Trail};
 ghost use Rattle.nb_model.proofs.SearchLaws.{draft_cause};
 ghost use Rattle.nb_state.specs.Open.{IsOpen};
 ghost use Rattle.nb_state.specs.Looks.{Looks};
-ghost use Rattle.nb_state.specs.Does.{Tested};
+ghost use Rattle.nb_model.specs.Causes.{Tested};
 ghost use Rattle.nb_alloc.specs.Behind.{IsKnown, Judges, behind_cause};
 ghost use Rattle.nb_alloc.specs.Data.{second_data};
 ghost use Rattle.nb_alloc.specs.Find.{HoldsMap};

@@ -1,5 +1,5 @@
 -- The definitions that the proofs of this crate speak in, and the laws of other crates that they cite, passed on from one place. Declares nothing.
-pub use Rattle.nb_base.specs.Attach.{AttachesFor, IsBlank, IsStart, Tested, length_cause, main_cause, start_cause}
+pub use Rattle.nb_base.specs.Attach.{AttachesFor, IsBlank, IsStart, length_cause, main_cause, start_cause}
 pub use Rattle.nb_base.specs.Beginnings.{Attaches, CreateLeft, CreateReads, Creates, CreatesFile, IsAttached, IsSettled, first_of}
 pub use Rattle.nb_base.specs.Control.{ControlLeft, HasImage, HasRoom, IsImageOf, in_state, next_guid, next_scn}
 pub use Rattle.nb_base.specs.Firm.{StandsFirm, StandsFirmOn, is_kept_place, must_sync}
@@ -9,7 +9,7 @@ pub use Rattle.nb_base.specs.Put.{MayPut, PutLeft}
 pub use Rattle.nb_base.specs.Reads.{table_reads, zero_pages}
 pub use Rattle.nb_base.specs.Seen.{IsSeen, IsWrite, noted_in}
 pub use Rattle.nb_base.specs.Takes.{Strikes, StrikesFirm, TakesFirm}
-pub use Rattle.nb_base.specs.Touches.{Touches, WritesIn}
+pub use Rattle.nb_base.specs.Touches.{WritesIn}
 pub use Rattle.nb_base.specs.contracts.files.TwoFiles.{the_view}
 pub use Rattle.nb_base.specs.declared.attach.Start.{Start}
 pub use Rattle.nb_cases.proofs.StateLaws.{diverted_stalled, opened_not_applying, plain_not_stalled, unfinished_applying}
@@ -22,7 +22,7 @@ pub use Rattle.nb_change.proofs.NameLaws.{whole-other, with_file-other, with_fil
 pub use Rattle.nb_change.proofs.ReachedLaws.{reached_weaker, strokes_composed}
 pub use Rattle.nb_change.proofs.ResultLaws.{whole_on_ok}
 pub use Rattle.nb_change.proofs.SettledLaws.{durable_is, durable_still}
-pub use Rattle.nb_change.specs.Changes.{Changes, Moved, Names, Only, Reached, Remade}
+pub use Rattle.nb_change.specs.Changes.{Changes, Moved, Names, Only, Reached, Remade, Touches}
 pub use Rattle.nb_change.specs.Gave.{GaveNothing}
 pub use Rattle.nb_delta.proofs.PageLaws.{length-page_in, put_here}
 pub use Rattle.nb_delta.proofs.TellLaws.{apart_at, table_read}
@@ -74,7 +74,7 @@ pub use Rattle.nb_model.proofs.WayLaws.{put_first, put_long, put_other, put_same
 pub use Rattle.nb_model.specs.Account.{Ask, Base, base_of}
 pub use Rattle.nb_model.specs.Behind.{IsBehind, IsEntering, IsOnTheWay, IsRewritten}
 unfoldable pub use Rattle.nb_model.specs.Causes.{first_cause, not_database}
-pub use Rattle.nb_model.specs.Causes.{Cause, when}
+pub use Rattle.nb_model.specs.Causes.{Cause, Tested, when}
 unfoldable pub use Rattle.nb_model.specs.Image.{image_in, trimmed, with_page, written_at}
 pub use Rattle.nb_model.specs.Image.{Image, Page, first_page, image_guid, image_scn, image_size, image_state, is_forced, page_at}
 pub use Rattle.nb_model.specs.Levels.{joined}

@@ -12,13 +12,6 @@ use Rattle.nb_delta.specs.Attaching.{Attaches as AttachesDelta}
 use Rattle.nb_model.specs.Causes.{Cause, first_cause, when, not_database}
 use Rattle.nb_base.specs.declared.attach.Start.{Start}
 
--- the refusal is the one that there is a cause for, and there is none at Ok
-abbrev pub Tested : {T : Type 0} → Result T Fault → Cause → Type 0
-Tested (Ok value) cause = cause ≡ None
-Tested (Err (Refused refusal)) cause = cause ≡ Some refusal
-Tested (Err Device) cause = Unit {0}
-Tested (Err Memory) cause = Unit {0}
-
 -- a file of so many bytes after a header isn't 5 to 1,048,576 whole pages
 abbrev pub length_cause : (len size : ℕ) → Cause
 length_cause len size = first_cause (

@@ -1,14 +1,9 @@
 -- Which of its two files a call may touch, by the backup state.
 use Rattle.std.specs.Prelude.{ℕ, zero, suc, List}
 use Rattle.nb_host.specs.World.{World}
-use Rattle.nb_change.specs.Changes.{Names, Only, Changes}
+use Rattle.nb_change.specs.Changes.{Names, Only, Touches}
 use Rattle.nb_model.specs.Owner.{delta_name}
 use Rattle.nb_base.specs.Open.{OfFiles}
-
--- Files of these names alone are touched: of every other one a crash leaves what it would have left before, at each moment, and it reads
--- as before, byte for byte.
-abbrev pub Touches : (old new : World) → Names → Type 0
-Touches old new names = Changes old new names (λ files. Unit {0})
 
 -- the files that pages are written to in that state: the main file in the normal one, the difference file in the stalled one, where the
 -- main file is frozen, and both in the merge

@@ -7,10 +7,10 @@ ghost use Rattle.nb_host.specs.Causes.{CountsDevice, CountsFault};
 ghost use Rattle.nb_host.specs.Crash.{IsDurable};
 ghost use Rattle.nb_delta.specs.Attaching.{IsFor};
 ghost use Rattle.nb_page.specs.Quiet.{Quiet};
-ghost use Rattle.nb_model.specs.Causes.{not_database};
+ghost use Rattle.nb_model.specs.Causes.{Tested, not_database};
 ghost use Rattle.nb_model.specs.Image.{image_in};
 ghost use Rattle.nb_model.specs.Owner.{behind_entries};
-ghost use Rattle.nb_base.specs.Attach.{Tested, length_cause, start_cause, main_cause, IsStart, AttachesFor};
+ghost use Rattle.nb_base.specs.Attach.{length_cause, start_cause, main_cause, IsStart, AttachesFor};
 ghost use Rattle.nb_base.specs.Reads.{table_reads};
 
 use nb_cases::{Case, Event, case_of};

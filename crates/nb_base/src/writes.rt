@@ -6,7 +6,7 @@ ghost use Rattle.nb_fields.specs.States.{normal_state, stalled_state, merge_stat
 ghost use Rattle.nb_host.specs.Calls.{IsSilent};
 ghost use Rattle.nb_host.specs.Files.{with_file, with_page};
 ghost use Rattle.nb_host.specs.Causes.{CountsFault, CountsRun};
-ghost use Rattle.nb_change.specs.Changes.{Only};
+ghost use Rattle.nb_change.specs.Changes.{Only, Touches};
 ghost use Rattle.nb_delta.specs.Entries.{place_of};
 ghost use Rattle.nb_delta.specs.Slots.{HasTable, SlotPut};
 ghost use Rattle.nb_model.specs.Image.{image_state};
@@ -17,7 +17,7 @@ ghost use Rattle.nb_base.specs.Firm.{is_kept_place, must_sync};
 ghost use Rattle.nb_base.specs.Open.{Held, OfFiles, AreMerged};
 ghost use Rattle.nb_base.specs.Seen.{IsSeen, IsWrite};
 ghost use Rattle.nb_base.specs.Takes.{TakesFirm};
-ghost use Rattle.nb_base.specs.Touches.{Touches, WritesIn};
+ghost use Rattle.nb_base.specs.Touches.{WritesIn};
 
 use nb_cases::syncs_of;
 use nb_delta::Delta;

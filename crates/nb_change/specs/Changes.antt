@@ -35,6 +35,11 @@ pub record Changes (old new : World) (names : Names) (P : Files → Type 0) : Ty
   pub others_read : (m : List ℕ) → Other names m → new.files m ≡ old.files m
   pub said : new.said ≡ old.said
 
+-- Files of these names alone are touched: of every other one a crash leaves what it would have left before, at each moment, and it reads
+-- as before, byte for byte.
+abbrev pub Touches : (old new : World) → Names → Type 0
+Touches old new names = Changes old new names (λ files. Unit {0})
+
 -- what stands after strokes, in order
 abbrev pub after_all : {B S : Type 0} → (S → B → B) → B → List S → B
 after_all apply base [] = base

@@ -38,7 +38,7 @@ pub use Rattle.nb_model.proofs.SoundLaws.{all_at, all_from, inventory_place_some
 pub use Rattle.nb_model.proofs.TableDrafts.{bit_inventory, bit_longer, bit_plain, bit_size}
 pub use Rattle.nb_model.specs.Account.{Base, base_of}
 unfoldable pub use Rattle.nb_model.specs.Causes.{first_cause}
-pub use Rattle.nb_model.specs.Causes.{Cause, broken_at, read_only, when}
+pub use Rattle.nb_model.specs.Causes.{Cause, Tested, broken_at, read_only, when}
 unfoldable pub use Rattle.nb_model.specs.Chains.{first_such, found_pages, is_in_chain, is_slot, pages_of, slots_from, slots_in, spots, spots_of, spots_on, table_spot, walk}
 pub use Rattle.nb_model.specs.Chains.{Catalogue, Chain, History, RowsFrom, Slot, Spot, first_in, first_of, is_used, linked, next_in, owner_in, owner_of, table_of}
 unfoldable pub use Rattle.nb_model.specs.Checks.{check_turn, reclaim_turn}
@@ -72,7 +72,7 @@ pub use Rattle.nb_pip.proofs.BitLaws.{SetsBit, SetsBit-clear, SetsBit-or, get_or
 unfoldable pub use Rattle.nb_scn.specs.Entries.{entries}
 pub use Rattle.nb_state.proofs.LooksLaws.{looks_begun, looks_then}
 pub use Rattle.nb_state.proofs.MakesLaws.{goes_nowhere, goes_on, makes_front, makes_none, makes_then}
-pub use Rattle.nb_state.specs.Does.{Does, Goes, Makes, Tested, unless_by}
+pub use Rattle.nb_state.specs.Does.{Does, Goes, Makes, unless_by}
 pub use Rattle.nb_state.specs.Looks.{Looks}
 pub use Rattle.nb_state.specs.Open.{Held, IsOpen}
 pub use Rattle.nb_walk.proofs.SlotLaws.{slot_inside, slots_step}

@@ -2,13 +2,12 @@
 ghost use Rattle.std.specs.Prelude.{◌≡◌, ◌≢◌, ◌+◌, ◌≤◌, IsTrue, IfErr, None, OnOk, length};
 ghost use Rattle.nb_host.specs.declared.faults.Fault.TheVariants.{Memory};
 ghost use Rattle.nb_host.specs.Causes.{CountsDevice};
-ghost use Rattle.nb_model.specs.Causes.{broken_at};
+ghost use Rattle.nb_model.specs.Causes.{Tested, broken_at};
 ghost use Rattle.nb_model.specs.Chains.{Catalogue, spots, pages_of, found_pages};
 ghost use Rattle.nb_model.specs.Rows.{chains, pages_of_all, table_chains, used};
 ghost use Rattle.nb_model.specs.Trail.{Trail};
 ghost use Rattle.nb_state.specs.Open.{IsOpen};
 ghost use Rattle.nb_state.specs.Looks.{Looks};
-ghost use Rattle.nb_state.specs.Does.{Tested};
 ghost use Rattle.nb_model.specs.Leaks.{reached};
 ghost use Rattle.nb_check.specs.Sets.{IsWithout};
 ghost use Rattle.nb_model.specs.Checks.{chains_cause};

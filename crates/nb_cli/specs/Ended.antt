@@ -13,11 +13,11 @@ use Rattle.nb_host.specs.declared.faults.Fault.TheVariants.{Refused, Memory}
 use Rattle.nb_host.specs.declared.refusals.Refusal.TheVariants.{Usage}
 use Rattle.nb_model.specs.declared.job.Job.{Job}
 use Rattle.nb_model.specs.Words.{job_of}
+use Rattle.nb_ended.specs.Numbers.{number_of}
 use Rattle.nb_ended.specs.declared.status.Status.{Status}
 use Rattle.nb_ended.specs.declared.status.Status.TheVariants.{Device}
 use Rattle.nb_top.specs.Goes.{IsRun}
 use Rattle.nb_top.specs.Requests.{Asked, Runs, request_asked}
-use Rattle.nb_cli.specs.Exit.{number_of}
 
 -- What is asked for was done, and what still waited was then given to the system. The status is that of the run, or Device where what
 -- waited couldn't be written.

@@ -11,9 +11,9 @@ ghost use Rattle.std.specs.Process.{exit_status};
 ghost use Rattle.std.specs.IoError.{error_kind};
 ghost use Rattle.nb_host.specs.Causes.{Rose};
 ghost use Rattle.nb_model.specs.Words.{job_of};
+ghost use Rattle.nb_ended.specs.Numbers.{number_of};
 ghost use Rattle.nb_top.specs.Requests.{Asked, IsAskedBy, IsReadJob, NamesNone};
 ghost use Rattle.nb_cli.specs.Ended.{EndsRun, ExitsAs, IsAskedOf, IsReadOf};
-ghost use Rattle.nb_cli.specs.Exit.{number_of};
 
 use nb_beside::{Beside, End};
 use nb_ended::{Broken, Status};

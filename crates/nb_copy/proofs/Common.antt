@@ -79,7 +79,7 @@ pub use Rattle.nb_model.specs.Account.{Ask, Base}
 unfoldable pub use Rattle.nb_model.specs.Backups.{ask_of, backup_turn, close_backup, copy_turn, level_behind, needs_taken, room_in, since_turn, starts}
 pub use Rattle.nb_model.specs.Backups.{Room}
 unfoldable pub use Rattle.nb_model.specs.Causes.{first_cause, is_free_entry}
-pub use Rattle.nb_model.specs.Causes.{Cause, broken_at, no_room, no_scn, not_free, not_of_form, not_state, read_only, runs_any, short_for, when}
+pub use Rattle.nb_model.specs.Causes.{Cause, Tested, broken_at, no_room, no_scn, not_free, not_of_form, not_state, read_only, runs_any, short_for, when}
 unfoldable pub use Rattle.nb_model.specs.Chains.{backup_slot, backup_spot, found_pages, free_spot, grown, pages_of, put_slot, spots}
 pub use Rattle.nb_model.specs.Chains.{History, Spot, guid_in, last_of, level_in}
 unfoldable pub use Rattle.nb_model.specs.Forms.{entry_raised, entry_written, first_not, free_from, has_entry, is_free_page, is_kind, lowest_free, needed_at, needs, new_within, put, raised, scn_entry, set_bit, system_page, written, wrote}
@@ -106,7 +106,7 @@ pub use Rattle.nb_state.proofs.LooksLaws.{looks_quiet, looks_then}
 pub use Rattle.nb_state.proofs.MakesLaws.{after_base, goes_nowhere, goes_on, open_quiet, open_running, open_still, still_open}
 pub use Rattle.nb_state.proofs.ShownLaws.{open_beside}
 pub use Rattle.nb_state.proofs.TurnLaws.{given_guid, still_struck, struck_front, unless_none}
-pub use Rattle.nb_state.specs.Does.{Tested, WhereEnded, has_only_told, unless_by}
+pub use Rattle.nb_state.specs.Does.{WhereEnded, has_only_told, unless_by}
 pub use Rattle.nb_state.specs.Open.{Held, IsOpen, but_pages, name_of}
 pub use Rattle.nb_state.specs.Turns.{GaveAtMost}
 pub use Rattle.nb_state.specs.declared.turns.Progress.{Progress}

@@ -15,7 +15,7 @@ use Rattle.nb_level.specs.declared.head.LevelHead.{LevelHead}
 use Rattle.nb_model.specs.Image.{Image, image_state, image_scn}
 use Rattle.nb_model.specs.Account.{Ask}
 use Rattle.nb_model.specs.Backups.{ask_of, level_behind, room_in, backup_turn, since_turn}
-use Rattle.nb_model.specs.Causes.{Cause, first_cause, when, read_only, not_state, not_free, is_free_entry, broken_at}
+use Rattle.nb_model.specs.Causes.{Cause, Tested, first_cause, when, read_only, not_state, not_free, is_free_entry, broken_at}
 use Rattle.nb_model.specs.Chains.{History, Spot, pages_of, backup_spot, level_in, guid_in}
 use Rattle.nb_model.specs.Levels.{file_of, count_in}
 use Rattle.nb_model.specs.Making.{kept_of}
@@ -25,7 +25,7 @@ use Rattle.nb_model.specs.Trail.{Trail, StandsIn, after_stroke}
 use Rattle.nb_base.specs.Open.{OfFiles}
 use Rattle.nb_base.specs.Takes.{Strikes, after_strokes}
 use Rattle.nb_state.specs.Open.{Held, IsOpen, name_of}
-use Rattle.nb_state.specs.Does.{Tested, WhereEnded, has_only_told, unless_by}
+use Rattle.nb_state.specs.Does.{WhereEnded, has_only_told, unless_by}
 use Rattle.nb_engine.specs.Turns.{SaysNone, starting_cause}
 use Rattle.nb_copy.specs.declared.file_copy.FileCopy.{FileCopy}
 use Rattle.nb_copy.specs.declared.since.Since.{Since}

@@ -13,7 +13,7 @@ ghost use Rattle.nb_model.specs.Image.{Image};
 ghost use Rattle.nb_model.specs.Outcomes.{Seen};
 ghost use Rattle.nb_model.specs.Trail.{Trail};
 ghost use Rattle.nb_base.specs.Open.{OfFiles};
-ghost use Rattle.nb_state.specs.Does.{Tested};
+ghost use Rattle.nb_model.specs.Causes.{Tested};
 ghost use Rattle.nb_state.specs.Open.{IsOpen};
 ghost use Rattle.nb_state.specs.declared.turns.Progress.{Progress};
 ghost use Rattle.nb_copy.specs.Copying.{IsCopying};

@@ -2,7 +2,7 @@ ghost use Rattle.std.specs.Prelude.{◌≡◌, ◌+◌, ◌-◌, ◌%◌, ◌<�
 ghost use Rattle.nb_fields.specs.Places.{is_page_size, entries_in, most_pages};
 ghost use Rattle.nb_fields.specs.States.{stalled_state};
 ghost use Rattle.nb_host.specs.Causes.{CountsFault};
-ghost use Rattle.nb_change.specs.Changes.{Changes, Only, Remade};
+ghost use Rattle.nb_change.specs.Changes.{Changes, Only, Remade, Touches};
 ghost use Rattle.nb_change.specs.Gave.{GaveNothing};
 ghost use Rattle.nb_page.specs.Quiet.{Quiet};
 ghost use Rattle.nb_model.specs.Forms.{scn_page_of};
@@ -12,7 +12,6 @@ ghost use Rattle.nb_state.specs.Open.{IsOpen};
 ghost use Rattle.nb_gather.specs.Gathering.{HasTaken};
 ghost use Rattle.nb_copy.specs.LevelCopying.{HasEntriesOf, IsFresh, IsLevelBegun, IsLevelCopying, IsLevelOf, taken_below, whole_level};
 ghost use Rattle.nb_gather.specs.Making.{IsMade, IsUnfinished, IsUnfinishedOr};
-ghost use Rattle.nb_base.specs.Touches.{Touches};
 ghost use Rattle.nb_copy.specs.Reading.{loads_entries, one_if, reads_at};
 ghost use Rattle.nb_copy.specs.Turns.{Fetched, LevelTurn, LevelCounts};
 

@@ -4,7 +4,7 @@ ghost use Rattle.nb_fields.specs.States.{stalled_state};
 ghost use Rattle.nb_host.specs.Calls.{IsSilent, Remakes};
 ghost use Rattle.nb_host.specs.Causes.{CountsFault};
 ghost use Rattle.nb_host.specs.Moments.{Passes};
-ghost use Rattle.nb_change.specs.Changes.{Changes, Only, Remade};
+ghost use Rattle.nb_change.specs.Changes.{Changes, Only, Remade, Touches};
 ghost use Rattle.nb_change.specs.Gave.{GaveNothing};
 ghost use Rattle.nb_model.specs.Image.{Image};
 ghost use Rattle.nb_model.specs.Levels.{joined};
@@ -14,7 +14,6 @@ ghost use Rattle.nb_state.specs.Open.{IsOpen};
 ghost use Rattle.nb_copy.specs.Copying.{IsOf, IsBegun, IsCopying};
 ghost use Rattle.nb_copy.specs.Turns.{CopyTurn, CopyCounts};
 ghost use Rattle.nb_gather.specs.Making.{IsBlank, IsFreeOr, IsKept};
-ghost use Rattle.nb_base.specs.Touches.{Touches};
 
 use nb_engine::Engine;
 use nb_host::{Host, HostFault, Name};

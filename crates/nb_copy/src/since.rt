@@ -5,7 +5,7 @@ ghost use Rattle.nb_host.specs.Causes.{CountsDevice};
 ghost use Rattle.nb_model.specs.Trail.{Trail};
 ghost use Rattle.nb_state.specs.Open.{IsOpen};
 ghost use Rattle.nb_state.specs.Looks.{Looks};
-ghost use Rattle.nb_state.specs.Does.{Tested};
+ghost use Rattle.nb_model.specs.Causes.{Tested};
 ghost use Rattle.nb_copy.specs.Starting.{ask_by, ask_in, earlier_cause, IsNineAtMost, IsItsLevel};
 ghost use Rattle.nb_copy.specs.declared.since.Since.TheVariants.{Level as LevelBelow, Guid as OfGuid};
 

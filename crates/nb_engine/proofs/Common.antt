@@ -64,7 +64,7 @@ pub use Rattle.nb_model.proofs.WholeLaws.{when_false}
 pub use Rattle.nb_model.specs.Account.{Ask, Base}
 unfoldable pub use Rattle.nb_model.specs.Backups.{needs_taken, room_in}
 unfoldable pub use Rattle.nb_model.specs.Causes.{first_cause, lowest_broken, not_raw}
-pub use Rattle.nb_model.specs.Causes.{Cause, broken_at, lowest_of, no_room, no_scn, not_kind, not_of_form, not_state, past_end, read_only, short_for, too_long, too_short, when}
+pub use Rattle.nb_model.specs.Causes.{Cause, Tested, broken_at, lowest_of, no_room, no_scn, not_kind, not_of_form, not_state, past_end, read_only, short_for, too_long, too_short, when}
 unfoldable pub use Rattle.nb_model.specs.Chains.{backup_slot, backup_spot, first_such, found_pages, free_spot, grown, is_in_chain, is_slot, last_such, pages_of, put_slot, slots_from, slots_in, spots, spots_of, spots_on}
 pub use Rattle.nb_model.specs.Chains.{Chain, History, Slot, Spot, file_in, is_used, last_of, next_in, owner_of}
 unfoldable pub use Rattle.nb_model.specs.Forms.{entry_raised, entry_written, has_entry, is_free_page, is_kind, needs, old_page, other_kind, put, raised, scn_entry, set_bit, with_bit, written, wrote}
@@ -83,7 +83,7 @@ pub use Rattle.nb_page.proofs.QuietLaws.{quiet_begun, quiet_joined}
 pub use Rattle.nb_page.specs.Quiet.{Quiet}
 pub use Rattle.nb_state.proofs.LooksLaws.{looks_begun, looks_named, looks_then}
 pub use Rattle.nb_state.proofs.MakesLaws.{makes_none, none_refused, none_yet, open_still}
-pub use Rattle.nb_state.specs.Does.{Does, Makes, Tested, has_only_told, unless_by}
+pub use Rattle.nb_state.specs.Does.{Does, Makes, has_only_told, unless_by}
 pub use Rattle.nb_state.specs.Looks.{Looks}
 pub use Rattle.nb_state.specs.Open.{Held, IsOpen, NoPageWaits, but_pages, name_of}
 pub use Rattle.nb_walk.proofs.SlotLaws.{byte_at, filled_of, passes_here, passes_next, slot_inside, test_first, used_of}

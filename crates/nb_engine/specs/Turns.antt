@@ -11,13 +11,13 @@ use Rattle.nb_model.specs.declared.reply.Reply.{Reply}
 use Rattle.nb_model.specs.declared.reply.Reply.TheVariants.{Refused as RefusedBy}
 use Rattle.nb_model.specs.Account.{Ask}
 use Rattle.nb_model.specs.Image.{Image, image_scn}
-use Rattle.nb_model.specs.Causes.{Cause, first_cause, read_only, not_state, no_scn}
+use Rattle.nb_model.specs.Causes.{Cause, Tested, first_cause, read_only, not_state, no_scn}
 use Rattle.nb_model.specs.Strokes.{begin}
 use Rattle.nb_model.specs.Outcomes.{Outcome}
 use Rattle.nb_model.specs.Trail.{Trail}
 use Rattle.nb_base.specs.Takes.{Strikes, after_strokes}
 use Rattle.nb_state.specs.Open.{Held, IsOpen, name_of}
-use Rattle.nb_state.specs.Does.{Tested, Answers, WhereEnded, WhereRefused, has_only_told, unless_by}
+use Rattle.nb_state.specs.Does.{Answers, WhereEnded, WhereRefused, has_only_told, unless_by}
 use Rattle.nb_engine.specs.Replies.{scn_is}
 
 -- A backup begins with this GUID, as its turn says; or that is a refusal, and nothing changes, whatever is answered.

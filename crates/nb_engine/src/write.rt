@@ -3,14 +3,14 @@ ghost use Rattle.std.specs.Prelude.{◌≡◌, ◌≢◌, ◌≤◌, [], ◌∷�
 ghost use Rattle.nb_fields.specs.States.{stalled_state};
 ghost use Rattle.nb_host.specs.declared.faults.Fault.TheVariants.{Memory};
 ghost use Rattle.nb_host.specs.Causes.{CountsDevice};
-ghost use Rattle.nb_model.specs.Causes.{first_cause, read_only, too_long};
+ghost use Rattle.nb_model.specs.Causes.{Tested, first_cause, read_only, too_long};
 ghost use Rattle.nb_model.specs.Image.{Image, is_read_only};
 ghost use Rattle.nb_model.specs.Trail.{Trail};
 ghost use Rattle.nb_model.specs.Outcomes.{Seen};
 ghost use Rattle.nb_model.specs.Pages.{write_turn, read_turn};
 ghost use Rattle.nb_state.specs.Open.{IsOpen};
 ghost use Rattle.nb_state.specs.Looks.{Looks};
-ghost use Rattle.nb_state.specs.Does.{Tested, Goes, Does};
+ghost use Rattle.nb_state.specs.Does.{Goes, Does};
 ghost use Rattle.nb_alloc.specs.Tries.{StopsBehind};
 ghost use Rattle.nb_alloc.specs.Put.{raise_strokes};
 ghost use Rattle.nb_engine.specs.Replies.{done, valued};

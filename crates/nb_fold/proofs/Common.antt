@@ -14,15 +14,17 @@ unfoldable pub use Rattle.nb_fold.specs.Folding.{folded, folded_from}
 pub use Rattle.nb_fold.specs.Folding.{bytes_for, first_head, folded_head, folded_pages, last_head, last_page, or_before, page_of, pages_of_each, with_number}
 pub use Rattle.nb_fold.specs.Merging.{AllOfSize, AllRise, AreApart, FallsOn, FoldsOn, HasFolded, IsFolding, IsReady, Makes, MakesOr, pages_left}
 pub use Rattle.nb_fold.specs.Same.{GiveTheSame, Gives, IsFoldOf, IsMergedInto, links_of, merged_each}
-pub use Rattle.nb_fold.specs.Sources.{AllWait, AreAtEnd, AreOfPages, AreOpened, Held, IsGiven, IsLeast, IsOpened, IsTaken, Waits, WaitsBy, count_at, counts_at, due, due_by, rest_after, rests, waiting_page, waits_at}
+pub use Rattle.nb_fold.specs.Sources.{AllWait, AreAtEnd, AreOfPages, AreOpened, Held, IsLeast, IsOpened, Waits, WaitsBy, count_at, counts_at, due, due_by, rest_after, rests, waiting_page, waits_at}
 unfoldable pub use Rattle.nb_fold.specs.Verdict.{file_after, files_after}
 pub use Rattle.nb_fold.specs.Verdict.{chained, fold_verdict, not_after, with_files}
 pub use Rattle.nb_gather.proofs.QuietLaws.{is_made, remade_twice, taken_quiet, unfinished_empty}
 pub use Rattle.nb_gather.specs.Gathering.{HasTaken, LevelWriting, MayHave}
 pub use Rattle.nb_gather.specs.Making.{IsKept, IsMade, IsUnfinished, IsUnfinishedOr}
+pub use Rattle.nb_host.proofs.AnswerLaws.{fails_alike}
 pub use Rattle.nb_host.proofs.FileLaws.{passed}
 pub use Rattle.nb_host.proofs.NameLaws.{with_file-named}
 pub use Rattle.nb_host.proofs.PlainLaws.{err_not_ok, head_same, none_and_some, none_some, ok_same, some_none, some_same}
+pub use Rattle.nb_host.specs.Answers.{IsGiven, IsTaken}
 pub use Rattle.nb_host.specs.Crash.{Leaves, LeavesAll}
 pub use Rattle.nb_host.specs.Files.{File, Files, bytes_of}
 pub use Rattle.nb_host.specs.World.{World}

@@ -1,6 +1,6 @@
 -- A level file is read to its end, and then again.
 use Rattle.std.proofs.Common.{◌≡◌, ℕ, List, sym, ap, subst, ◌∙◌, Bool, IsTrue, Some, Result, Ok, Err, IsErr, IsErrAnd}
-use Rattle.nb_fold.proofs.Common.{File, Files, bytes_of, Fault, Refused, Device, Memory, BadLevel, NoFile, Contents, read_level, with_head, head_of, Held, IsGiven, IsTaken, IsOpened, Waits, some_same, err_not_ok, none_and_some}
+use Rattle.nb_fold.proofs.Common.{File, Files, bytes_of, Fault, Refused, Device, Memory, BadLevel, NoFile, Contents, read_level, with_head, head_of, Held, IsGiven, IsOpened, Waits, some_same, err_not_ok, none_and_some}
 use Rattle.nb_level.specs.Answers.{StartSays}
 use Rattle.nb_level.specs.Reading.{Reading, still_to_come}
 use Rattle.nb_level.proofs.ToldLaws.{with_head-is}
@@ -40,12 +40,6 @@ module _ (tells : Bool) (told : IsTrue tells) (file : File) (name bytes : List �
         head = ap (λ (r : Reading). head_of r.head) on ∙ b.1;
         waits = subst (λ (f : Files). Waits f source c.pages) same waits;
       }
-
--- what is taken is given
-pub given_by : {S T : Type 0} (fault : Fault) (P : S → Type 0) (Q : T → Type 0) → IsTaken {T = S} (Err fault) P → IsGiven {T = T} (Err fault) Q
-given_by (Refused refusal) P Q is = is
-given_by Device P Q is = tt
-given_by Memory P Q is = absurd is
 
 -- the fault that is passed on
 pub fault_is : (T : Type 0) (result : Result T Fault) (fault f : Fault) → IsErr result × IsErrAnd result (λ e. e ≡ fault) → result ≡ Err f → fault ≡ f

@@ -1,6 +1,6 @@
 -- The files are read on where the page of a number waits, one after another.
-use Rattle.std.proofs.Common.{◌≡◌, ℕ, zero, suc, ◌+◌, ◌<◌, ◌≤◌, List, [], ◌∷◌, ◌++◌, length, get_or, set, take, drop, sym, ap, subst, ◌∙◌, arith, drop-cons, Err}
-use Rattle.nb_fold.proofs.Common.{take_more, drop-set-lt, drop-drop, Files, Fault, Refused, Device, Memory, Numbered, AreApart, Held, AllWait, AreOfPages, IsTaken, Waits, count_at, counts_at, due, due_by, rest_after, rests, head_same}
+use Rattle.std.proofs.Common.{◌≡◌, ℕ, zero, suc, ◌+◌, ◌<◌, ◌≤◌, List, [], ◌∷◌, ◌++◌, length, get_or, set, take, drop, sym, ap, subst, ◌∙◌, arith, drop-cons}
+use Rattle.nb_fold.proofs.Common.{take_more, drop-set-lt, drop-drop, Files, Numbered, AreApart, Held, AllWait, AreOfPages, Waits, count_at, counts_at, due, due_by, rest_after, rests, head_same}
 
 -- the rests of so many files, and the others as they were
 abbrev pub rests_upto : (i n : ℕ) → List (List Numbered) → List (List Numbered)
@@ -83,9 +83,3 @@ module _ (i n : ℕ) (old now : List Held) (s : Held) (same : drop i now ≡ dro
 
   pub counts_upto : counts_at n (take (i + 1) old) ≡ counts_at n (take i old) + count_at n s.waiting
   counts_upto = ap (counts_at n) (take_more old i s (omega (arith, low, long)) ∙ ap (λ (x : Held). take i old ++ x ∷ []) (sym there_still)) ∙ counts_more n (take i old) s
-
--- a fault says the same whatever was to be done
-pub fails_alike : {S T : Type 0} (P : S → Type 0) (Q : T → Type 0) (fault : Fault) → IsTaken {T = S} (Err fault) P → IsTaken {T = T} (Err fault) Q
-fails_alike P Q (Refused refusal) is = is
-fails_alike P Q Device is = tt
-fails_alike P Q Memory is = is

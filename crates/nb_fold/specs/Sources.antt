@@ -1,10 +1,8 @@
 -- The files that are folded, while they are read side by side.
-use Rattle.std.specs.Prelude.{◌≡◌, ℕ, ◌+◌, ◌-◌, ◌<◌, ◌≤◌, ◌==◌, List, [], ◌∷◌, Option, Some, None, Bool, true, false, Result, Ok, Err}
+use Rattle.std.specs.Prelude.{◌≡◌, ℕ, ◌+◌, ◌-◌, ◌<◌, ◌≤◌, ◌==◌, List, [], ◌∷◌, Option, Some, None, Bool, true, false, Ok}
 use Rattle.std.specs.List.{AllByRecursion}
 use Rattle.nb_fields.specs.Places.{most_pages}
 use Rattle.nb_host.specs.Files.{Files, bytes_of}
-use Rattle.nb_host.specs.declared.faults.Fault.{Fault}
-use Rattle.nb_host.specs.declared.faults.Fault.TheVariants.{Refused, Device, Memory}
 use Rattle.nb_model.specs.Image.{Page, Numbered}
 use Rattle.nb_model.specs.Levels.{Contents, read_level}
 use Rattle.nb_level.specs.Heads.{head_of}
@@ -54,20 +52,6 @@ AreOpened files [] (s ∷ ss) cs = ⊥
 AreOpened files (n ∷ ns) [] cs = ⊥
 AreOpened files (n ∷ ns) (s ∷ ss) [] = ⊥
 AreOpened files (n ∷ ns) (s ∷ ss) (c ∷ cs) = IsOpened files n s c × AreOpened files ns ss cs
-
--- it answers such a value, or the device fails
-abbrev pub IsTaken : {T : Type 0} → Result T Fault → (T → Type 0) → Type 0
-IsTaken (Ok value) P = P value
-IsTaken (Err (Refused refusal)) P = ⊥
-IsTaken (Err Device) P = Unit {0}
-IsTaken (Err Memory) P = ⊥
-
--- it answers such a value, or memory is wanted, or the device fails
-abbrev pub IsGiven : {T : Type 0} → Result T Fault → (T → Type 0) → Type 0
-IsGiven (Ok value) P = P value
-IsGiven (Err (Refused refusal)) P = ⊥
-IsGiven (Err Device) P = Unit {0}
-IsGiven (Err Memory) P = Unit {0}
 
 -- how many numbers there are at most from the page on that waits
 abbrev pub due_by : (waiting : Option ℕ) → ℕ

@@ -1,12 +1,13 @@
 ghost use Rattle.std.specs.Prelude.{◌≡◌, ◌+◌, ◌<◌, ◌≤◌, ℕ, List, None, Some, IsTrue, IfOk, IfSome, OnOk, length};
 ghost use Rattle.nb_fields.specs.Places.{most_pages};
+ghost use Rattle.nb_host.specs.Answers.{IsTaken};
 ghost use Rattle.nb_host.specs.Causes.{CountsDevice};
 ghost use Rattle.nb_change.specs.Gave.{GaveNothing};
 ghost use Rattle.nb_model.specs.Image.{Numbered};
 ghost use Rattle.nb_page.specs.Quiet.{Quiet};
 ghost use Rattle.nb_gather.specs.Making.{IsUnfinished};
 ghost use Rattle.nb_fold.specs.Merging.{AreApart, FallsOn, FoldsOn, HasFolded, IsFolding, Makes};
-ghost use Rattle.nb_fold.specs.Sources.{AllWait, AreAtEnd, AreOfPages, IsLeast, IsTaken, counts_at, due, rests, waiting_page};
+ghost use Rattle.nb_fold.specs.Sources.{AllWait, AreAtEnd, AreOfPages, IsLeast, counts_at, due, rests, waiting_page};
 
 use crate::source::Source;
 use nb_gather::LevelFile;

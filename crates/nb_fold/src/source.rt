@@ -1,4 +1,5 @@
 ghost use Rattle.std.specs.Prelude.{◌≡◌, ◌+◌, ◌<◌, ◌≤◌, length, IfSome, ℕ, List, Some, Ok, IsTrue, OnOk, ◌-◌};
+ghost use Rattle.nb_host.specs.Answers.{IsGiven, IsTaken};
 ghost use Rattle.nb_host.specs.Causes.{CountsDevice};
 ghost use Rattle.nb_host.specs.Files.{bytes_of};
 ghost use Rattle.nb_level.specs.Reading.{still_to_come};
@@ -6,7 +7,7 @@ ghost use Rattle.nb_fields.specs.Places.{is_page_size, most_pages};
 ghost use Rattle.nb_model.specs.Image.{Numbered};
 ghost use Rattle.nb_model.specs.Levels.{Contents, read_level};
 ghost use Rattle.nb_page.specs.Quiet.{Quiet};
-ghost use Rattle.nb_fold.specs.Sources.{IsGiven, IsOpened, IsTaken, Waits, count_at, due_by, rest_after};
+ghost use Rattle.nb_fold.specs.Sources.{IsOpened, Waits, count_at, due_by, rest_after};
 
 use nb_host::{Fault, Host, Name};
 use nb_level::{Item, LevelHead, LevelReader};

@@ -1,4 +1,5 @@
 ghost use Rattle.std.specs.Prelude.{◌≡◌, ◌<◌, ◌≤◌, ℕ, List, [], IsTrue, OnOk, length};
+ghost use Rattle.nb_host.specs.Answers.{IsTaken};
 ghost use Rattle.nb_host.specs.Causes.{CountsDevice, CountsFault};
 ghost use Rattle.nb_change.specs.Gave.{GaveNothing};
 ghost use Rattle.nb_level.specs.Heads.{head_of};
@@ -7,7 +8,7 @@ ghost use Rattle.nb_model.specs.Levels.{level_bytes};
 ghost use Rattle.nb_gather.specs.Gathering.{HasTaken, IsHeaded};
 ghost use Rattle.nb_gather.specs.Making.{IsKept, IsUnfinished, IsUnfinishedOr};
 ghost use Rattle.nb_fold.specs.Merging.{IsReady, MakesOr};
-ghost use Rattle.nb_fold.specs.Sources.{AreOfPages, IsTaken, due};
+ghost use Rattle.nb_fold.specs.Sources.{AreOfPages, due};
 
 use crate::merging::merge;
 use crate::source::Source;

@@ -1,7 +1,7 @@
+use Rattle.nb_change.specs.Changes.{Touches}
 -- Calls that touch one file alone, whatever stands in it.
 use Rattle.std.proofs.Common.{◌≡◌, ℕ, List, subst, Bool, IsTrue, Result}
 use Rattle.nb_gather.proofs.Common.{Files, World, IsStill, WritesPage, AppendsBytes, IsTimely, Passes, Quiet, Changes, ChangedLeft, Only, Moved, still_alone, page_alone, bytes_alone, begun, rested, composed, weaker_has, started, goes_on, IsWhileAdding, AddsTwo}
-use Rattle.nb_gather.specs.Touching.{Touches}
 use Rattle.nb_gather.proofs.AppendLaws.{two_others}
 
 -- nothing is said of what a crash leaves

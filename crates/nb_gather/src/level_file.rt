@@ -2,13 +2,12 @@ ghost use Rattle.std.specs.Prelude.{◌≡◌, ◌++◌, ◌+◌, ◌<◌, ◌�
 ghost use Rattle.nb_fields.specs.Places.{is_page_size};
 ghost use Rattle.nb_host.specs.Calls.{IsSilent};
 ghost use Rattle.nb_host.specs.Causes.{CountsFault};
-ghost use Rattle.nb_change.specs.Changes.{Changes, Only, Remade};
+ghost use Rattle.nb_change.specs.Changes.{Changes, Only, Remade, Touches};
 ghost use Rattle.nb_level.specs.Heads.{head_of};
 ghost use Rattle.nb_model.specs.Image.{Numbered};
 ghost use Rattle.nb_model.specs.Levels.{level_bytes, runs_of, taken_from};
 ghost use Rattle.nb_gather.specs.Gathering.{HasTaken, IsHeaded, MayHave, Reads, level_front};
 ghost use Rattle.nb_gather.specs.Making.{IsKept, IsMade, IsUnfinished, IsUnfinishedOr};
-ghost use Rattle.nb_gather.specs.Touching.{Touches};
 
 use crate::run::Run;
 use nb_host::{Host, HostFault, Name};

@@ -5,4 +5,5 @@ pub mod Crash
 pub mod Calls
 pub mod Moments
 pub mod Causes
+pub mod Answers
 pub mod Faults

@@ -1,6 +1,6 @@
 -- What a merge changes and leaves, from the tests on.
 use Rattle.std.proofs.Common.{◌/◌, take, ◌≡◌, ◌≢◌, ◌⊎◌, inl, inr, ⊎_elim, ℕ, ◌*◌, ◌<◌, ◌≤◌, List, [], ◌∷◌, ◌++◌, length, refl, sym, ap, subst, ◌∙◌, arith, true, Some, None, Result, Ok, Err, Contains}
-use Rattle.nb_inplace.proofs.Common.{mul-div_cancel, eqb-true, take-append-le, is_header, state_of, size_of, size_facts, File, Files, bytes_of, World, Leaves, LeavesAll, IsDurable, Fault, Refused, Device, Memory, Refusal, Changes, Only, NoNames, Remade, GaveNothing, rested, kept_then, nothing_joined, header_in, Header, Quiet, Page, Image, Numbered, first_page, image_size, image_in, trimmed, overwritten, in_place, Head, Contents, joined, read_level, HoldsMain, delta_name, main_page, IsOfSize, as_standby, merged, formed, no_cause, header-long, header-other, same-header, same-number, trimmed-append_zeros, trimmed-other, length-joined, IsLaid, laid, image_in-is, owner_main, header_no_level, trimmed_alike, trimmed_page, Reading, still_to_come, level-headed, Standby, IsFitFor, AcceptSays, base_with, IsHalfIn, ApplyLeft, ApplyAnswers, Applies, applying_page, IsBetween, IsHalf, IsDoneBy, IsHalfFile, merged_pages, IsHalfOr, KeepsMerged, IsPlan, ReadySays, IsWholeStandby, stamp_cause, IsMergeable, level_pages, some_same, err_not_ok}
+use Rattle.nb_inplace.proofs.Common.{mul-div_cancel, eqb-true, take-append-le, is_header, state_of, size_of, size_facts, File, Files, bytes_of, World, Leaves, LeavesAll, IsDurable, Fault, Refused, Device, Memory, Refusal, Changes, Only, NoNames, Remade, GaveNothing, rested, kept_then, nothing_joined, header_in, Header, Quiet, Page, Image, Numbered, first_page, image_size, image_in, trimmed, overwritten, in_place, Head, Contents, joined, read_level, HoldsMain, delta_name, main_page, IsOfSize, as_standby, merged, formed, no_cause, header-long, header-other, same-header, same-number, trimmed-append_zeros, trimmed-other, length-joined, IsLaid, laid, image_in-is, owner_main, header_no_level, trimmed_alike, trimmed_page, Reading, still_to_come, level-headed, Standby, IsFitFor, AcceptSays, base_with, IsHalfIn, ApplyLeft, ApplyAnswers, Applies, applying_page, IsBetween, IsHalf, IsTaken, IsHalfFile, merged_pages, IsHalfOr, KeepsMerged, IsPlan, ReadySays, IsWholeStandby, stamp_cause, IsMergeable, level_pages, some_same, err_not_ok}
 use Rattle.nb_change.proofs.MomentLaws.{left_before}
 use Rattle.nb_change.proofs.SettledLaws.{durable_is}
 use Rattle.nb_model.specs.Trail.{ShowsIn}
@@ -241,7 +241,7 @@ module _ (old : World) (standby name : List ℕ) (s : Standby) (reader : Reading
       }
 
       -- The device failed,
-      fails : (P : ℕ → Type 0) (fault : Fault) → IsDoneBy (Err fault) P → Goes → GaveNothing mid new → Applies (Err fault) old new standby name
+      fails : (P : ℕ → Type 0) (fault : Fault) → IsTaken (Err fault) P → Goes → GaveNothing mid new → Applies (Err fault) old new standby name
       fails P (Refused refusal) says left gave = absurd says
       fails P Device says left gave = applies (Err Device) tt left gave
       fails P Memory says left gave = absurd says
@@ -258,7 +258,7 @@ module _ (old : World) (standby name : List ℕ) (s : Standby) (reader : Reading
             shows = shows new.files (subst (λ (f : File). HoldsMain (merged_pages size c.pages pages) f) (sym keeps.0.kept.reads) keeps.0.holds);
           }) left gave
 
-      answers : (result : Result ℕ Fault) → IsDoneBy result (KeepsMerged new standby size c.pages pages) → Goes → GaveNothing mid new → Applies result old new standby name
+      answers : (result : Result ℕ Fault) → IsTaken result (KeepsMerged new standby size c.pages pages) → Goes → GaveNothing mid new → Applies result old new standby name
       answers (Ok count) keeps left gave = kept count keeps left gave
       answers (Err fault) says left gave = fails (KeepsMerged new standby size c.pages pages) fault says left gave
 
@@ -266,8 +266,8 @@ module _ (old : World) (standby name : List ℕ) (s : Standby) (reader : Reading
       abbrev ByPlan : (size : ℕ) → ((records : List Numbered) (ps : List Page) → Type 0) → Type 0
       ByPlan n P = (guid : List ℕ) (ps : List Page) (records : List Numbered) → IsPlan mid.files standby n s.pages s.is_begun reader first guid ps records → IsDurable mid standby (mid.files standby) → P records ps
 
-      pub apply_done : (n : ℕ) → size ≡ n → IsDurable mid standby (mid.files standby) → ((m : List ℕ) → Leaves new m (new.files m)) → (result : Result ℕ Fault) → ByPlan n (λ records ps. IsDoneBy result (KeepsMerged new standby n records ps))
+      pub apply_done : (n : ℕ) → size ≡ n → IsDurable mid standby (mid.files standby) → ((m : List ℕ) → Leaves new m (new.files m)) → (result : Result ℕ Fault) → ByPlan n (λ records ps. IsTaken result (KeepsMerged new standby n records ps))
           → ByPlan n (λ records ps. Changes mid new (Only standby) (Remade mid standby (IsHalfOr n records ps first))) → GaveNothing mid new → Applies result old new standby name
       apply_done n same durable stays result done left gave =
-          subst (λ (k : ℕ). ByPlan k (λ records ps. IsDoneBy result (KeepsMerged new standby k records ps)) → ByPlan k (λ records ps. Changes mid new (Only standby) (Remade mid standby (IsHalfOr k records ps first))) → Applies result old new standby name) same
+          subst (λ (k : ℕ). ByPlan k (λ records ps. IsTaken result (KeepsMerged new standby k records ps)) → ByPlan k (λ records ps. Changes mid new (Only standby) (Remade mid standby (IsHalfOr k records ps first))) → Applies result old new standby name) same
           (λ its_done its_left. answers result (its_done c.head.guid pages c.pages plan_then durable) (record { durable = durable; left = its_left c.head.guid pages c.pages plan_then durable; stays = stays }) gave) done left

@@ -23,6 +23,7 @@ pub use Rattle.nb_fixup.specs.Tests.{Tested}
 pub use Rattle.nb_host.proofs.FileLaws.{IsLong, long_file, passed}
 pub use Rattle.nb_host.proofs.NameLaws.{same_other, same_self, with_file-named}
 pub use Rattle.nb_host.proofs.PlainLaws.{err_not_ok, head_same, none_some, not_false, ok_same, some_none, some_same}
+pub use Rattle.nb_host.specs.Answers.{IsTaken}
 pub use Rattle.nb_host.specs.Calls.{IsStill, ReadsPage, WritesPage}
 pub use Rattle.nb_host.specs.Crash.{IsDurable, Leaves, LeavesAll, PageLeft}
 unfoldable pub use Rattle.nb_host.specs.Files.{put_at}
@@ -36,7 +37,7 @@ pub use Rattle.nb_host.specs.declared.refusals.Refusal.TheVariants.{Access, BadL
 pub use Rattle.nb_inplace.specs.Accepted.{AcceptSays, IsFitFor, IsReaderOf}
 pub use Rattle.nb_inplace.specs.Apply.{Applies, ApplyAnswers, ApplyLeft, IsHalfIn, base_with}
 pub use Rattle.nb_inplace.specs.Half.{IsBetween, IsHalf, applying_page}
-pub use Rattle.nb_inplace.specs.Merging.{IsDoneBy, IsHalfFile, IsHalfOr, KeepsHalf, KeepsMerged, begun_file, merged_pages, pages_with}
+pub use Rattle.nb_inplace.specs.Merging.{IsHalfFile, IsHalfOr, KeepsHalf, KeepsMerged, begun_file, merged_pages, pages_with}
 pub use Rattle.nb_inplace.specs.Plan.{IsPlan}
 pub use Rattle.nb_inplace.specs.Ready.{ReadySays}
 pub use Rattle.nb_inplace.specs.Standby.{IsStandby, IsWholeStandby}
@@ -69,7 +70,7 @@ pub use Rattle.nb_model.specs.Causes.{Cause, when}
 unfoldable pub use Rattle.nb_model.specs.Image.{image_in, overwritten, trimmed, written_at}
 pub use Rattle.nb_model.specs.Image.{Image, Numbered, Page, first_page, image_guid, image_size, is_read_only, page_at}
 unfoldable pub use Rattle.nb_model.specs.InPlace.{in_place, in_place_of, not_finishing, not_mergeable, not_next, not_standby, written_since}
-pub use Rattle.nb_model.specs.InPlace.{bytes_in, is_another, other_pages}
+pub use Rattle.nb_model.specs.InPlace.{is_another, other_pages}
 unfoldable pub use Rattle.nb_model.specs.Levels.{head_in, level_bytes, read_level, taken_from}
 pub use Rattle.nb_model.specs.Levels.{Contents, Head, behind, head_for, joined, taken, with_head}
 pub use Rattle.nb_model.specs.Main.{HoldsMain}

@@ -1,6 +1,6 @@
 -- The records of a level file are written, one after another.
 use Rattle.std.proofs.Common.{◌≡◌, ℕ, suc, ◌+◌, ◌*◌, ◌<◌, ◌≤◌, List, [], ◌∷◌, ◌++◌, length, refl, sym, ap, subst, ◌∙◌, arith, append_assoc, Bool, IsTrue, Ok, Err, Result, max, Contains}
-use Rattle.nb_inplace.proofs.Common.{append-nil, most_pages, File, bytes_of, World, IsStill, WritesPage, Fault, Refused, Device, Memory, BadLevel, Changes, Only, Moved, moved_begun, moved_still, moved_joined, Page, Numbered, behind, NextSays, Rises, Reading, still_to_come, Overwrites, overwrites_none, overwrites_joined, IsDoneBy, KeepsHalf, pages_with, ok_same, err_not_ok}
+use Rattle.nb_inplace.proofs.Common.{append-nil, most_pages, File, bytes_of, World, IsStill, WritesPage, Fault, Refused, Device, Memory, BadLevel, Changes, Only, Moved, moved_begun, moved_still, moved_joined, Page, Numbered, behind, NextSays, Rises, Reading, still_to_come, Overwrites, overwrites_none, overwrites_joined, IsTaken, KeepsHalf, pages_with, ok_same, err_not_ok}
 use Rattle.nb_host.specs.Moments.{IsTimely, Passes}
 use Rattle.nb_change.proofs.CallLaws.{page_alone}
 use Rattle.nb_level.specs.declared.item.Item.{Item}
@@ -90,7 +90,7 @@ module _ (size : ℕ) (reader : Reading) (records : List Numbered) (tells : Bool
       )
 
   -- A reader that fails met a fault of the device.
-  pub reader_stops : (T : Type 0) (P : T → Type 0) (next : Reading) (page : Page) (fault : Fault) → NextSays tells now reader next page (Err fault) → IsDoneBy (Err fault) P
+  pub reader_stops : (T : Type 0) (P : T → Type 0) (next : Reading) (page : Page) (fault : Fault) → NextSays tells now reader next page (Err fault) → IsTaken (Err fault) P
   reader_stops T P next page (Refused (BadLevel name at)) says =
       absurd (err_not_ok at so_far.rest (still_to_come (bytes_of file) reader) (subst (λ (f : File). still_to_come (bytes_of f) reader ≡ Err at) there (says.2 told)) so_far.coming)
   reader_stops T P next page (Refused other) says = absurd says
@@ -100,9 +100,3 @@ module _ (size : ℕ) (reader : Reading) (records : List Numbered) (tells : Bool
 -- the number of a record is that of a page
 pub number_low : (old new : Reading) (item : Item) (n : ℕ) → item ≡ PageAt n → Rises old new (Ok item) → n < most_pages
 number_low old new item n is rises = (subst (λ (i : Item). Rises old new (Ok i)) is rises).1
-
--- what fails without a value fails so, whatever the value is to be
-pub fails_so : {S T : Type 0} (P : S → Type 0) (Q : T → Type 0) (fault : Fault) → IsDoneBy (Err fault) P → IsDoneBy (Err fault) Q
-fails_so P Q (Refused r) fails = absurd fails
-fails_so P Q Device fails = tt
-fails_so P Q Memory fails = absurd fails

@@ -1,6 +1,6 @@
 -- What an accepted merge is: a standby in the normal or the applying state, and the level file that goes on from it.
 use Rattle.std.proofs.Common.{◌≡◌, ◌⊎◌, inl, inr, ℕ, zero, suc, ◌-◌, ◌≤◌, List, refl, sym, ap, ◌∙◌, arith, Bool, true, false, not, ◌==◌, Some, None, Result, Ok, Err}
-use Rattle.nb_inplace.proofs.Common.{eqb-true, eqb-false, or_parts, state_of, size_of, scn_of, guid_of, pending_of, normal_state, stalled_state, merge_state, applying_state, File, Files, same_name, Refusal, NoFile, WrongState, BadLevel, Unfinished, ChainGuid, ChainSize, ChainScn, Access, Cause, not_database, image_in, is_read_only, written_since, other_pages, not_next, not_finishing, not_mergeable, in_place_of, not_standby, bytes_in, in_place, Contents, read_level, formed, header-state, IsMergeable, not_false, ok_same, err_not_ok}
+use Rattle.nb_inplace.proofs.Common.{eqb-true, eqb-false, or_parts, state_of, size_of, scn_of, guid_of, pending_of, normal_state, stalled_state, merge_state, applying_state, File, Files, same_name, Refusal, NoFile, WrongState, BadLevel, Unfinished, ChainGuid, ChainSize, ChainScn, Access, Cause, not_database, image_in, is_read_only, written_since, other_pages, not_next, not_finishing, not_mergeable, in_place_of, not_standby, bytes_of, in_place, Contents, read_level, formed, header-state, IsMergeable, not_false, ok_same, err_not_ok}
 use Rattle.std.specs.Cmp.Lexicographic.{told_text}
 use Rattle.nb_model.proofs.PutSound.{no_first, not_when}
 use Rattle.nb_model.proofs.TurnCases.{is_so}
@@ -125,7 +125,7 @@ in_place_is files standby name bytes c there e = by (not_standby standby (files 
     by : (cause : Cause) → not_standby standby (files standby) ≡ cause → (level : File) → files name ≡ level
         → elim cause as (λ x. Result Contents Refusal) [
           | Some refusal ↦ Err refusal
-          | None ↦ elim level as (λ x. Result Contents Refusal) [ None ↦ Err (NoFile name) | Some bytes ↦ in_place_of (bytes_in (files standby)) name bytes ]
+          | None ↦ elim level as (λ x. Result Contents Refusal) [ None ↦ Err (NoFile name) | Some bytes ↦ in_place_of (bytes_of (files standby)) name bytes ]
         ] ≡ Ok c → IsInPlace files standby name bytes c
     by (Some r) is level found h = absurd (err_not_ok r c (Err r) refl h)
     by None is None found h = absurd (err_not_ok (NoFile name) c (Err (NoFile name)) refl h)
@@ -133,7 +133,7 @@ in_place_is files standby name bytes c there e = by (not_standby standby (files 
       stands = ap (not_standby standby) (sym there) ∙ is;
       level = level;
       there = found;
-      is = ap (λ (f : File). in_place_of (bytes_in f) name level) (sym there) ∙ h;
+      is = ap (λ (f : File). in_place_of (bytes_of f) name level) (sym there) ∙ h;
     }
 
 -- either way the pages have the standby's size
@@ -178,5 +178,5 @@ module _ (files : Files) (standby name bytes level : List ℕ) (c : Contents) (h
       by_standby : Cause → (level file : File) → Result Contents Refusal
       by_standby cause level file = elim cause as (λ x. Result Contents Refusal) [
         | Some refusal ↦ Err refusal
-        | None ↦ elim level as (λ x. Result Contents Refusal) [ None ↦ Err (NoFile name) | Some bytes ↦ in_place_of (bytes_in file) name bytes ]
+        | None ↦ elim level as (λ x. Result Contents Refusal) [ None ↦ Err (NoFile name) | Some bytes ↦ in_place_of (bytes_of file) name bytes ]
       ]

@@ -1,10 +1,8 @@
 -- The file of a standby while a level file is merged into it.
-use Rattle.std.specs.Prelude.{◌≡◌, ◌⊎◌, ℕ, ◌+◌, ◌*◌, ◌≤◌, List, [], ◌∷◌, length, max, Bool, true, false, Some, Result, Ok, Err}
+use Rattle.std.specs.Prelude.{◌≡◌, ◌⊎◌, ℕ, ◌+◌, ◌*◌, ◌≤◌, List, [], ◌∷◌, length, max, Bool, true, false, Some}
 use Rattle.nb_fields.specs.Places.{most_pages}
 use Rattle.nb_host.specs.Files.{File, with_page}
 use Rattle.nb_host.specs.World.{World}
-use Rattle.nb_host.specs.declared.faults.Fault.{Fault}
-use Rattle.nb_host.specs.declared.faults.Fault.TheVariants.{Refused, Device, Memory}
 use Rattle.nb_model.specs.Image.{Page, Image, Numbered, trimmed, overwritten}
 use Rattle.nb_model.specs.Levels.{joined}
 use Rattle.nb_model.specs.Main.{HoldsMain}
@@ -12,13 +10,6 @@ use Rattle.nb_model.specs.Sound.{IsOfSize}
 use Rattle.nb_model.specs.Strokes.{as_standby}
 use Rattle.nb_restore.specs.Target.{KeepsImage}
 use Rattle.nb_inplace.specs.Half.{IsBetween}
-
--- it answers such a value, or the device failed: nothing else is answered
-abbrev pub IsDoneBy : {T : Type 0} → Result T Fault → (T → Type 0) → Type 0
-IsDoneBy (Ok value) P = P value
-IsDoneBy (Err (Refused refusal)) P = ⊥
-IsDoneBy (Err Device) P = Unit {0}
-IsDoneBy (Err Memory) P = ⊥
 
 -- In the place of page 0 stands `first`, and after it each page as it was in `before`, or the record's of that number.
 pub record IsHalfFile (size : ℕ) (records : List Numbered) (before : Image) (first : Page) (file : File) : Type 0 where

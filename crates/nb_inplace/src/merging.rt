@@ -1,5 +1,6 @@
 ghost use Rattle.std.specs.Prelude.{◌≡◌, ◌*◌, IsTrue, List, OnOk, length, ℕ};
 ghost use Rattle.nb_change.specs.Changes.{Changes, Only, Remade};
+ghost use Rattle.nb_host.specs.Answers.{IsTaken};
 ghost use Rattle.nb_host.specs.Causes.{CountsDevice, CountsFault};
 ghost use Rattle.nb_change.specs.Gave.{GaveNothing};
 ghost use Rattle.nb_fields.specs.Places.{is_page_size};
@@ -7,7 +8,7 @@ ghost use Rattle.nb_host.specs.Crash.{IsDurable, PageLeft};
 ghost use Rattle.nb_model.specs.Image.{Page, Numbered};
 ghost use Rattle.nb_restore.specs.Target.{IsKept};
 ghost use Rattle.nb_inplace.specs.Apply.{Applies};
-ghost use Rattle.nb_inplace.specs.Merging.{IsDoneBy, IsHalfOr, KeepsMerged, begun_file};
+ghost use Rattle.nb_inplace.specs.Merging.{IsHalfOr, KeepsMerged, begun_file};
 ghost use Rattle.nb_inplace.specs.Plan.{IsPlan};
 ghost use Rattle.nb_inplace.specs.Standby.{IsWholeStandby};
 
@@ -65,7 +66,7 @@ fn merge<H: Host>(
         → IsDurable (H.world host.old) standby.now ((H.world host.old).files standby.now)
         → Changes (H.world host.old) (H.world host.new) (Only standby.now) (Remade (H.world host.old) standby.now (IsHalfOr (length page.old) records ps first.old)) }
     ensures done { IsTrue H.tells → (guid : List ℕ) (ps : List Page) (records : List Numbered) → IsPlan (H.world host.old).files standby.now (length page.old) found.now.pages found.now.is_begun reader.old first.old guid ps records
-        → IsDurable (H.world host.old) standby.now ((H.world host.old).files standby.now) → IsDoneBy result (KeepsMerged (H.world host.new) standby.now (length page.old) records ps) }
+        → IsDurable (H.world host.old) standby.now ((H.world host.old).files standby.now) → IsTaken result (KeepsMerged (H.world host.new) standby.now (length page.old) records ps) }
     ensures gave { GaveNothing (H.world host.old) (H.world host.new) }
     ensures cause { CountsDevice result (H.faults host.old) (H.faults host.new) }
 {

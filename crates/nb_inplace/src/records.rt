@@ -1,6 +1,7 @@
 // The pages of a level file are written over those of a standby.
 ghost use Rattle.std.specs.Prelude.{◌≡◌, ◌≢◌, ◌<◌, ◌≤◌, [], ◌∷◌, IfOk, IsTrue, List, Ok, OnOk, Contains, length};
 ghost use Rattle.nb_change.specs.Changes.{Changes, Only, Moved};
+ghost use Rattle.nb_host.specs.Answers.{IsTaken};
 ghost use Rattle.nb_host.specs.Causes.{CountsDevice, CountsFault};
 ghost use Rattle.nb_change.specs.Gave.{GaveNothing};
 ghost use Rattle.nb_fields.specs.Places.{is_page_size, most_pages};
@@ -8,7 +9,7 @@ ghost use Rattle.nb_host.specs.Files.{bytes_of};
 ghost use Rattle.nb_model.specs.Image.{Numbered};
 ghost use Rattle.nb_level.specs.Reading.{still_to_come};
 ghost use Rattle.nb_restore.specs.Copied.{Overwrites};
-ghost use Rattle.nb_inplace.specs.Merging.{IsDoneBy, KeepsHalf, pages_with};
+ghost use Rattle.nb_inplace.specs.Merging.{KeepsHalf, pages_with};
 
 use nb_host::{Fault, Host, HostFault, Name};
 use nb_level::{Item, LevelReader};
@@ -53,7 +54,7 @@ pub(crate) fn write_records<H: Host>(
     ensures left { IsTrue H.tells → (records : List Numbered) → reader.old.name ≢ standby.now → still_to_come (bytes_of ((H.world host.old).files reader.old.name)) reader.old ≡ Ok records
         → Changes (H.world host.old) (H.world host.new) (Only standby.now) (Moved (H.world host.old) standby.now (KeepsHalf (length page.old) records)) }
     ensures pages { IsTrue H.tells → (records : List Numbered) → reader.old.name ≢ standby.now → still_to_come (bytes_of ((H.world host.old).files reader.old.name)) reader.old ≡ Ok records
-        → IsDoneBy result (λ count. (count ≡ pages_with records pages) × Overwrites (length page.old) records ((H.world host.old).files standby.now) ((H.world host.new).files standby.now) first.old first.new) }
+        → IsTaken result (λ count. (count ≡ pages_with records pages) × Overwrites (length page.old) records ((H.world host.old).files standby.now) ((H.world host.new).files standby.now) first.old first.new) }
     ensures most { IfOk result (λ count. count ≤ most_pages) }
     ensures gave { GaveNothing (H.world host.old) (H.world host.new) }
     ensures cause { CountsDevice result (H.faults host.old) (H.faults host.new) }

@@ -9,10 +9,6 @@ use Rattle.nb_model.proofs.StepLaws.{IsClear, IsReady}
 abbrev pub draft_cause : Draft → Cause
 draft_cause d = first_cause (not_of_form d ∷ no_room d ∷ [])
 
--- the refusal for a page that isn't of its kind
-abbrev pub need_cause : Option ℕ → Cause
-need_cause o = elim o [ Some q ↦ Some (NotDatabase q) | None ↦ None ]
-
 -- what is of its kind where a new page at p needs nothing more
 pub record Met (x : Image) (p : ℕ) : Type 0 where
   pub maps : (k : ℕ) → k ≤ p / bits_in (image_size x) → is_kind x inventory_kind (inventory_place (image_size x) k) ≡ true

@@ -1,11 +1,13 @@
 -- Why a statement is refused: tests in the order of its call, of which the first that applies decides.
-use Rattle.std.specs.Prelude.{ℕ, ◌/◌, ◌%◌, List, [], ◌∷◌, length, Option, Some, None, is_none, Result, Ok, Err, Bool, true, false, ◌&&◌, ◌||◌, ◌==◌, not, nat_le, nat_lt, min}
+use Rattle.std.specs.Prelude.{◌≡◌, ℕ, ◌/◌, ◌%◌, List, [], ◌∷◌, length, Option, Some, None, is_none, Result, Ok, Err, Bool, true, false, ◌&&◌, ◌||◌, ◌==◌, not, nat_le, nat_lt, min}
 use Rattle.nb_fields.specs.Page.{kind_of}
 use Rattle.nb_fields.specs.Header.{is_header, size_of}
 use Rattle.nb_fields.specs.Free.{is_free_file}
 use Rattle.nb_fields.specs.Payloads.{text_length}
 use Rattle.nb_fields.specs.Places.{most_pages}
 use Rattle.nb_fields.specs.Kinds.{inventory_kind, raw_kind}
+use Rattle.nb_host.specs.declared.faults.Fault.{Fault}
+use Rattle.nb_host.specs.declared.faults.Fault.TheVariants.{Refused, Device, Memory}
 use Rattle.nb_host.specs.declared.refusals.Refusal.{Refusal}
 use Rattle.nb_host.specs.declared.refusals.Refusal.TheVariants.{FileExists, NotDatabase, WrongState, PageRange, NotAllocated, SystemPage, Full, ScnExhausted, Access, TextLong, BackupRunning}
 use Rattle.nb_model.specs.Image.{Image, page_at, image_state, image_scn, is_read_only}
@@ -23,6 +25,13 @@ first_cause (c ∷ cs) = elim c [ None ↦ first_cause cs | Some refusal ↦ Som
 
 abbrev pub when : Bool → Refusal → Cause
 when test refusal = elim test [ true ↦ Some refusal | false ↦ None ]
+
+-- the refusal is the one that there is a cause for, and there is none at Ok
+abbrev pub Tested : {T : Type 0} → Result T Fault → Cause → Type 0
+Tested (Ok value) cause = cause ≡ None
+Tested (Err (Refused refusal)) cause = cause ≡ Some refusal
+Tested (Err Device) cause = Unit {0}
+Tested (Err Memory) cause = Unit {0}
 
 -- the database may not be changed
 abbrev pub read_only : Image → Cause

@@ -3,7 +3,7 @@ use Rattle.std.specs.Prelude.{ℕ, ◌-◌, List, [], ◌∷◌, Some, None, Res
 use Rattle.nb_fields.specs.Page.{stamp_of}
 use Rattle.nb_fields.specs.Header.{state_of, size_of, scn_of, guid_of, pending_of}
 use Rattle.nb_fields.specs.States.{stalled_state, merge_state, applying_state}
-use Rattle.nb_host.specs.Files.{Files, File}
+use Rattle.nb_host.specs.Files.{Files, File, bytes_of}
 use Rattle.nb_host.specs.Names.{same_name}
 use Rattle.nb_host.specs.declared.refusals.Refusal.{Refusal}
 use Rattle.nb_host.specs.declared.refusals.Refusal.TheVariants.{NoFile, WrongState, BadLevel, Unfinished, ChainGuid, ChainSize, ChainScn, Access}
@@ -61,14 +61,9 @@ not_standby name (Some bytes) = first_cause (
     ∷ when (state_of bytes == stalled_state || state_of bytes == merge_state) (WrongState (state_of bytes))
     ∷ [])
 
--- the bytes under a name that is there
-abbrev pub bytes_in : File → List ℕ
-bytes_in None = []
-bytes_in (Some bytes) = bytes
-
 -- the verdict on a merge in place: what the level file holds, or the first refusal
 unfoldable pub in_place : Files → (standby name : List ℕ) → Result Contents Refusal
 in_place files standby name = elim (not_standby standby (files standby)) [
   | Some refusal ↦ Err refusal
-  | None ↦ elim (files name) [ None ↦ Err (NoFile name) | Some bytes ↦ in_place_of (bytes_in (files standby)) name bytes ]
+  | None ↦ elim (files name) [ None ↦ Err (NoFile name) | Some bytes ↦ in_place_of (bytes_of (files standby)) name bytes ]
 ]

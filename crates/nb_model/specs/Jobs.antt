@@ -3,7 +3,7 @@
 use Rattle.std.specs.Prelude.{◌≡◌, ℕ, Bool, List, [], ◌∷◌, length, replicate, Option, Some, None, is_some, Ok, Err, true, false, not, ◌==◌}
 use Rattle.nb_fields.specs.Header.{state_of}
 use Rattle.nb_fields.specs.States.{stalled_state}
-use Rattle.nb_host.specs.Files.{File, Files}
+use Rattle.nb_host.specs.Files.{File, Files, bytes_of}
 use Rattle.nb_host.specs.declared.refusals.Refusal.{Refusal}
 use Rattle.nb_host.specs.declared.refusals.Refusal.TheVariants.{NoFile, WrongState, DeltaPresent}
 use Rattle.nb_model.specs.declared.job.Ask.{Ask}
@@ -22,7 +22,7 @@ use Rattle.nb_model.specs.Causes.{Cause, first_cause, when, not_database, not_fr
 use Rattle.nb_model.specs.Outcomes.{Given}
 use Rattle.nb_model.specs.Owner.{delta_name}
 use Rattle.nb_model.specs.Restoring.{verdict, applied}
-use Rattle.nb_model.specs.InPlace.{in_place, bytes_in}
+use Rattle.nb_model.specs.InPlace.{in_place}
 use Rattle.nb_model.specs.Run.{Event, account_after, with_made, IsRun}
 
 -- how many pages the cache of such a job holds
@@ -120,7 +120,7 @@ fixup_turn files db = elim (not_fixable db (files db) (files (delta_name db))) [
 unfoldable pub apply_turn : Files → (db name : List ℕ) → Event
 apply_turn files db name = elim (in_place files db name) [
   | Err refusal ↦ only_refusal refusal
-  | Ok c ↦ only_turn (Pages (length (merged c.pages (image_in (bytes_in (files db)))))) (merge c.pages ∷ [])
+  | Ok c ↦ only_turn (Pages (length (merged c.pages (image_in (bytes_of (files db)))))) (merge c.pages ∷ [])
 ]
 
 -- the turn of a deed on a database

@@ -25,6 +25,7 @@ pub use Rattle.nb_fields.specs.States.{applying_state, normal_state, stalled_sta
 pub use Rattle.nb_host.proofs.FileLaws.{passed}
 pub use Rattle.nb_host.proofs.NameLaws.{with_file-named}
 pub use Rattle.nb_host.proofs.PlainLaws.{err_not_ok, far_behind, not_false, not_lt, ok_same, some_none, some_same}
+pub use Rattle.nb_host.specs.Answers.{IsGiven}
 pub use Rattle.nb_host.specs.Calls.{AppendsBytes, IsStill, ReadsBytes, ReadsPage, Remakes, Syncs, WritesPage}
 pub use Rattle.nb_host.specs.Crash.{AppendLeft, IsDurable, Leaves, LeavesAll, PageLeft}
 unfoldable pub use Rattle.nb_host.specs.Files.{padded, put_at}
@@ -75,7 +76,7 @@ pub use Rattle.nb_restore.specs.Copied.{BeginsWith, Holds, IsDone, KeepsFront, O
 pub use Rattle.nb_restore.specs.Kept.{AreKept, AreLinksOf, GiveLast, GivesKept, HoldChain, HoldLevels, HoldsCopy, HoldsLevel, IsLinkOf, last_guid}
 pub use Rattle.nb_restore.specs.Plan.{IsAccepted, IsPrepared, PlanSays}
 pub use Rattle.nb_restore.specs.Restore.{RestoreAnswers, RestoreLeft, Restores, base_from}
-pub use Rattle.nb_restore.specs.Sources.{AreHeaded, AreOfPages, AreReady, AreSources, IsHeaded, IsLevel0, IsReady, IsSource, IsTaken}
+pub use Rattle.nb_restore.specs.Sources.{AreHeaded, AreOfPages, AreReady, AreSources, IsHeaded, IsLevel0, IsReady, IsSource}
 pub use Rattle.nb_restore.specs.Target.{IsFree, IsFreeOr, IsKept, IsPlan, IsUnfinishedPage, KeepsImage, ReadsOr, restored}
 pub use Rattle.std.proofs.Math.Seq.{drop-cons, take-add}
 pub use Rattle.std.proofs.lemmas.Bool.{and_from, and_parts, cases_eq, cases_lt, eqb-true, or_left, or_parts, or_right, true≢false}

@@ -1,6 +1,6 @@
 -- An accepted chain is read again as what it was, and gives a plan.
 use Rattle.std.proofs.Common.{◌≡◌, ◌≢◌, ℕ, ◌*◌, ◌≤◌, List, [], ◌∷◌, length, sym, ap, subst, ◌∙◌, arith, true, Some, Ok, Err, Contains}
-use Rattle.nb_restore.proofs.Common.{and_parts, is_free_file, is_header, size_of, size_facts, most_pages, Files, Fault, Refused, Device, Memory, HasForm, Page, first_page, cut, trimmed, joined, Link, whole_link, first_link, verdict, all_over, applied, IsOfSize, Pages, pages_of, cut-joined, Reading, over, IsDone, IsAccepted, IsPrepared, PlanSays, IsLevel0, AreSources, AreReady, IsTaken, IsPlan, IsUnfinishedPage, some_same, ok_same}
+use Rattle.nb_restore.proofs.Common.{and_parts, is_free_file, is_header, size_of, size_facts, most_pages, Files, Fault, Refused, Device, Memory, HasForm, Page, first_page, cut, trimmed, joined, Link, whole_link, first_link, verdict, all_over, applied, IsOfSize, Pages, pages_of, cut-joined, Reading, over, IsDone, IsAccepted, IsPrepared, PlanSays, IsLevel0, AreSources, AreReady, IsGiven, IsPlan, IsUnfinishedPage, some_same, ok_same}
 use Rattle.std.specs.Global.{Vec}
 use Rattle.nb_page.specs.Free.{is_free_name}
 use Rattle.nb_chain.specs.declared.first_file.First.{First}
@@ -10,10 +10,10 @@ use Rattle.nb_chain.proofs.StartLaws.{size_is}
 use Rattle.nb_restore.proofs.ChainLaws.{sources, IsSplit, split_chain, IsCopy, copy_of, copy_apart, page_0_header, page_0_size, all_apart}
 
 -- nothing but the device fails, and memory
-pub taken_fails : (T : Type 0) (P : T → Type 0) (files : Files) (target : List ℕ) (names : List (List ℕ)) (fault : Fault) → IsTaken {T = T} (Err fault) P → PlanSays files target names (Err fault)
-taken_fails T P files target names (Refused refusal) says = absurd says
-taken_fails T P files target names Device says = tt
-taken_fails T P files target names Memory says = tt
+pub given_fails : (T : Type 0) (P : T → Type 0) (files : Files) (target : List ℕ) (names : List (List ℕ)) (fault : Fault) → IsGiven {T = T} (Err fault) P → PlanSays files target names (Err fault)
+given_fails T P files target names (Refused refusal) says = absurd says
+given_fails T P files target names Device says = tt
+given_fails T P files target names Memory says = tt
 
 pub done_fails : (T P : Type 0) (files : Files) (target : List ℕ) (names : List (List ℕ)) (fault : Fault) → IsDone {T = T} (Err fault) P → PlanSays files target names (Err fault)
 done_fails T P files target names (Refused refusal) says = absurd says

@@ -1,6 +1,6 @@
 -- The level files of a chain are ready to be read again.
 use Rattle.std.proofs.Common.{◌≡◌, ℕ, suc, ◌+◌, ◌<◌, List, [], ◌∷◌, ◌++◌, length, drop, get_or, refl, sym, ap, subst, ◌∙◌, arith, append_assoc, Bool, IsTrue, Ok, Err}
-use Rattle.nb_restore.proofs.Common.{append-nil, drop-cons, File, Files, bytes_of, Fault, Refused, Device, Memory, Numbered, read_level, Link, StartSays, Reading, still_to_come, AreHeaded, IsSource, AreSources, IsReady, AreReady, AreOfPages, IsTaken, with_head-is, some_same}
+use Rattle.nb_restore.proofs.Common.{append-nil, drop-cons, File, Files, bytes_of, Fault, Refused, Device, Memory, Numbered, read_level, Link, StartSays, Reading, still_to_come, AreHeaded, IsSource, AreSources, IsReady, AreReady, AreOfPages, IsGiven, with_head-is, some_same}
 use Rattle.nb_level.specs.Heads.{head_of}
 use Rattle.nb_restore.proofs.HeadLaws.{level-headed}
 
@@ -66,7 +66,7 @@ module _ (files now : Files) (target : List ℕ) (size : ℕ) (links : List Link
   }
 
   -- or the device fails, or there is no memory
-  pub started_fails : (S T : Type 0) (P : Link → S → Type 0) (Q : T → Type 0) (fault : Fault) → ((link : Link) → IsSource now target name size link → IsTaken {T = S} (Err fault) (P link)) → IsTaken {T = T} (Err fault) Q
+  pub started_fails : (S T : Type 0) (P : Link → S → Type 0) (Q : T → Type 0) (fault : Fault) → ((link : Link) → IsSource now target name size link → IsGiven {T = S} (Err fault) (P link)) → IsGiven {T = T} (Err fault) Q
   started_fails S T P Q (Refused refusal) fails = fails next.link there
   started_fails S T P Q Device fails = tt
   started_fails S T P Q Memory fails = tt

@@ -1,10 +1,8 @@
 -- The files of a chain, as they are read again once it is accepted.
-use Rattle.std.specs.Prelude.{◌≡◌, ◌≢◌, ℕ, ◌≤◌, List, [], ◌∷◌, length, Some, Result, Ok, Err, true}
+use Rattle.std.specs.Prelude.{◌≡◌, ◌≢◌, ℕ, ◌≤◌, List, [], ◌∷◌, length, Some, Ok, true}
 use Rattle.nb_fields.specs.Header.{is_header, size_of}
 use Rattle.nb_fields.specs.Places.{most_pages}
 use Rattle.nb_host.specs.Files.{Files, bytes_of}
-use Rattle.nb_host.specs.declared.faults.Fault.{Fault}
-use Rattle.nb_host.specs.declared.faults.Fault.TheVariants.{Refused, Device, Memory}
 use Rattle.nb_model.specs.Image.{Page, Numbered, first_page}
 use Rattle.nb_model.specs.Levels.{Contents, joined, read_level}
 use Rattle.nb_model.specs.Sound.{IsOfSize}
@@ -64,10 +62,3 @@ AreReady files target size (l ∷ ls) (r ∷ rs) = IsReady files target size l r
 abbrev pub AreOfPages : (size : ℕ) → List Reading → Type 0
 AreOfPages size [] = Unit {0}
 AreOfPages size (r ∷ rs) = (r.head.page_size ≡ size) × AreOfPages size rs
-
--- it answers such a value; nothing is refused
-abbrev pub IsTaken : {T : Type 0} → Result T Fault → (T → Type 0) → Type 0
-IsTaken (Ok value) P = P value
-IsTaken (Err (Refused refusal)) P = ⊥
-IsTaken (Err Device) P = Unit {0}
-IsTaken (Err Memory) P = Unit {0}

@@ -1,8 +1,9 @@
 ghost use Rattle.std.specs.Prelude.{◌≡◌, ◌≤◌, ℕ, IsTrue, IfOk, List, length, drop};
+ghost use Rattle.nb_host.specs.Answers.{IsGiven};
 ghost use Rattle.nb_host.specs.Causes.{CountsDevice};
 ghost use Rattle.nb_model.specs.Restoring.{Link};
 ghost use Rattle.nb_page.specs.Quiet.{Quiet};
-ghost use Rattle.nb_restore.specs.Sources.{AreOfPages, AreReady, AreSources, IsReady, IsSource, IsTaken};
+ghost use Rattle.nb_restore.specs.Sources.{AreOfPages, AreReady, AreSources, IsReady, IsSource};
 
 use nb_host::{Fault, Host, Name, Refusal};
 use nb_level::LevelReader;
@@ -15,7 +16,7 @@ fn start_reader<H: Host>(
     name: &Name,
     page_size: u32,
 ) -> Result<LevelReader, Fault>
-    ensures ready { IsTrue H.tells → (target : List ℕ) (link : Link) → IsSource (H.world host.old).files target name.now page_size link → IsTaken result (IsReady (H.world host.old).files target page_size link) }
+    ensures ready { IsTrue H.tells → (target : List ℕ) (link : Link) → IsSource (H.world host.old).files target name.now page_size link → IsGiven result (IsReady (H.world host.old).files target page_size link) }
     ensures size { IfOk result (λ reader. reader.head.page_size ≡ page_size) }
     ensures quiet { Quiet (H.world host.old) (H.world host.new) }
     ensures cause { CountsDevice result (H.faults host.old) (H.faults host.new) }
@@ -41,7 +42,7 @@ pub(crate) fn start_readers<H: Host>(
 ) -> Result<Vec<LevelReader>, Fault>
     requires { length files.now ≤ 10 }
     ensures ready { IsTrue H.tells → (target : List ℕ) (links : List Link) → AreSources (H.world host.old).files target (drop 1 files.now) page_size links
-        → IsTaken result (λ readers. AreReady (H.world host.old).files target page_size links readers.items) }
+        → IsGiven result (λ readers. AreReady (H.world host.old).files target page_size links readers.items) }
     ensures size { IfOk result (λ readers. AreOfPages page_size readers.items) }
     ensures quiet { Quiet (H.world host.old) (H.world host.new) }
     ensures cause { CountsDevice result (H.faults host.old) (H.faults host.new) }

@@ -5,7 +5,7 @@ use Rattle.sha2.specs.Sha256.{sha256}
 use Rattle.nb_host.specs.declared.faults.Fault.{Fault}
 use Rattle.nb_model.specs.declared.reply.Reply.TheVariants.{Refused}
 use Rattle.nb_model.specs.Outcomes.{Seen, says}
-use Rattle.nb_state.specs.Does.{Tested}
+use Rattle.nb_model.specs.Causes.{Tested}
 use Rattle.nb_alloc.proofs.CauseLaws.{unless_refused, unless_allowed}
 
 -- the same test, by the page size

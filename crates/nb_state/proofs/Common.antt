@@ -36,7 +36,7 @@ pub use Rattle.nb_model.proofs.TrailLaws.{trail_base}
 pub use Rattle.nb_model.proofs.TurnCases.{one_cause}
 pub use Rattle.nb_model.specs.Account.{Ask, Base, base_of}
 unfoldable pub use Rattle.nb_model.specs.Causes.{first_cause}
-pub use Rattle.nb_model.specs.Causes.{Cause, no_scn, not_state, runs_other, when}
+pub use Rattle.nb_model.specs.Causes.{Cause, Tested, no_scn, not_state, runs_other, when}
 unfoldable pub use Rattle.nb_model.specs.Image.{image_in, trimmed}
 pub use Rattle.nb_model.specs.Image.{Image, Page, first_page, image_guid, image_scn, image_size, image_state, page_at}
 unfoldable pub use Rattle.nb_model.specs.Owner.{owner}
@@ -49,7 +49,7 @@ pub use Rattle.nb_owner.proofs.WaitLaws.{files_open, files_shown, open_of, open_
 pub use Rattle.nb_owner.specs.Open.{AreOf, Pages, but_drafts}
 pub use Rattle.nb_page.proofs.QuietLaws.{quiet_begun, quiet_joined}
 pub use Rattle.nb_page.specs.Quiet.{Quiet}
-pub use Rattle.nb_state.specs.Does.{Goes, Makes, Tested, WhereEnded, unless_by}
+pub use Rattle.nb_state.specs.Does.{Goes, Makes, WhereEnded, unless_by}
 pub use Rattle.nb_state.specs.Looks.{Looks}
 pub use Rattle.nb_state.specs.Open.{AgreesWith, HasBlock, Held, IsOpen, NoPageWaits, but_pages, name_of, pair_of}
 pub use Rattle.nb_state.specs.Turns.{Begins, Ends, Merges, begin_cause, end_cause}

@@ -15,13 +15,6 @@ use Rattle.nb_change.specs.Gave.{GaveNothing}
 use Rattle.nb_base.specs.Takes.{Strikes, after_strokes}
 use Rattle.nb_state.specs.Open.{Held, IsOpen, name_of}
 
--- the refusal is the one that there is a cause for, and there is none at Ok
-abbrev pub Tested : {T : Type 0} → Result T Fault → Cause → Type 0
-Tested (Ok value) cause = cause ≡ None
-Tested (Err (Refused refusal)) cause = cause ≡ Some refusal
-Tested (Err Device) cause = Unit {0}
-Tested (Err Memory) cause = Unit {0}
-
 -- what is answered is the reply; a failure says nothing of it
 abbrev pub Answers : {T : Type 0} → (T → Reply) → Result T Fault → Option Reply → Type 0
 Answers reply (Ok value) said = said ≡ Some (reply value)

@@ -11,7 +11,7 @@ use Rattle.nb_page.specs.Quiet.{Quiet}
 use Rattle.nb_change.specs.Gave.{GaveNothing}
 use Rattle.nb_model.specs.Account.{Ask}
 use Rattle.nb_model.specs.Image.{Image, image_state, image_scn}
-use Rattle.nb_model.specs.Causes.{Cause, first_cause, when, not_state, no_scn, runs_other}
+use Rattle.nb_model.specs.Causes.{Cause, Tested, first_cause, when, not_state, no_scn, runs_other}
 use Rattle.nb_model.specs.Pages.{end_strokes, end_scn}
 use Rattle.nb_model.specs.Strokes.{begin, finish}
 use Rattle.nb_model.specs.Owner.{delta_name}
@@ -19,7 +19,7 @@ use Rattle.nb_model.specs.Trail.{Trail}
 use Rattle.nb_base.specs.Merging.{PutsPage}
 use Rattle.nb_base.specs.Takes.{Strikes, after_strokes}
 use Rattle.nb_state.specs.Open.{Held, IsOpen, name_of}
-use Rattle.nb_state.specs.Does.{Tested, WhereRefused, unless_by}
+use Rattle.nb_state.specs.Does.{WhereRefused, unless_by}
 use Rattle.nb_state.specs.declared.turns.Progress.{Progress}
 use Rattle.nb_state.specs.declared.turns.Progress.TheVariants.{More, Finished}
 

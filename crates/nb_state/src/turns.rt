@@ -10,7 +10,7 @@ ghost use Rattle.nb_model.specs.Strokes.{begin as begin_stroke, ends as ends_str
 ghost use Rattle.nb_model.specs.Trail.{Trail};
 ghost use Rattle.nb_base.specs.Takes.{Takes};
 ghost use Rattle.nb_state.specs.Open.{IsOpen, name_of};
-ghost use Rattle.nb_state.specs.Does.{Tested};
+ghost use Rattle.nb_model.specs.Causes.{Tested};
 ghost use Rattle.nb_state.specs.Turns.{Begins, Ends, Merges, GaveAtMost, GoesOn, PutsOn, begin_cause, end_cause};
 
 use crate::Store;

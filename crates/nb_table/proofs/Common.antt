@@ -43,7 +43,7 @@ pub use Rattle.nb_model.proofs.TableTurns.{name_short, table_length}
 pub use Rattle.nb_model.proofs.TurnCases.{is_so, no_cause, one_cause}
 pub use Rattle.nb_model.proofs.WholeLaws.{when_false}
 unfoldable pub use Rattle.nb_model.specs.Causes.{first_cause, lowest_broken}
-pub use Rattle.nb_model.specs.Causes.{Cause, broken_at, lowest_of, no_room, not_kind, not_of_form, read_only, short_for, too_long, too_short, when}
+pub use Rattle.nb_model.specs.Causes.{Cause, Tested, broken_at, lowest_of, no_room, not_kind, not_of_form, read_only, short_for, too_long, too_short, when}
 unfoldable pub use Rattle.nb_model.specs.Chains.{first_such, found_pages, free_spot, grown, is_in_chain, is_slot, pages_of, place_slot, put_slot, row_slot, row_spot, slots_from, slots_in, spots, spots_of, spots_on, table_slot, table_spot, walk}
 pub use Rattle.nb_model.specs.Chains.{Catalogue, Chain, RowsFrom, Slot, Spot, first_in, first_of, free_slot, is_filled, is_used, key_of, last_of, length_in, next_in, owner_in, owner_of, text_in}
 unfoldable pub use Rattle.nb_model.specs.Forms.{is_kind, needs, other_kind, put, set_bit, with_bit}
@@ -63,7 +63,7 @@ pub use Rattle.nb_page.specs.Quiet.{Quiet}
 pub use Rattle.nb_state.proofs.LooksLaws.{looks_begun, looks_then}
 pub use Rattle.nb_state.proofs.MakesLaws.{goes_nowhere, goes_on, makes_after, makes_front, makes_none, makes_then}
 pub use Rattle.nb_state.proofs.TurnLaws.{unless_none}
-pub use Rattle.nb_state.specs.Does.{Does, Goes, Makes, Tested}
+pub use Rattle.nb_state.specs.Does.{Does, Goes, Makes}
 pub use Rattle.nb_state.specs.Looks.{Looks}
 pub use Rattle.nb_state.specs.Open.{Held, IsOpen, but_pages}
 pub use Rattle.nb_table.specs.Creates.{created_behind, created_in, first_made, new_cause}

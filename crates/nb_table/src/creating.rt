@@ -13,7 +13,8 @@ ghost use Rattle.nb_engine.specs.Replies.{done};
 ghost use Rattle.nb_engine.specs.Tries.{Tries};
 ghost use Rattle.nb_state.specs.Open.{IsOpen};
 ghost use Rattle.nb_state.specs.Looks.{Looks};
-ghost use Rattle.nb_state.specs.Does.{Tested, Does, Goes};
+ghost use Rattle.nb_model.specs.Causes.{Tested};
+ghost use Rattle.nb_state.specs.Does.{Does, Goes};
 ghost use Rattle.nb_table.specs.Creates.{IsLastOf, created_in, created_behind, new_cause};
 ghost use Rattle.nb_table.specs.Walks.{IsPlaced, place_at};
 

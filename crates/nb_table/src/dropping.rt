@@ -7,7 +7,7 @@ ghost use Rattle.nb_host.specs.declared.refusals.Refusal.TheVariants.{NotDatabas
 ghost use Rattle.nb_model.specs.Chains.{RowsFrom, first_in, next_in, pages_of};
 ghost use Rattle.nb_model.specs.Forms.{drafted, give_page};
 ghost use Rattle.nb_model.specs.Image.{page_at};
-ghost use Rattle.nb_model.specs.Causes.{lowest_broken, not_of_form};
+ghost use Rattle.nb_model.specs.Causes.{Tested, lowest_broken, not_of_form};
 ghost use Rattle.nb_model.specs.Outcomes.{Seen};
 ghost use Rattle.nb_model.specs.Tables.{all_given, drop_turn};
 ghost use Rattle.nb_model.specs.Trail.{Trail};
@@ -20,7 +20,7 @@ ghost use Rattle.nb_engine.specs.Replies.{done};
 ghost use Rattle.nb_engine.specs.Tries.{Tries};
 ghost use Rattle.nb_state.specs.Open.{IsOpen};
 ghost use Rattle.nb_state.specs.Looks.{Looks};
-ghost use Rattle.nb_state.specs.Does.{Tested, Does, Goes};
+ghost use Rattle.nb_state.specs.Does.{Does, Goes};
 ghost use Rattle.nb_table.specs.Drops.{IsWholeTable, IsGivable, dropped, drop_broken};
 ghost use Rattle.nb_table.specs.Walks.{spot_of, IsPlaced};
 

@@ -6,7 +6,7 @@ ghost use Rattle.std.specs.BTreeMap.{get, insert_entry};
 ghost use Rattle.nb_fields.specs.Places.{is_page_size};
 ghost use Rattle.nb_host.specs.declared.faults.Fault.TheVariants.{Memory};
 ghost use Rattle.nb_host.specs.Causes.{CountsDevice};
-ghost use Rattle.nb_model.specs.Causes.{broken_at};
+ghost use Rattle.nb_model.specs.Causes.{Tested, broken_at};
 ghost use Rattle.nb_model.specs.Chains.{RowsFrom, Spot, is_slot, slots_in, spots_on, pages_of, spots};
 ghost use Rattle.nb_model.specs.Outcomes.{Seen};
 ghost use Rattle.nb_model.specs.Rows.{rows_in};
@@ -16,7 +16,7 @@ ghost use Rattle.nb_model.specs.declared.reply.Reply.TheVariants.{Rows};
 ghost use Rattle.nb_engine.specs.Replies.{valued};
 ghost use Rattle.nb_state.specs.Open.{IsOpen};
 ghost use Rattle.nb_state.specs.Looks.{Looks};
-ghost use Rattle.nb_state.specs.Does.{Does, Goes, Tested};
+ghost use Rattle.nb_state.specs.Does.{Does, Goes};
 
 use crate::LARGEST_PAGE;
 use crate::slots::{key_of, text_of};

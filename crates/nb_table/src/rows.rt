@@ -3,12 +3,11 @@ ghost use Rattle.std.specs.Prelude.{◌≡◌, ◌<◌, ◌≤◌, ℕ, Some, Is
 ghost use Rattle.nb_fields.specs.Places.{most_pages};
 ghost use Rattle.nb_host.specs.Causes.{CountsDevice};
 ghost use Rattle.nb_model.specs.Image.{Image, is_read_only};
-ghost use Rattle.nb_model.specs.Causes.{read_only, too_long};
+ghost use Rattle.nb_model.specs.Causes.{Tested, read_only, too_long};
 ghost use Rattle.nb_model.specs.Chains.{RowsFrom, found_pages, spots, last_of, first_in, table_spot};
 ghost use Rattle.nb_model.specs.Trail.{Trail};
 ghost use Rattle.nb_state.specs.Open.{IsOpen};
 ghost use Rattle.nb_state.specs.Looks.{Looks};
-ghost use Rattle.nb_state.specs.Does.{Tested};
 ghost use Rattle.nb_table.specs.declared.look.Sought.TheVariants.{Row};
 ghost use Rattle.nb_table.specs.Rows.{rows_cause};
 ghost use Rattle.nb_table.specs.Walks.{spot_of, gathered, IsPlaced};

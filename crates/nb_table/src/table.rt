@@ -3,12 +3,11 @@ ghost use Rattle.std.specs.Prelude.{◌≡◌, ◌≢◌, ◌≤◌, IsTrue, IfE
 ghost use Rattle.nb_host.specs.declared.faults.Fault.TheVariants.{Memory};
 ghost use Rattle.nb_host.specs.declared.refusals.Refusal.TheVariants.{NoTable, NoKey};
 ghost use Rattle.nb_host.specs.Causes.{CountsDevice};
-ghost use Rattle.nb_model.specs.Causes.{first_cause, broken_at, when};
+ghost use Rattle.nb_model.specs.Causes.{Tested, first_cause, broken_at, when};
 ghost use Rattle.nb_model.specs.Chains.{Catalogue, RowsFrom, pages_of, spots, table_spot, row_spot, length_in};
 ghost use Rattle.nb_model.specs.Trail.{Trail};
 ghost use Rattle.nb_state.specs.Open.{IsOpen};
 ghost use Rattle.nb_state.specs.Looks.{Looks};
-ghost use Rattle.nb_state.specs.Does.{Tested};
 ghost use Rattle.nb_table.specs.Walks.{spot_of, IsPlaced};
 
 use crate::look::{Found, Sought};

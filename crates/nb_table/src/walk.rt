@@ -5,12 +5,11 @@ ghost use Rattle.nb_fields.specs.Places.{is_page_size, most_pages};
 ghost use Rattle.nb_host.specs.declared.faults.Fault.TheVariants.{Memory};
 ghost use Rattle.nb_host.specs.Causes.{CountsDevice};
 ghost use Rattle.nb_model.specs.Image.{page_at};
-ghost use Rattle.nb_model.specs.Causes.{broken_at};
+ghost use Rattle.nb_model.specs.Causes.{Tested, broken_at};
 ghost use Rattle.nb_model.specs.Chains.{Spot, is_slot, is_filled, slots_in, spots_on, spots_of, next_in, pages_of, found_pages, spots, last_of};
 ghost use Rattle.nb_model.specs.Trail.{Trail};
 ghost use Rattle.nb_state.specs.Open.{IsOpen};
 ghost use Rattle.nb_state.specs.Looks.{Looks};
-ghost use Rattle.nb_state.specs.Does.{Tested};
 ghost use Rattle.nb_table.specs.Walks.{chain_of, gathered, IsPlaced};
 ghost use Rattle.nb_walk.specs.Walks.{not_linked};
 

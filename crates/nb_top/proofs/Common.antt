@@ -77,7 +77,7 @@ pub use Rattle.nb_model.specs.Going.{IsGoing, IsMaking, IsNamed}
 unfoldable pub use Rattle.nb_model.specs.Image.{image_in}
 pub use Rattle.nb_model.specs.Image.{Image, Page, first_page, image_guid, image_scn, image_size, image_state}
 unfoldable pub use Rattle.nb_model.specs.InPlace.{in_place, in_place_of, not_finishing, not_mergeable, not_next, not_standby, written_since}
-pub use Rattle.nb_model.specs.InPlace.{bytes_in, other_pages}
+pub use Rattle.nb_model.specs.InPlace.{other_pages}
 unfoldable pub use Rattle.nb_model.specs.Jobs.{account_behind, all_sized, apply_turn, fixup_turn, not_fixable, restore_turn, turn_of}
 pub use Rattle.nb_model.specs.Jobs.{IsAttaching, asks_of, asks_size, only_refusal, only_turn, quiet, refusal_in, sized}
 unfoldable pub use Rattle.nb_model.specs.Levels.{begins_level, file_for, level_bytes, read_level, taken_from}
@@ -150,8 +150,8 @@ pub use Rattle.nb_state.proofs.ShownLaws.{shown, shown_settled}
 pub use Rattle.nb_state.specs.Beginnings.{Attaches, CreateAnswers, Creates, IsAttached}
 pub use Rattle.nb_state.specs.Open.{Held, IsOpen, NoPageWaits, name_of}
 pub use Rattle.nb_top.specs.ByTurns.{AskedByTurns, EndsEarly, ReadByTurns, RunByTurns, RunsOpened, ScriptByTurns, TakesTold, TurnsFrom, WrittenByTurns}
+pub use Rattle.nb_top.specs.Ends.{EndsAs}
 pub use Rattle.nb_top.specs.Goes.{Goes, IsDone}
-pub use Rattle.nb_top.specs.Numbers.{EndsAs, number_of}
 pub use Rattle.nb_top.specs.OneTurn.{AreOfKept, DoesTurn, FileLeft, FitsDeed, HoldsSpan, IsAsWas, IsDoneFor, IsOnItsWay, OfName, OneTurn, Read, TakesFiles, TakesKept, TurnEnded, TurnLeft, TurnStands, Was, behind, fixing, folding, leaves_all, merging, one_turn, planning, restoring}
 pub use Rattle.nb_top.specs.Performed.{EndsIn, Finished, GoesTo, HasSmallScn, HoldsUnder, IsEnded, IsFileRead, IsPerformed, IsReadRun, IsScriptRun, IsSure, IsUnasked, IsUnbegun, IsUndone, IsWrittenRun, Knows, KnowsAsked, KnowsNames, KnowsOpened, MayBeGiven, Performs, PerformsRun, PlaysOpened, PlaysTold, ReadsAsked, RunLeft, RunReads, RunStands, RunsTo, StandsAfter, StandsAsked, Target, begins_refused, cache_asked, first_event, is_all, kept_after, only_opens, opened_reply, pages_first, played_behind, refused_at, refused_job, run_in, script_made, seen_after, target_asked, target_named, target_of, told, told_first, told_later, told_turns}
 pub use Rattle.nb_top.specs.Requests.{Asked, Does, FitsAsk, FitsJob, IsAskedBy, IsReadJob, Request, Runs, ToGenerate, ToRun, attached, plan_of, request_asked, request_of, script_in, to_plan, to_run}
@@ -160,6 +160,7 @@ pub use Rattle.nb_top.specs.Shown.{BreaksAt, IfShown, IsShownOf}
 pub use Rattle.nb_top.specs.Standing.{HoldsKept, NextMayBegin, StandsFor}
 pub use Rattle.nb_top.specs.Touched.{AsksToMake, MayTouch, OfAsked, OfTarget, ReadMakes, SaysRefusal, TouchesOnly, ends_refused}
 pub use Rattle.nb_top.specs.Worlds.{AreCopies, ArePlain, HaveNames, LeaveNames, NameNone, StartsFrom, account_of, empty, no_files}
+pub use Rattle.nb_ended.specs.Numbers.{number_of}
 pub use Rattle.nb_ended.specs.declared.status.Status.{Status}
 pub use Rattle.nb_ended.specs.declared.status.Status.TheVariants.{Done}
 pub use Rattle.nb_top.specs.declared.telling.Telling.{Telling}

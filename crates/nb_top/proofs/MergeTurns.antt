@@ -1,6 +1,6 @@
 -- The one turn of a merge in place: what it must be, and what stands after it.
 use Rattle.std.proofs.Common.{◌≡◌, ◌≢◌, ℕ, List, [], ◌∷◌, length, true, false, refl, sym, ap, subst, ◌∙◌, Bool, ◌==◌, nat_lt, None, Some, Result, Ok, Err}
-use Rattle.nb_top.proofs.Common.{state_of, stamp_of, applying_state, File, Files, Refusal, Usage, NoFile, BadLevel, ChainScn, Pages, Account, Cause, Page, image_in, bytes_in, in_place, in_place_of, not_finishing, not_mergeable, not_next, not_standby, other_pages, written_since, only_turn, only_refusal, apply_turn, account_behind, Contents, read_level, Event, account_after, with_made, merge, merged, IsOther, other_first, other_when, other_database, IsMergeable, none_other, err_ok}
+use Rattle.nb_top.proofs.Common.{state_of, stamp_of, applying_state, File, Files, Refusal, Usage, NoFile, BadLevel, ChainScn, Pages, Account, Cause, Page, image_in, bytes_of, in_place, in_place_of, not_finishing, not_mergeable, not_next, not_standby, other_pages, written_since, only_turn, only_refusal, apply_turn, account_behind, Contents, read_level, Event, account_after, with_made, merge, merged, IsOther, other_first, other_when, other_database, IsMergeable, none_other, err_ok}
 use Rattle.nb_top.proofs.ChainRefusals.{some_other, IsFine, by_cause}
 
 -- the turn that merges what a level file holds into a standby
@@ -49,13 +49,13 @@ merge_fine files db name = by (not_standby db (files db)) (standby_other db (fil
     of_level bytes (Err at) = λ e. cc
     of_level bytes (Ok c) = by_cause (not_mergeable bytes name c) c (mergeable_other bytes name c)
 
-    of_file : (file : File) → IsFine (elim file as (λ z. Result Contents Refusal) [ None ↦ Err (NoFile name) | Some bytes ↦ in_place_of (bytes_in (files db)) name bytes ])
+    of_file : (file : File) → IsFine (elim file as (λ z. Result Contents Refusal) [ None ↦ Err (NoFile name) | Some bytes ↦ in_place_of (bytes_of (files db)) name bytes ])
     of_file None = λ e. cc
-    of_file (Some bytes) = of_level (bytes_in (files db)) (read_level bytes)
+    of_file (Some bytes) = of_level (bytes_of (files db)) (read_level bytes)
 
     by : (cause : Cause) → IsOther cause → IsFine (elim cause as (λ z. Result Contents Refusal) [
       | Some refusal ↦ Err refusal
-      | None ↦ elim (files name) as (λ z. Result Contents Refusal) [ None ↦ Err (NoFile name) | Some bytes ↦ in_place_of (bytes_in (files db)) name bytes ]
+      | None ↦ elim (files name) as (λ z. Result Contents Refusal) [ None ↦ Err (NoFile name) | Some bytes ↦ in_place_of (bytes_of (files db)) name bytes ]
     ])
     by (Some refusal) other = λ e. other (ap (λ (x : Refusal). Some x) e)
     by None other = of_file (files name)
@@ -74,12 +74,12 @@ module _ (files : Files) (db name : List ℕ) where
   unfolding apply_turn
   refused_turn refusal why = rw (why, apply_turn) refl
 
-  accepted_turn : (c : Contents) → in_place files db name ≡ Ok c → apply_turn files db name ≡ merged_turn (bytes_in (files db)) c
+  accepted_turn : (c : Contents) → in_place files db name ≡ Ok c → apply_turn files db name ≡ merged_turn (bytes_of (files db)) c
   unfolding apply_turn
   accepted_turn c accepted = rw (accepted, apply_turn) refl
 
   pub done_turn : (bytes : List ℕ) (c : Contents) → IsMergeable files db name bytes c → apply_turn files db name ≡ merged_turn bytes c
-  done_turn bytes c m = accepted_turn c m.accepted ∙ ap (λ (f : File). merged_turn (bytes_in f) c) m.there
+  done_turn bytes c m = accepted_turn c m.accepted ∙ ap (λ (f : File). merged_turn (bytes_of f) c) m.there
 
   pub turn_is : MergeTurn files db name
   turn_is = by (in_place files db name) refl

@@ -1,5 +1,5 @@
 pub mod Requests
-pub mod Numbers
+pub mod Ends
 pub mod Standing
 pub mod OneTurn
 pub mod Served

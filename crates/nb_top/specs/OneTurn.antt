@@ -39,9 +39,9 @@ use Rattle.nb_inplace.specs.Verdict.{IsMergeable}
 use Rattle.nb_restore.specs.Kept.{AreKept, last_guid}
 use Rattle.nb_restore.specs.Restore.{base_from}
 use Rattle.nb_session.specs.Stops.{IsSaid}
+use Rattle.nb_ended.specs.Numbers.{number_of}
 use Rattle.nb_ended.specs.declared.status.Status.{Status}
 use Rattle.nb_ended.specs.declared.status.Status.TheVariants.{Device, Memory}
-use Rattle.nb_top.specs.Numbers.{number_of}
 use Rattle.nb_top.specs.Standing.{HoldsKept, StandsFor}
 
 -- A job of one turn.

@@ -51,11 +51,11 @@ use Rattle.nb_state.specs.Does.{only_tells}
 use Rattle.nb_session.specs.Replies.{is_refusal, only_told}
 use Rattle.nb_session.specs.Acts.{MadeLeft, AreKept as AreFilesKept}
 use Rattle.nb_session.specs.Stops.{IsSaid, IsFront, AreWhole, Plays}
+use Rattle.nb_ended.specs.Numbers.{number_of}
 use Rattle.nb_ended.specs.declared.status.Status.{Status}
 use Rattle.nb_ended.specs.declared.status.Status.TheVariants.{Device, Memory}
 use Rattle.nb_top.specs.declared.telling.Telling.{Telling}
 use Rattle.nb_top.specs.declared.telling.Telling.TheVariants.{All, Quietly, WithSize, Sparingly}
-use Rattle.nb_top.specs.Numbers.{number_of}
 use Rattle.nb_top.specs.OneTurn.{DoesTurn, one_turn}
 use Rattle.nb_top.specs.Requests.{Request, ToRun, ToGenerate, Asked, Runs, Does, script_in}
 use Rattle.nb_top.specs.Served.{TurnsTo}
@@ -365,13 +365,6 @@ GoesTo result old new (Does deed) account given = TurnsTo result old new (one_tu
 abbrev pub Performs : (status : Status) (old new : World) → Asked → Account → Given → Type 0
 Performs status old new (Runs asked) account given = PerformsRun status old new asked account given
 Performs status old new (Does deed) account given = DoesTurn status old new (one_turn old.files deed) account
-
--- what is read is the script, or why there is none; a failure says nothing of it
-abbrev pub IsRead : Result Plan Fault → Result Plan Refusal → Type 0
-IsRead (Ok plan) meant = meant ≡ Ok plan
-IsRead (Err (RefusedFault refusal)) meant = meant ≡ Err refusal
-IsRead (Err DeviceFault) meant = Unit
-IsRead (Err MemoryFault) meant = Unit
 
 -- what is said of a database of so many pages, in that state, that a first statement has created or opened
 abbrev pub opened_reply : (first : Statement) (pages state : ℕ) → Reply

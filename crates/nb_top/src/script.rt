@@ -24,7 +24,8 @@ ghost use Rattle.nb_session.specs.Says.{SaysLine};
 ghost use Rattle.nb_session.specs.Told.{told_events};
 ghost use Rattle.nb_top.specs.ByTurns.{RunsOpened, TakesTold};
 ghost use Rattle.nb_top.specs.Performed.{cache_asked, first_event, is_all, opened_reply, told_first, told_later};
-ghost use Rattle.nb_top.specs.Numbers.{EndsAs, number_of};
+ghost use Rattle.nb_ended.specs.Numbers.{number_of};
+ghost use Rattle.nb_top.specs.Ends.{EndsAs};
 ghost use Rattle.nb_top.specs.Goes.{Goes};
 ghost use Rattle.nb_top.specs.Requests.{Runs, ToRun};
 

@@ -9,7 +9,7 @@ ghost use Rattle.nb_model.specs.Chains.{is_slot, slots_in, next_in};
 ghost use Rattle.nb_model.specs.Trail.{Trail};
 ghost use Rattle.nb_state.specs.Open.{IsOpen};
 ghost use Rattle.nb_state.specs.Looks.{Looks};
-ghost use Rattle.nb_state.specs.Does.{Tested};
+ghost use Rattle.nb_model.specs.Causes.{Tested};
 ghost use Rattle.nb_walk.specs.Walks.{chain_by, not_linked};
 
 use crate::chain::Chain;

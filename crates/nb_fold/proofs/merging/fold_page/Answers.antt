@@ -1,7 +1,6 @@
 use Rattle.std.proofs.Common.{refl, ap, arith, Bool}
-use Rattle.nb_fold.proofs.Common.{LevelWriting, IsUnfinished, IsTaken, passed}
+use Rattle.nb_fold.proofs.Common.{LevelWriting, IsUnfinished, IsTaken, fails_alike, passed}
 use Rattle.nb_fold.proofs.MergeLaws.{falls_by, folds_end, folds_on, makes_none, makes_quiet, may_take, waits_mid}
-use Rattle.nb_fold.proofs.PassLaws.{fails_alike}
 use Rattle.nb_fold.proofs.merging.fold_page.Goals as goal
 
 pub returns-in-None-clause-folds : goal.returns-in-None-clause-folds

@@ -1,7 +1,6 @@
 use Rattle.std.proofs.Common.{ℕ, List, refl, ap, subst, ◌∙◌, arith, Bool}
-use Rattle.nb_fold.proofs.Common.{gave_begun, nothing_joined, LevelWriting, IsUnfinished, FallsOn, FoldsOn, Makes, AreOfPages, IsTaken, passed}
+use Rattle.nb_fold.proofs.Common.{gave_begun, nothing_joined, LevelWriting, IsUnfinished, FallsOn, FoldsOn, Makes, AreOfPages, IsTaken, fails_alike, passed}
 use Rattle.nb_fold.proofs.MergeLaws.{makes_none, makes_then}
-use Rattle.nb_fold.proofs.PassLaws.{fails_alike}
 use Rattle.nb_fold.proofs.merging.merge.Goals as goal
 
 pub loop-init : goal.loop-init

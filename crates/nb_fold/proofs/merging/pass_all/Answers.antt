@@ -1,7 +1,7 @@
 use Rattle.std.proofs.Common.{◌+◌, ◌≤◌, List, get_or, refl, sym, ap, subst, ◌∙◌, arith, Err}
-use Rattle.nb_fold.proofs.Common.{take_all, Files, quiet_begun, quiet_joined, Held, IsTaken, Waits, rest_after, counts_at, due, passed}
+use Rattle.nb_fold.proofs.Common.{take_all, Files, quiet_begun, quiet_joined, Held, IsTaken, Waits, rest_after, counts_at, due, fails_alike, passed}
 use Rattle.nb_host.specs.Causes.{CountsDevice}
-use Rattle.nb_fold.proofs.PassLaws.{found, passed_all, due_set, pages_set, apart_set, behind_still, counts_upto, counts_front, fails_alike}
+use Rattle.nb_fold.proofs.PassLaws.{found, passed_all, due_set, pages_set, apart_set, behind_still, counts_upto, counts_front}
 use Rattle.nb_fold.proofs.merging.pass_all.Goals as goal
 
 pub loop-place-init : goal.loop-place-init

@@ -1,8 +1,8 @@
 use Rattle.std.proofs.Common.{◌≡◌, ℕ, List, [], ◌∷◌, length, refl, ap, ◌∙◌, replicate, IsTrue}
-use Rattle.nb_inplace.proofs.Common.{with_part, Page, Numbered, standby_page, IsDoneBy, KeepsMerged, IsDurable, IsPlan, passed}
+use Rattle.nb_inplace.proofs.Common.{with_part, Page, Numbered, standby_page, IsTaken, KeepsMerged, IsDurable, IsPlan, passed}
 use Rattle.nb_fields.specs.Bytes.{bytes_of}
+use Rattle.nb_host.proofs.AnswerLaws.{fails_alike}
 use Rattle.nb_inplace.proofs.MergeLaws.{begun_on, records_on, level_there, counted_on, written, part_left, ended_on, ended_kept, IsWritten}
-use Rattle.nb_inplace.proofs.RecordLaws.{fails_so}
 use Rattle.nb_inplace.proofs.merging.merge.Goals as goal
 use Rattle.nb_inplace.proofs.merging.merge.Goals.{After-put-3}
 
@@ -28,8 +28,8 @@ returns-in_err-pages-clause-done g c tells guid ps records plan durable =
     let first = begun_on old _ _ _ _ _ _ _ _ _ c.requires.size plan _ was (c.in_ok-begin.ensures.left tells durable) in
     let kept = c.in_ok-begin.ensures.done tells durable in
     let there = level_there old _ _ _ _ _ _ _ _ _ c.requires.size plan _ first kept in
-    passed ℕ (λ r. IsDoneBy r (KeepsMerged (g.H.Host.world c.write_records.new.host) c.args.standby.now (length c.args.page.now) records ps)) c.from_residual-in_err-pages.result c.in_err-pages.field-0.0 c.from_residual-in_err-pages.ensures
-    (fails_so _ _ _ (c.in_err-pages.ensures.pages tells records plan.level.apart there))
+    passed ℕ (λ r. IsTaken r (KeepsMerged (g.H.Host.world c.write_records.new.host) c.args.standby.now (length c.args.page.now) records ps)) c.from_residual-in_err-pages.result c.in_err-pages.field-0.0 c.from_residual-in_err-pages.ensures
+    (fails_alike _ _ _ (c.in_err-pages.ensures.pages tells records plan.level.apart there))
 
 pub returns-in_err-count-clause-left : goal.returns-in_err-count-clause-left
 returns-in_err-count-clause-left g c tells guid ps records plan durable =

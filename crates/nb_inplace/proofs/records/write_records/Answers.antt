@@ -1,5 +1,5 @@
 use Rattle.std.proofs.Common.{◌≡◌, ℕ, List, length, refl, ap, subst, ◌∙◌, arith, Contains}
-use Rattle.nb_inplace.proofs.Common.{Files, World, Changes, Only, Moved, gave_begun, nothing_joined, Numbered, Reading, Overwrites, IsDoneBy, KeepsHalf, pages_with, passed}
+use Rattle.nb_inplace.proofs.Common.{Files, World, Changes, Only, Moved, gave_begun, nothing_joined, Numbered, Reading, Overwrites, IsTaken, KeepsHalf, pages_with, passed}
 use Rattle.nb_inplace.proofs.RecordLaws.{half_none, half_joined, half_still, none_written, is_record, one_written, all_written, reader_stops, number_low}
 use Rattle.nb_inplace.proofs.records.write_records.Goals as goal
 
@@ -24,7 +24,7 @@ returns-in_err-number-clause-left g c tells records apart coming =
 pub returns-in_err-number-clause-pages : goal.returns-in_err-number-clause-pages
 returns-in_err-number-clause-pages g c tells records apart coming =
     let loop = c.loop-number.invariant in
-    passed ℕ (λ r. IsDoneBy r (λ count. (count ≡ pages_with records c.args.pages) × Overwrites (length c.args.page.now) records ((g.H.Host.world c.args.host.now).files c.args.standby.now) ((g.H.Host.world c.next.new.host).files c.args.standby.now) c.args.first.now c.loop-number.first))
+    passed ℕ (λ r. IsTaken r (λ count. (count ≡ pages_with records c.args.pages) × Overwrites (length c.args.page.now) records ((g.H.Host.world c.args.host.now).files c.args.standby.now) ((g.H.Host.world c.next.new.host).files c.args.standby.now) c.args.first.now c.loop-number.first))
     c.from_residual.result c.in_err-number.field-0.0 c.from_residual.ensures
     (reader_stops _ c.loop-number.reader records g.H.Host.tells tells _ _ (ap (λ (r : Reading). (g.H.Host.world c.loop-number.host).files r.name) loop.same ∙ (loop.left tells records apart coming).others_read _ apart) _ _ _ _ _ _ (loop.so_far tells records apart coming)
     ℕ _ c.next.new.self c.next.new.into c.in_err-number.field-0.0 c.in_err-number.ensures.answer)

@@ -1,14 +1,14 @@
 use Rattle.std.proofs.Common.{◌≡◌, length, refl, sym, ap, subst, ◌∙◌, arith, Err}
 use Rattle.nb_restore.proofs.Common.{with_items_is, split, first_page, IsDone, PlanSays, IsUnfinishedPage, passed}
 use Rattle.std.specs.Vec.{with_items}
-use Rattle.nb_restore.proofs.PreparedLaws.{taken_fails, done_fails, behind_now, page_0_of, prepared}
+use Rattle.nb_restore.proofs.PreparedLaws.{given_fails, done_fails, behind_now, page_0_of, prepared}
 use Rattle.nb_restore.proofs.plan.prepare.Goals as goal
 
 pub returns-in_err-readers-clause-answer : goal.returns-in_err-readers-clause-answer
 returns-in_err-readers-clause-answer g c tells =
     let chain = c.in_ok-chain.ensures in
     passed _ (λ r. PlanSays (g.H.Host.world c.args.host.now).files c.args.target.now c.args.files.now r) c.from_residual-in_err-readers.result c.in_err-readers.field-0.0 c.from_residual-in_err-readers.ensures
-    (taken_fails _ _ _ _ _ c.in_err-readers.field-0.0 (c.in_err-readers.ensures.ready tells c.args.target.now _
+    (given_fails _ _ _ _ _ c.in_err-readers.field-0.0 (c.in_err-readers.ensures.ready tells c.args.target.now _
     (behind_now _ _ _ _ (chain.answer tells) c.index-files-0.result _ (split c.args.files.now c.index-files-0.result c.requires.some c.index-files-0.is) c.in_ok-chain.chain.first (chain.first tells) chain.form chain.least chain.pages _ _ chain.quiet.still.files refl)))
 
 pub returns-in_err-read_page_0-clause-answer : goal.returns-in_err-read_page_0-clause-answer

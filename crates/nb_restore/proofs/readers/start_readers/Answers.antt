@@ -1,5 +1,5 @@
 use Rattle.std.proofs.Common.{List, refl, sym, subst, ◌∙◌, arith}
-use Rattle.nb_restore.proofs.Common.{drop_all, Reading, AreReady, AreOfPages, IsReady, IsTaken, passed}
+use Rattle.nb_restore.proofs.Common.{drop_all, Reading, AreReady, AreOfPages, IsReady, IsGiven, passed}
 use Rattle.nb_page.proofs.QuietLaws.{quiet_begun, quiet_joined}
 use Rattle.nb_restore.proofs.SourceLaws.{started_none, started_more, started_fails, started_all, names_from, of_pages_more}
 use Rattle.nb_restore.proofs.readers.start_readers.Goals as goal
@@ -15,7 +15,7 @@ loop-place-init g c = record {
 pub returns-in_err-reader-clause-ready : goal.returns-in_err-reader-clause-ready
 returns-in_err-reader-clause-ready g c tells target links sources =
     let loop = c.loop-place.invariant in
-    passed _ (λ r. IsTaken r (λ readers. AreReady (g.H.Host.world c.args.host.now).files target c.args.page_size links readers.items)) c.from_residual.result c.in_err-reader.field-0.0 c.from_residual.ensures
+    passed _ (λ r. IsGiven r (λ readers. AreReady (g.H.Host.world c.args.host.now).files target c.args.page_size links readers.items)) c.from_residual.result c.in_err-reader.field-0.0 c.from_residual.ensures
     (started_fails _ _ target _ links c.index-files-place.result _ _ _ (loop.so_far tells target links sources) (names_from c.args.files.now c.loop-place.place c.index-files-place.result (omega (arith, c.loop-place-test.true)) c.index-files-place.is)
     loop.quiet.still.files Reading _ (λ link. IsReady (g.H.Host.world c.loop-place.host).files target c.args.page_size link) _ c.in_err-reader.field-0.0 (λ link source. c.in_err-reader.ensures.ready tells target link source))
 

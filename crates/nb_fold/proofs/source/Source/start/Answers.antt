@@ -1,6 +1,7 @@
 use Rattle.std.proofs.Common.{refl, ap}
 use Rattle.nb_fold.proofs.Common.{Held, IsGiven, IsOpened, Waits, passed}
-use Rattle.nb_fold.proofs.OpenLaws.{not_begun, coming_now, opened, given_by}
+use Rattle.nb_host.proofs.AnswerLaws.{given_by}
+use Rattle.nb_fold.proofs.OpenLaws.{not_begun, coming_now, opened}
 use Rattle.nb_fold.proofs.source.Source.start.Goals as goal
 
 pub returns-in_err-reader-clause-opened : goal.returns-in_err-reader-clause-opened
