@@ -1,6 +1,6 @@
 -- What the answers of the calls below say of a file of a chain.
 use Rattle.std.proofs.Common.{◌≡◌, inl, inr, ℕ, ◌+◌, ◌*◌, ◌≤◌, List, [], length, refl, sym, ap, subst, ◌∙◌, arith, true, false, ◌==◌, Some, None, Result, Ok, Err, IfOk}
-use Rattle.nb_chain.proofs.Common.{cases_Bool, number_in, signature, File, Fault, Refused, Device, Memory, Refusal, BadLevel, ChainLevel, header_in, Head, Contents, begins_level, read_level, not_whole, not_behind, level_link, first_link, First, Mark, Tip, FirstSays, FirstRefused, IsRefused, Tested, WholeSays, LevelSays, LevelRefused, IsRead, NextSays, NextRefused, IsNext, tip_link}
+use Rattle.nb_chain.proofs.Common.{cases_Bool, number_in, signature, File, Fault, Refused, Device, Memory, Refusal, BadLevel, ChainLevel, header_in, Head, Contents, begins_level, read_level, not_whole, not_behind, level_link, first_link, First, Mark, Tip, FirstSays, FirstRefused, IsRefused, TestedAlone, WholeSays, LevelSays, LevelRefused, IsRead, NextSays, NextRefused, IsNext, tip_link}
 use Rattle.nb_level.specs.Heads.{head_of}
 use Rattle.nb_level.specs.declared.head.LevelHead.{LevelHead}
 use Rattle.nb_chain.proofs.StartLaws.{first_whole, first_parted, first_unread, first_level, next_signed, next_other, next_unread, next_refused, next_accepted}
@@ -31,7 +31,7 @@ refused_first file name bytes (Err Device) there is = tt
 refused_first file name bytes (Err Memory) there is = tt
 
 -- whole pages in the first place
-pub whole_first : (file : File) (name bytes : List ℕ) (len : ℕ) (result : Result First Fault) → file ≡ Some bytes → length bytes ≡ len → begins_level bytes ≡ false → Tested (not_whole name bytes) result
+pub whole_first : (file : File) (name bytes : List ℕ) (len : ℕ) (result : Result First Fault) → file ≡ Some bytes → length bytes ≡ len → begins_level bytes ≡ false → TestedAlone result (not_whole name bytes)
     → IfOk result (λ first. first.header ≡ header_in bytes) → IfOk result (λ first. len ≡ first.pages * first.header.page_size) → FirstSays file name result
 whole_first file name bytes len (Ok first) there long begins tested header pages = (bytes, there, record { accepted = first_whole name bytes begins tested; header = header; pages = long ∙ pages })
 whole_first file name bytes len (Err (Refused r)) there long begins tested header pages = subst (λ (f : File). FirstRefused f name r) (sym there) (first_parted name bytes r begins tested)
@@ -70,7 +70,7 @@ module _ (k : ℕ) (last : Tip) (name : List ℕ) (old : List Mark) (before : �
     read_is = ap read_level (sym (some_same is.bytes bytes (sym is.there ∙ there))) ∙ is.read
 
     -- it doesn't go on from the one before
-    pub next_apart : (marks : List Mark) (done : ℕ) (fault : Fault) → ((c : Contents) → c.head ≡ head_of head → Tested {T = Unit {0}} (not_behind k (tip_link last) name c) (Err fault))
+    pub next_apart : (marks : List Mark) (done : ℕ) (fault : Fault) → ((c : Contents) → c.head ≡ head_of head → TestedAlone {T = Unit {0}} (Err fault) (not_behind k (tip_link last) name c))
         → NextSays file k last name old marks before done (Err fault)
     next_apart marks done (Refused r) tested = refused_there file bytes marks done (Refused r) r there refl (next_refused name bytes k (tip_link last) is.contents r begins read_is (tested is.contents (sym is.named)))
     next_apart marks done Device tested = tt

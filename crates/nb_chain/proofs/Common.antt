@@ -1,6 +1,6 @@
 -- The definitions that the proofs of this crate speak in, and the laws of other crates that they cite, passed on from one place. Declares nothing.
 pub use Rattle.nb_chain.specs.Chain.{CheckSays, IsChain, IsFirstOf, IsLast, level_reads}
-pub use Rattle.nb_chain.specs.First.{FirstRefused, FirstSays, IsFirst, IsRefused, Tested, is_bad_count}
+pub use Rattle.nb_chain.specs.First.{FirstRefused, FirstSays, IsFirst, IsRefused, is_bad_count}
 pub use Rattle.nb_chain.specs.Level.{IsRead, LevelRefused, LevelSays, WholeSays}
 pub use Rattle.nb_chain.specs.Next.{AreNext, IsNext, LevelsSay, NextRefused, NextSays, header_link, last_of, tip_link}
 unfoldable pub use Rattle.nb_chain.specs.Overlay.{all_noted, is_blank, links_noted, mark_of, noted, without_blank}
@@ -25,6 +25,7 @@ unfoldable pub use Rattle.nb_level.specs.Reading.{still_to_come}
 pub use Rattle.nb_level.specs.Reading.{Reading}
 pub use Rattle.nb_model.proofs.ImageLaws.{Pages, cut-joined, page-joined, pages_of, trimmed-none, zeros-are}
 pub use Rattle.nb_model.proofs.ReadLaws.{eq_no, eq_yes, le_no, lt_no, lt_yes}
+pub use Rattle.nb_model.specs.Causes.{TestedAlone}
 unfoldable pub use Rattle.nb_model.specs.Image.{cut, overwritten, trimmed, written_at}
 pub use Rattle.nb_model.specs.Image.{Image, Numbered, Page, page_at}
 unfoldable pub use Rattle.nb_model.specs.Levels.{begins_level, read_level}

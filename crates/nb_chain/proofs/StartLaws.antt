@@ -1,6 +1,6 @@
 -- What the first bytes of a file tell of it.
 use Rattle.std.proofs.Common.{◌≡◌, ◌≢◌, ℕ, zero, suc, ◌+◌, ◌<◌, ◌≤◌, ◌^◌, List, [], ◌∷◌, length, get_or, take, drop, refl, sym, ap, subst, ◌∙◌, arith, nat_eq, length-drop, Bool, true, false, not, ◌==◌, Some, None, Ok, Err}
-use Rattle.nb_chain.proofs.Common.{take-take, take_all, get_or-drop, number_of, number_in, part, is_header, signature, state_of, size_of, scn_of, guid_of, is_header-take, Fault, Refused, Refusal, BadLevel, ChainLevel, header_in, Contents, begins_level, level_signature, read_level, Link, whole_link, not_whole, first_link, next_link, not_behind, level_link, is_bad_length, eq_no, eq_yes, Tested, is_bad_count}
+use Rattle.nb_chain.proofs.Common.{take-take, take_all, get_or-drop, number_of, number_in, part, is_header, signature, state_of, size_of, scn_of, guid_of, is_header-take, Fault, Refused, Refusal, BadLevel, ChainLevel, header_in, Contents, begins_level, level_signature, read_level, Link, whole_link, not_whole, first_link, next_link, not_behind, level_link, is_bad_length, eq_no, eq_yes, TestedAlone, is_bad_count}
 use Rattle.std.specs.Cmp.Lexicographic.{pointwise}
 use Rattle.nb_fields.proofs.NumberLaws.{number_of-lt}
 use Rattle.nb_fields.proofs.PartLaws.{part-take, number_in-take}
@@ -143,5 +143,5 @@ unsigned first small short =
     eq_no (number_of (take 4 (drop 16 first))) signature (λ same. omega (arith, below, low, all, same))
 
 -- what is refused by a test
-pub refused : (T : Type 0) (cause : Cause) (fault : Fault) (r : Refusal) → fault ≡ Refused r → cause ≡ Some r → Tested {T = T} cause (Err fault)
-refused T cause fault r is some = subst (λ (f : Fault). Tested {T = T} cause (Err f)) (sym is) some
+pub refused : (T : Type 0) (cause : Cause) (fault : Fault) (r : Refusal) → fault ≡ Refused r → cause ≡ Some r → TestedAlone {T = T} (Err fault) cause
+refused T cause fault r is some = subst (λ (f : Fault). TestedAlone {T = T} (Err f) cause) (sym is) some

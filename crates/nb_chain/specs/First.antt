@@ -7,7 +7,6 @@ use Rattle.nb_host.specs.declared.faults.Fault.TheVariants.{Refused, Device, Mem
 use Rattle.nb_host.specs.declared.refusals.Refusal.{Refusal}
 use Rattle.nb_host.specs.declared.refusals.Refusal.TheVariants.{NoFile}
 use Rattle.nb_page.specs.Header.{header_in}
-use Rattle.nb_model.specs.Causes.{Cause}
 use Rattle.nb_model.specs.Restoring.{whole_link, first_link}
 use Rattle.nb_chain.specs.declared.first_file.First.{First}
 use Rattle.nb_chain.specs.declared.start.Start.{Start}
@@ -18,13 +17,6 @@ StartSays file name first (Ok start) = (bytes : List ℕ) × (file ≡ Some byte
 StartSays file name first (Err (Refused refusal)) = (file ≡ None) × (refusal ≡ NoFile name)
 StartSays file name first (Err Device) = Unit {0}
 StartSays file name first (Err Memory) = ⊥
-
--- a test is passed exactly where no cause applies
-abbrev pub Tested : {T : Type 0} → Cause → Result T Fault → Type 0
-Tested cause (Ok value) = cause ≡ None
-Tested cause (Err (Refused refusal)) = cause ≡ Some refusal
-Tested cause (Err Device) = ⊥
-Tested cause (Err Memory) = ⊥
 
 -- so many bytes are no number of whole pages that a database may have
 abbrev pub is_bad_count : (len size : ℕ) → Bool

@@ -5,7 +5,8 @@ ghost use Rattle.nb_page.specs.Quiet.{Quiet};
 ghost use Rattle.nb_model.specs.Levels.{begins_level};
 ghost use Rattle.nb_model.specs.Restoring.{not_whole};
 ghost use Rattle.nb_host.specs.Causes.{CountsDevice};
-ghost use Rattle.nb_chain.specs.First.{FirstSays, IsRefused, Tested, is_bad_count};
+ghost use Rattle.nb_model.specs.Causes.{TestedAlone};
+ghost use Rattle.nb_chain.specs.First.{FirstSays, IsRefused, is_bad_count};
 
 use crate::start::read_start;
 use crate::whole;
@@ -54,7 +55,7 @@ fn pages_in(length: u64, page_size: u32) -> Option<u32>
 
 /// What whole pages are that begin so and are so many bytes. The refusal is `BadLevel`.
 fn whole_pages(name: &Name, first: &[u8], len: u64) -> Result<First, Fault>
-    ensures test { (bytes : List ℕ) → length bytes ≡ len → first.now ≡ take 64 bytes → Tested (not_whole name.now bytes) result }
+    ensures test { (bytes : List ℕ) → length bytes ≡ len → first.now ≡ take 64 bytes → TestedAlone result (not_whole name.now bytes) }
     ensures value { (bytes : List ℕ) → first.now ≡ take 64 bytes → IfOk result (λ file. file.header ≡ header_in bytes) }
     ensures form { IfOk result (λ file. HasForm file.header) }
     ensures least { IfOk result (λ file. 5 ≤ file.pages) }

@@ -9,7 +9,7 @@ ghost use Rattle.nb_model.specs.Levels.{Contents};
 ghost use Rattle.nb_model.specs.Restoring.{not_behind};
 ghost use Rattle.nb_host.specs.Causes.{CountsDevice};
 ghost use Rattle.nb_level.specs.Heads.{head_of};
-ghost use Rattle.nb_chain.specs.First.{Tested};
+ghost use Rattle.nb_model.specs.Causes.{TestedAlone};
 ghost use Rattle.nb_chain.specs.Next.{NextSays, tip_link};
 
 use crate::level_file::read_level;
@@ -53,7 +53,7 @@ fn no_level(name: &Name, first: &[u8], place: u32) -> Fault
 /// refusals are `ChainLevel`, `ChainGuid`, `ChainSize` and `ChainScn`, in this order.
 #[tactic(auto, unfolding(nb_model::specs::Restoring::not_behind, nb_model::specs::Causes::first_cause))]
 pub fn goes_on(head: &LevelHead, last: &Tip, name: &Name, place: u32) -> Result<(), Fault>
-    ensures test { (c : Contents) → c.head ≡ head_of head.now → Tested (not_behind place (tip_link last.now) name.now c) result }
+    ensures test { (c : Contents) → c.head ≡ head_of head.now → TestedAlone result (not_behind place (tip_link last.now) name.now c) }
     ensures size { OnOk result (head.now.page_size ≡ last.now.page_size) }
     ensures cause { (faults : ℕ) → CountsDevice result faults faults }
 {

@@ -1,13 +1,13 @@
 -- What is answered, passed on.
 use Rattle.std.proofs.Common.{◌≡◌, ℕ, ◌≤◌, List, length, take, sym, ap, subst, ◌∙◌, arith, Option, Some, None, option_map, is_some, Result, Ok, Err, IfOk}
-use Rattle.nb_fixup.proofs.Common.{take-take, length-take, size_of, File, Fault, Refused, Device, Memory, Refusal, Cause, IsPageOf, Tested}
+use Rattle.nb_fixup.proofs.Common.{take-take, length-take, size_of, File, Fault, Refused, Device, Memory, Refusal, Cause, IsPageOf, TestedByReads}
 
 -- what is refused by a test
-pub refused : (T : Type 0) (cause : Cause) (fault : Fault) (r : Refusal) → fault ≡ Refused r → cause ≡ Some r → Tested {T = T} cause (Err fault)
-refused T cause fault r is some = subst (λ (f : Fault). Tested {T = T} cause (Err f)) (sym is) some
+pub refused : (T : Type 0) (cause : Cause) (fault : Fault) (r : Refusal) → fault ≡ Refused r → cause ≡ Some r → TestedByReads {T = T} (Err fault) cause
+refused T cause fault r is some = subst (λ (f : Fault). TestedByReads {T = T} (Err f) cause) (sym is) some
 
 -- what is tested by one cause is tested by another that refuses the same
-pub tested_by : (S T : Type 0) (fault : Fault) (one two : Cause) → ((r : Refusal) → one ≡ Some r → two ≡ Some r) → Tested {T = S} one (Err fault) → Tested {T = T} two (Err fault)
+pub tested_by : (S T : Type 0) (fault : Fault) (one two : Cause) → ((r : Refusal) → one ≡ Some r → two ≡ Some r) → TestedByReads {T = S} (Err fault) one → TestedByReads {T = T} (Err fault) two
 tested_by S T (Refused r) one two as_well tested = as_well r tested
 tested_by S T Device one two as_well tested = tt
 tested_by S T Memory one two as_well tested = tested

@@ -5,7 +5,7 @@ unfoldable pub use Rattle.nb_fields.specs.Header.{is_header}
 pub use Rattle.nb_fields.specs.Header.{guid_of, size_of, state_of}
 pub use Rattle.nb_fields.specs.Places.{is_page_size, most_pages}
 pub use Rattle.nb_fixup.specs.Fixup.{FixAnswers, FixLeft, Fixes, IsFixable, IsFixed, fixed_bytes, fixup_cause}
-pub use Rattle.nb_fixup.specs.Tests.{IsPageOf, Tested, copy_cause, file_cause}
+pub use Rattle.nb_fixup.specs.Tests.{IsPageOf, copy_cause, file_cause}
 pub use Rattle.nb_host.proofs.FileLaws.{IsLong, long_file, passed}
 pub use Rattle.nb_host.proofs.PlainLaws.{some_none}
 pub use Rattle.nb_host.specs.Crash.{Leaves, LeavesAll, PageLeft}
@@ -19,7 +19,7 @@ pub use Rattle.nb_model.proofs.FormLaws.{Formed, formed, no_cause, unheaded}
 pub use Rattle.nb_model.proofs.HeaderLaws.{same-header, same-number}
 pub use Rattle.nb_model.proofs.MainLaws.{IsLaid, laid, laid-front, owner_main, some_page}
 unfoldable pub use Rattle.nb_model.specs.Causes.{first_cause, not_database}
-pub use Rattle.nb_model.specs.Causes.{Cause, when}
+pub use Rattle.nb_model.specs.Causes.{Cause, TestedByReads, when}
 unfoldable pub use Rattle.nb_model.specs.Image.{image_in, trimmed}
 pub use Rattle.nb_model.specs.Image.{Image, Page, first_page, image_size}
 unfoldable pub use Rattle.nb_model.specs.Jobs.{not_fixable}

@@ -1,6 +1,6 @@
 -- What a fixup changes and leaves.
 use Rattle.std.proofs.Common.{◌≡◌, inl, inr, ⊎_elim, ℕ, ◌*◌, List, length, take, sym, refl, ap, subst, ◌∙◌, Some, None, Result, Ok, Err}
-use Rattle.nb_fixup.proofs.Common.{size_of, File, Files, with_page, Leaves, LeavesAll, PageLeft, Fault, Refused, Device, Memory, NoFile, not_database, Page, image_in, not_fixable, HoldsMain, delta_name, fixed, owner_main, normal_page, fixup_cause, fixed_bytes, IsFixable, IsFixed, FixLeft, FixAnswers, Fixes, Tested, some_none}
+use Rattle.nb_fixup.proofs.Common.{size_of, File, Files, with_page, Leaves, LeavesAll, PageLeft, Fault, Refused, Device, Memory, NoFile, not_database, Page, image_in, not_fixable, HoldsMain, delta_name, fixed, owner_main, normal_page, fixup_cause, fixed_bytes, IsFixable, IsFixed, FixLeft, FixAnswers, Fixes, TestedByReads, some_none}
 use Rattle.nb_host.specs.World.{World}
 use Rattle.nb_change.specs.Changes.{Changes, Only, NoNames, Remade}
 use Rattle.nb_change.specs.Gave.{GaveNothing}
@@ -36,7 +36,7 @@ module _ (old new : World) (name : List ℕ) (quiet : Quiet old new) where
     unfit = λ some. quiet;
   }
 
-  pub fix_refused : (fault : Fault) → Tested {T = ℕ} (fixup_cause old.files name) (Err fault) → Fixes (Err fault) old new name
+  pub fix_refused : (fault : Fault) → TestedByReads {T = ℕ} (Err fault) (fixup_cause old.files name) → Fixes (Err fault) old new name
   fix_refused (Refused refusal) tested = kept_so (Err (Refused refusal)) (quiet, tested)
   fix_refused Device tested = kept_so (Err Device) tt
   fix_refused Memory tested = absurd tested

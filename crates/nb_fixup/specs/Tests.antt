@@ -1,19 +1,10 @@
 -- The tests of a copy that is to be fixed.
-use Rattle.std.specs.Prelude.{◌≡◌, ℕ, List, [], ◌∷◌, take, Some, None, Result, Ok, Err, not, ◌==◌}
+use Rattle.std.specs.Prelude.{◌≡◌, ℕ, List, [], ◌∷◌, take, Some, None, not, ◌==◌}
 use Rattle.nb_fields.specs.Header.{size_of, state_of}
 use Rattle.nb_fields.specs.States.{stalled_state}
 use Rattle.nb_host.specs.Files.{File}
-use Rattle.nb_host.specs.declared.faults.Fault.{Fault}
-use Rattle.nb_host.specs.declared.faults.Fault.TheVariants.{Refused, Device, Memory}
 use Rattle.nb_host.specs.declared.refusals.Refusal.TheVariants.{NoFile, WrongState}
 use Rattle.nb_model.specs.Causes.{Cause, first_cause, when, not_database}
-
--- it is refused exactly where there is a cause, and for that; it wants no memory
-abbrev pub Tested : {T : Type 0} → Cause → Result T Fault → Type 0
-Tested cause (Ok value) = cause ≡ None
-Tested cause (Err (Refused refusal)) = cause ≡ Some refusal
-Tested cause (Err Device) = Unit {0}
-Tested cause (Err Memory) = ⊥
 
 -- why bytes can't be fixed, whatever stands beside them
 abbrev pub copy_cause : List ℕ → Cause

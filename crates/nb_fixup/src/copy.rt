@@ -5,10 +5,10 @@ ghost use Rattle.nb_fields.specs.Header.{is_header, size_of};
 ghost use Rattle.nb_fields.specs.Places.{is_page_size};
 ghost use Rattle.nb_host.specs.declared.faults.Fault.TheVariants.{Memory as MemoryFault};
 ghost use Rattle.nb_host.specs.declared.refusals.Refusal.TheVariants.{NotDatabase};
-ghost use Rattle.nb_model.specs.Causes.{not_database};
+ghost use Rattle.nb_model.specs.Causes.{TestedByReads, not_database};
 ghost use Rattle.nb_page.specs.Quiet.{Quiet};
 ghost use Rattle.nb_fixup.specs.Fixup.{fixup_cause};
-ghost use Rattle.nb_fixup.specs.Tests.{IsPageOf, Tested, copy_cause, file_cause};
+ghost use Rattle.nb_fixup.specs.Tests.{IsPageOf, copy_cause, file_cause};
 
 use nb_cases::{Case, Event, case_of};
 use nb_fields::MOST_PAGES;
@@ -43,7 +43,7 @@ fn broken_page(len: u64, page_size: u32) -> Option<u32>
 /// The page size of a copy of `len` bytes that begins so, as far as the largest page goes. The refusals are `NotDatabase` and
 /// `WrongState`.
 fn page_size_of(first: &[u8], len: u64) -> Result<u32, Fault>
-    ensures test { (bytes : List ℕ) → length bytes ≡ len → first.now ≡ take 32768 bytes → Tested (copy_cause bytes) result }
+    ensures test { (bytes : List ℕ) → length bytes ≡ len → first.now ≡ take 32768 bytes → TestedByReads result (copy_cause bytes) }
     ensures size { (bytes : List ℕ) → first.now ≡ take 32768 bytes → IfOk result (λ size. size ≡ size_of bytes) }
     ensures one_of { IfOk result (λ size. IsTrue (is_page_size size)) }
     ensures whole { IfOk result (λ size. size ≤ length first.now) }
@@ -74,7 +74,7 @@ fn page_size_of(first: &[u8], len: u64) -> Result<u32, Fault>
 /// The refusals are `NoFile`, `NotDatabase` and `WrongState`, in this order.
 fn read_first<H: Host>(host: &mut H, name: &Name, first: &mut [u8]) -> Result<u32, Fault>
     requires { length first.old ≡ 32768 }
-    ensures test { IsTrue H.tells → Tested (file_cause name.now ((H.world host.old).files name.now)) result }
+    ensures test { IsTrue H.tells → TestedByReads result (file_cause name.now ((H.world host.old).files name.now)) }
     ensures page { IsTrue H.tells → (bytes : List ℕ) → (H.world host.old).files name.now ≡ Some bytes → IfOk result (IsPageOf bytes first.new) }
     ensures one_of { IfOk result (λ size. IsTrue (is_page_size size)) }
     ensures no_memory { IfErr result (λ fault. fault ≢ MemoryFault) }
@@ -97,7 +97,7 @@ fn read_first<H: Host>(host: &mut H, name: &Name, first: &mut [u8]) -> Result<u3
 pub(crate) fn read_copy<H: Host>(host: &mut H, name: &Name, first: &mut [u8]) -> Result<u32, Fault>
     requires name { length name.now ≤ 94 }
     requires room { length first.old ≡ 32768 }
-    ensures test { IsTrue H.tells → Tested (fixup_cause (H.world host.old).files name.now) result }
+    ensures test { IsTrue H.tells → TestedByReads result (fixup_cause (H.world host.old).files name.now) }
     ensures page { IsTrue H.tells → (bytes : List ℕ) → (H.world host.old).files name.now ≡ Some bytes → IfOk result (IsPageOf bytes first.new) }
     ensures one_of { IfOk result (λ size. IsTrue (is_page_size size)) }
     ensures no_memory { IfErr result (λ fault. fault ≢ MemoryFault) }

@@ -1,6 +1,6 @@
 -- A file that is added after others that go on from one another.
 use Rattle.std.proofs.Common.{◌≡◌, ℕ, suc, ◌+◌, ◌-◌, ◌<◌, ◌≤◌, List, [], ◌∷◌, ◌++◌, length, get_or, drop, refl, sym, ap, subst, ◌∙◌, arith, append_assoc, Some, None, Option, Result, Ok, Err, false, ◌==◌}
-use Rattle.nb_fold.proofs.Common.{true≢false, append-nil, drop_all, File, Files, Fault, Refused, Device, Memory, Refusal, Cause, Contents, read_level, level_link, not_behind, head_of, LevelHead, Tested, AddSays, AreAlike, AreChained, IsAdded, IsLast, open_reads, first_size, Held, IsGiven, IsOpened, AreOpened, AreOfPages, chained, file_after, files_after, not_after, with_files}
+use Rattle.nb_fold.proofs.Common.{true≢false, append-nil, drop_all, File, Files, Fault, Refused, Device, Memory, Refusal, Cause, Contents, read_level, level_link, not_behind, head_of, LevelHead, TestedAlone, AddSays, AreAlike, AreChained, IsAdded, IsLast, open_reads, first_size, Held, IsGiven, IsOpened, AreOpened, AreOfPages, chained, file_after, files_after, not_after, with_files}
 use Rattle.nb_chain.specs.Level.{WholeSays, LevelRefused, IsWhole}
 use Rattle.nb_chain.specs.Next.{tip_link}
 use Rattle.nb_chain.specs.declared.tip.Tip.{Tip}
@@ -97,7 +97,7 @@ module _ (files : Files) (name : List ℕ) (last : Option Contents) where
 
   module _ (before mid : ℕ) (head : LevelHead) (whole : IsWhole (files name) before mid head) where
     -- it doesn't go on from the last
-    pub add_apart : (old new : List Held) (after : ℕ) (fault : Fault) → Tested {T = Unit {0}} (not_after last name whole.contents) (Err fault) → AddSays files name last old new before after (Err fault)
+    pub add_apart : (old new : List Held) (after : ℕ) (fault : Fault) → TestedAlone {T = Unit {0}} (Err fault) (not_after last name whole.contents) → AddSays files name last old new before after (Err fault)
     add_apart old new after (Refused r) tested = apart whole.bytes whole.contents r whole.there whole.read tested
     add_apart old new after Device tested = tt
     add_apart old new after Memory tested = tt

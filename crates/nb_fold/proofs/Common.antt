@@ -1,5 +1,4 @@
 -- The definitions that the proofs of this crate speak in, and the laws of other crates that they cite, passed on from one place. Declares nothing.
-pub use Rattle.nb_chain.specs.First.{Tested}
 pub use Rattle.nb_change.proofs.ChangesLaws.{kept_on, kept_then, rested}
 pub use Rattle.nb_change.proofs.GaveLaws.{gave_begun, nothing_joined}
 pub use Rattle.nb_change.specs.Changes.{NoNames, Only, Remade}
@@ -39,7 +38,7 @@ pub use Rattle.nb_model.proofs.HeaderLaws.{header-other, header-room}
 pub use Rattle.nb_model.proofs.OwnerLaws.{main_here, main_past, other_page}
 pub use Rattle.nb_model.proofs.ReadLaws.{eq_no, eq_yes}
 pub use Rattle.nb_model.proofs.TrimLaws.{main_tail, trimmed_alike, trimmed_page}
-pub use Rattle.nb_model.specs.Causes.{Cause}
+pub use Rattle.nb_model.specs.Causes.{Cause, TestedAlone}
 unfoldable pub use Rattle.nb_model.specs.Image.{overwritten, trimmed, written_at}
 pub use Rattle.nb_model.specs.Image.{Image, Numbered, Page, image_size}
 unfoldable pub use Rattle.nb_model.specs.Levels.{begins_level, is_first_page, level_bytes, read_level}

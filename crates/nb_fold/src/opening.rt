@@ -3,7 +3,7 @@ ghost use Rattle.nb_host.specs.Causes.{CountsDevice};
 ghost use Rattle.nb_model.specs.Levels.{Contents};
 ghost use Rattle.nb_level.specs.Heads.{head_of};
 ghost use Rattle.nb_page.specs.Quiet.{Quiet};
-ghost use Rattle.nb_chain.specs.First.{Tested};
+ghost use Rattle.nb_model.specs.Causes.{TestedAlone};
 ghost use Rattle.nb_host.specs.declared.faults.Fault.TheVariants.{Refused};
 ghost use Rattle.nb_host.specs.declared.refusals.Refusal.{Refusal};
 ghost use Rattle.nb_fold.specs.Verdict.{chained, not_after};
@@ -17,7 +17,7 @@ use std::alloc::Global;
 
 /// Whether a level file goes on from the last of those before. The refusals are those of `goes_on`.
 fn goes_on_from(sources: &[Source], head: &LevelHead, name: &Name) -> Result<(), Fault>
-    ensures test { (last : Option Contents) (c : Contents) → IsLast sources.now last → c.head ≡ head_of head.now → Tested (not_after last name.now c) result }
+    ensures test { (last : Option Contents) (c : Contents) → IsLast sources.now last → c.head ≡ head_of head.now → TestedAlone result (not_after last name.now c) }
     ensures size { OnOk result (0 < length sources.now → AreAlike sources.now → head.now.page_size ≡ first_size sources.now) }
     ensures cause { (faults : ℕ) → CountsDevice result faults faults }
 {

@@ -1,6 +1,6 @@
 -- What the tests of a standby and of a level file say of their merge, one after another.
 use Rattle.std.proofs.Common.{◌≡◌, ℕ, ◌-◌, List, [], ◌∷◌, drop, refl, sym, ap, ◌∙◌, Bool, true, false, not, ◌||◌, ◌==◌, IsTrue, Some, None, Ok, Err}
-use Rattle.nb_inplace.proofs.Common.{eqb-true, state_of, applying_state, File, Files, same_name, Fault, Refused, Device, Memory, Refusal, NoFile, BadLevel, Unfinished, ChainGuid, ChainSize, ChainScn, Access, header_in, Header, Cause, first_cause, when, Page, image_in, is_read_only, written_since, other_pages, not_next, not_finishing, not_mergeable, not_standby, in_place, Contents, with_head, read_level, StartSays, head_of, Reading, still_to_come, LevelHead, with_head-is, Tested, AcceptSays, IsReaderOf, IsStandby, not_the_same, not_behind, head_cause, stamp_cause, Standby, some_none, some_same}
+use Rattle.nb_inplace.proofs.Common.{eqb-true, state_of, applying_state, File, Files, same_name, Fault, Refused, Device, Memory, Refusal, NoFile, BadLevel, Unfinished, ChainGuid, ChainSize, ChainScn, Access, header_in, Header, Cause, first_cause, when, Page, image_in, is_read_only, written_since, other_pages, not_next, not_finishing, not_mergeable, not_standby, in_place, Contents, with_head, read_level, StartSays, head_of, Reading, still_to_come, LevelHead, with_head-is, TestedByReads, AcceptSays, IsReaderOf, IsStandby, not_the_same, not_behind, head_cause, stamp_cause, Standby, some_none, some_same}
 use Rattle.nb_chain.specs.Level.{WholeSays, LevelRefused}
 use Rattle.nb_inplace.proofs.StandbyLaws.{not_there}
 use Rattle.nb_inplace.proofs.VerdictLaws.{by_state, mergeable_by, unfit, no_level, bad_level, answered, verdict_by}
@@ -87,7 +87,7 @@ module _ (name : List ℕ) (c : Contents) where
           by false other h = normal_cause other ∙ last_of _ _ _ _ written (sym its_behind ∙ h) ∙ sym same
 
 -- The tests of the files, one after another: of the standby,
-pub standby_fails : (files : Files) (standby name : List ℕ) (fault : Fault) → Tested {T = Standby} (not_standby standby (files standby)) (Err fault) → AcceptSays files standby name (Err fault)
+pub standby_fails : (files : Files) (standby name : List ℕ) (fault : Fault) → TestedByReads {T = Standby} (Err fault) (not_standby standby (files standby)) → AcceptSays files standby name (Err fault)
 standby_fails files standby name (Refused r) says = unfit files standby name r says
 standby_fails files standby name Device says = tt
 standby_fails files standby name Memory says = absurd says
@@ -138,7 +138,7 @@ module _ (files now : Files) (standby name : List ℕ) (fit : not_standby standb
 
 -- and of its head.
 pub head_fails : (files : Files) (standby name bytes : List ℕ) (s : Standby) (c : Contents) (reader : Reading) (T : Type 0) (fault : Fault) → files standby ≡ Some bytes → not_standby standby (Some bytes) ≡ None → IsStandby bytes s → IsReaderOf files name c reader
-    → Tested {T = T} (head_cause s name c) (Err fault) → AcceptSays files standby name (Err fault)
+    → TestedByReads {T = T} (Err fault) (head_cause s name c) → AcceptSays files standby name (Err fault)
 head_fails files standby name bytes s c reader T (Refused r) here stands is level says = verdict_by files standby name bytes level.bytes c here stands level.there level.read ∙ ap (answered c) (head_refuses name c bytes s is r says)
 head_fails files standby name bytes s c reader T Device here stands is level says = tt
 head_fails files standby name bytes s c reader T Memory here stands is level says = absurd says

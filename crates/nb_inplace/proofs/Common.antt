@@ -19,7 +19,6 @@ pub use Rattle.nb_fields.specs.Places.{is_page_size, most_pages}
 pub use Rattle.nb_fields.specs.States.{applying_state, merge_state, normal_state, stalled_state}
 pub use Rattle.nb_fixup.proofs.AnswerLaws.{refused, tested_by}
 pub use Rattle.nb_fixup.proofs.CauseLaws.{fits, no_page, parted, too_few, too_many}
-pub use Rattle.nb_fixup.specs.Tests.{Tested}
 pub use Rattle.nb_host.proofs.FileLaws.{IsLong, long_file, passed}
 pub use Rattle.nb_host.proofs.NameLaws.{same_other, same_self, with_file-named}
 pub use Rattle.nb_host.proofs.PlainLaws.{err_not_ok, head_same, none_some, not_false, ok_same, some_none, some_same}
@@ -66,7 +65,7 @@ pub use Rattle.nb_model.proofs.TrimLaws.{main_tail, trimmed_alike, trimmed_page,
 unfoldable pub use Rattle.nb_model.specs.Account.{with_entry}
 pub use Rattle.nb_model.specs.Account.{Account, Ask, Base, IsBase, Kept, Plain, base_of}
 unfoldable pub use Rattle.nb_model.specs.Causes.{first_cause, not_database}
-pub use Rattle.nb_model.specs.Causes.{Cause, when}
+pub use Rattle.nb_model.specs.Causes.{Cause, TestedByReads, when}
 unfoldable pub use Rattle.nb_model.specs.Image.{image_in, overwritten, trimmed, written_at}
 pub use Rattle.nb_model.specs.Image.{Image, Numbered, Page, first_page, image_guid, image_size, is_read_only, page_at}
 unfoldable pub use Rattle.nb_model.specs.InPlace.{in_place, in_place_of, not_finishing, not_mergeable, not_next, not_standby, written_since}

@@ -1,6 +1,6 @@
 -- Stamps above an SCN, one piece of pages after another.
 use Rattle.std.proofs.Common.{◌≡◌, inl, inr, ℕ, zero, suc, ◌+◌, ◌-◌, ◌*◌, ◌/◌, ◌<◌, ◌≤◌, List, [], ◌∷◌, ◌++◌, length, take, drop, replicate, refl, sym, ap, ◌∙◌, arith, length-drop, mul-le-mul_right, div-add-mod', true, false, Some, None, Err}
-use Rattle.nb_inplace.proofs.Common.{cases_lt, take-append-le, take-replicate, drop-replicate, length-replicate, drop-drop, drop_all, take-append-drop, take_all, mul-div_cancel, number_of, number_in, is_zeros, is_header, size_of, stamp_of, number_in-take, size_facts, Fault, Refused, Device, Memory, Refusal, ChainScn, Cause, not_database, Page, Image, page_at, image_in, trimmed, written_since, other_pages, joined, IsOfSize, Formed, formed, all_zeros, header-long, header-other, same-header, image_in-is, AreZeros, trimming, trimmed-other, all-drop, length-joined, drop-joined, take-joined, page-joined, lt_no, lt_yes, IsDone, Tested, none_some, some_none}
+use Rattle.nb_inplace.proofs.Common.{cases_lt, take-append-le, take-replicate, drop-replicate, length-replicate, drop-drop, drop_all, take-append-drop, take_all, mul-div_cancel, number_of, number_in, is_zeros, is_header, size_of, stamp_of, number_in-take, size_facts, Fault, Refused, Device, Memory, Refusal, ChainScn, Cause, not_database, Page, Image, page_at, image_in, trimmed, written_since, other_pages, joined, IsOfSize, Formed, formed, all_zeros, header-long, header-other, same-header, image_in-is, AreZeros, trimming, trimmed-other, all-drop, length-joined, drop-joined, take-joined, page-joined, lt_no, lt_yes, IsDone, TestedByReads, none_some, some_none}
 use Rattle.nb_fields.proofs.NumberLaws.{number_of-zeros}
 
 module _ (name : List ℕ) (scn : ℕ) where
@@ -92,7 +92,7 @@ pub none_left : (name : List ℕ) (scn number : ℕ) (ps : List Page) → length
 none_left name scn number ps all so_far = so_far ∙ ap (written_since name scn) (drop_all number ps all) ∙ none_since name scn
 
 -- nothing but the device fails
-pub done_tested : (S T P : Type 0) (cause : Cause) (fault : Fault) → IsDone {T = S} (Err fault) P → Tested {T = T} cause (Err fault)
+pub done_tested : (S T P : Type 0) (cause : Cause) (fault : Fault) → IsDone {T = S} (Err fault) P → TestedByReads {T = T} (Err fault) cause
 done_tested S T P cause (Refused refusal) says = absurd says
 done_tested S T P cause Device says = tt
 done_tested S T P cause Memory says = absurd says

@@ -6,7 +6,7 @@ ghost use Rattle.nb_model.specs.Levels.{Contents};
 ghost use Rattle.nb_page.specs.Header.{HasForm};
 ghost use Rattle.nb_page.specs.Quiet.{Quiet};
 ghost use Rattle.nb_level.specs.Heads.{head_of};
-ghost use Rattle.nb_fixup.specs.Tests.{Tested};
+ghost use Rattle.nb_model.specs.Causes.{TestedByReads};
 ghost use Rattle.nb_inplace.specs.Accepted.{AcceptSays};
 ghost use Rattle.nb_inplace.specs.Standby.{IsWholeStandby};
 ghost use Rattle.nb_inplace.specs.Tests.{not_the_same, not_behind, head_cause};
@@ -32,7 +32,7 @@ fn other_size(standby: &Standby, head: &LevelHead, file: &Name) -> Refusal
 /// are `Unfinished` and `ChainSize`.
 #[tactic(auto, unfolding(nb_model::specs::Causes::first_cause))]
 fn finishes(standby: &Standby, head: &LevelHead, file: &Name) -> Result<(), Fault>
-    ensures test { (c : Contents) → c.head ≡ head_of head.now → Tested (not_the_same standby.now file.now c) result }
+    ensures test { (c : Contents) → c.head ≡ head_of head.now → TestedByReads result (not_the_same standby.now file.now c) }
     ensures size { OnOk result (head.now.page_size ≡ standby.now.header.page_size) }
     ensures cause { (faults : ℕ) → CountsDevice result faults faults }
 {
@@ -52,7 +52,7 @@ fn finishes(standby: &Standby, head: &LevelHead, file: &Name) -> Result<(), Faul
 #[tactic(auto, unfolding(nb_model::specs::Causes::first_cause))]
 fn goes_on(standby: &Standby, head: &LevelHead, file: &Name) -> Result<(), Fault>
     requires { HasForm standby.now.header }
-    ensures test { (c : Contents) → c.head ≡ head_of head.now → Tested (not_behind standby.now file.now c) result }
+    ensures test { (c : Contents) → c.head ≡ head_of head.now → TestedByReads result (not_behind standby.now file.now c) }
     ensures size { OnOk result (head.now.page_size ≡ standby.now.header.page_size) }
     ensures cause { (faults : ℕ) → CountsDevice result faults faults }
 {
@@ -83,7 +83,7 @@ fn goes_on(standby: &Standby, head: &LevelHead, file: &Name) -> Result<(), Fault
 /// merge was begun, and otherwise those of `goes_on`.
 fn accept_head(standby: &Standby, head: &LevelHead, file: &Name) -> Result<(), Fault>
     requires { HasForm standby.now.header }
-    ensures test { (c : Contents) → c.head ≡ head_of head.now → Tested (head_cause standby.now file.now c) result }
+    ensures test { (c : Contents) → c.head ≡ head_of head.now → TestedByReads result (head_cause standby.now file.now c) }
     ensures size { OnOk result (head.now.page_size ≡ standby.now.header.page_size) }
     ensures cause { (faults : ℕ) → CountsDevice result faults faults }
 {

@@ -8,7 +8,7 @@ ghost use Rattle.nb_model.specs.Levels.{joined};
 ghost use Rattle.nb_model.specs.Sound.{IsOfSize};
 ghost use Rattle.nb_page.specs.Quiet.{Quiet};
 ghost use Rattle.nb_restore.specs.Copied.{IsDone};
-ghost use Rattle.nb_fixup.specs.Tests.{Tested};
+ghost use Rattle.nb_model.specs.Causes.{TestedByReads};
 ghost use Rattle.nb_inplace.specs.Half.{applying_page};
 ghost use Rattle.nb_inplace.specs.Standby.{IsWholeStandby};
 ghost use Rattle.nb_inplace.specs.Ready.{ReadySays};
@@ -32,7 +32,7 @@ fn settle<H: Host>(
 ) -> Result<(), Fault>
     requires whole { IsWholeStandby found.now }
     requires piece { 32768 ≤ length piece.old }
-    ensures test { IsTrue H.tells → (ps : List Page) → (H.world host.old).files standby.now ≡ Some (joined ps) → IsOfSize found.now.header.page_size ps → length ps ≡ found.now.pages → Tested (stamp_cause found.now file.now scn ps) result }
+    ensures test { IsTrue H.tells → (ps : List Page) → (H.world host.old).files standby.now ≡ Some (joined ps) → IsOfSize found.now.header.page_size ps → length ps ≡ found.now.pages → TestedByReads result (stamp_cause found.now file.now scn ps) }
     ensures kept { IsTrue H.tells → OnOk result (IsDurable (H.world host.new) standby.now ((H.world host.old).files standby.now)) }
     ensures quiet { Quiet (H.world host.old) (H.world host.new) }
     ensures cause { CountsDevice result (H.faults host.old) (H.faults host.new) }

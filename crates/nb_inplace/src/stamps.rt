@@ -8,7 +8,7 @@ ghost use Rattle.nb_model.specs.InPlace.{written_since};
 ghost use Rattle.nb_model.specs.Levels.{joined};
 ghost use Rattle.nb_model.specs.Sound.{IsOfSize};
 ghost use Rattle.nb_page.specs.Quiet.{Quiet};
-ghost use Rattle.nb_fixup.specs.Tests.{Tested};
+ghost use Rattle.nb_model.specs.Causes.{TestedByReads};
 ghost use Rattle.nb_restore.specs.Copied.{IsDone};
 
 use crate::standby::no_database;
@@ -67,7 +67,7 @@ pub(crate) fn test_stamps<H: Host>(
     requires size { IsTrue (is_page_size page_size) }
     requires most { pages ≤ most_pages }
     requires piece { 32768 ≤ length piece.old }
-    ensures test { IsTrue H.tells → (ps : List Page) → (H.world host.old).files standby.now ≡ Some (joined ps) → IsOfSize page_size ps → length ps ≡ pages → Tested (written_since file.now scn (drop 1 ps)) result }
+    ensures test { IsTrue H.tells → (ps : List Page) → (H.world host.old).files standby.now ≡ Some (joined ps) → IsOfSize page_size ps → length ps ≡ pages → TestedByReads result (written_since file.now scn (drop 1 ps)) }
     ensures quiet { Quiet (H.world host.old) (H.world host.new) }
     ensures cause { CountsDevice result (H.faults host.old) (H.faults host.new) }
 {

@@ -4,10 +4,9 @@ ghost use Rattle.nb_host.specs.Causes.{CountsDevice};
 ghost use Rattle.nb_fields.specs.Header.{is_header, size_of};
 ghost use Rattle.nb_fields.specs.Places.{is_page_size, most_pages};
 ghost use Rattle.nb_host.specs.declared.refusals.Refusal.TheVariants.{NotDatabase};
-ghost use Rattle.nb_model.specs.Causes.{not_database};
+ghost use Rattle.nb_model.specs.Causes.{TestedByReads, not_database};
 ghost use Rattle.nb_model.specs.InPlace.{not_standby};
 ghost use Rattle.nb_page.specs.Quiet.{Quiet};
-ghost use Rattle.nb_fixup.specs.Tests.{Tested};
 ghost use Rattle.nb_inplace.specs.Standby.{IsStandby, IsWholeStandby};
 
 use nb_cases::{Case, Event, case_of};
@@ -44,7 +43,7 @@ pub(crate) fn no_database(page: u32) -> Fault
 /// How many pages a file of `len` bytes after a header has. The refusal is `NotDatabase`, where they aren't 5 to 1,048,576 whole pages.
 fn pages_in(len: u64, page_size: u32) -> Result<u32, Fault>
     requires { IsTrue (is_page_size page_size) }
-    ensures test { (bytes : List ℕ) → is_header bytes ≡ true → size_of bytes ≡ page_size → length bytes ≡ len → Tested (not_database bytes) result }
+    ensures test { (bytes : List ℕ) → is_header bytes ≡ true → size_of bytes ≡ page_size → length bytes ≡ len → TestedByReads result (not_database bytes) }
     ensures pages { IfOk result (λ pages. len ≡ pages * page_size) }
     ensures least { IfOk result (λ pages. 5 ≤ pages) }
     ensures most { IfOk result (λ pages. pages ≤ most_pages) }
@@ -61,7 +60,7 @@ fn pages_in(len: u64, page_size: u32) -> Result<u32, Fault>
 
 /// The standby of `len` bytes that begins so. The refusals are `NotDatabase` and `WrongState`.
 fn standby_in(first: &[u8], len: u64) -> Result<Standby, Fault>
-    ensures test { (name bytes : List ℕ) → length bytes ≡ len → first.now ≡ take 66 bytes → Tested (not_standby name (Some bytes)) result }
+    ensures test { (name bytes : List ℕ) → length bytes ≡ len → first.now ≡ take 66 bytes → TestedByReads result (not_standby name (Some bytes)) }
     ensures value { (bytes : List ℕ) → length bytes ≡ len → first.now ≡ take 66 bytes → IfOk result (IsStandby bytes) }
     ensures whole { IfOk result IsWholeStandby }
     ensures cause { (faults : ℕ) → CountsDevice result faults faults }
@@ -90,7 +89,7 @@ fn standby_in(first: &[u8], len: u64) -> Result<Standby, Fault>
 ///
 /// The refusals are `NoFile`, `NotDatabase` and `WrongState`, in this order.
 pub(crate) fn read_standby<H: Host>(host: &mut H, name: &Name) -> Result<Standby, Fault>
-    ensures test { IsTrue H.tells → Tested (not_standby name.now ((H.world host.old).files name.now)) result }
+    ensures test { IsTrue H.tells → TestedByReads result (not_standby name.now ((H.world host.old).files name.now)) }
     ensures value { IsTrue H.tells → (bytes : List ℕ) → (H.world host.old).files name.now ≡ Some bytes → IfOk result (IsStandby bytes) }
     ensures whole { IfOk result IsWholeStandby }
     ensures quiet { Quiet (H.world host.old) (H.world host.new) }

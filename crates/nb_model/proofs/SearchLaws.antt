@@ -1,6 +1,6 @@
 -- The search for a new page, try by try: where it ends, and what it goes on with.
 use Rattle.std.proofs.Common.{◌≡◌, ◌≢◌, inl, inr, ℕ, suc, ◌+◌, ◌/◌, ◌≤◌, List, [], ◌∷◌, ◌++◌, refl, sym, ap, subst, ◌∙◌, arith, Bool, true, false, ◌==◌, ◌||◌, IsTrue, Option, Some, None}
-use Rattle.nb_model.proofs.Common.{true≢false, eqb-true, append-nil, eqb_tells, is_page_size, bits_in, inventory_place, is_system_place, most_pages, inventory_kind, NotDatabase, Full, Image, image_size, Draft, drafted, is_kind, inventory_of, put, take_page, lowest_free, system_page, no_page, Need, first_not, maps_from, entry_page, is_kept, needed_at, new_within, Cause, first_cause, when, lowest_broken, not_of_form, no_room, or_false}
+use Rattle.nb_model.proofs.Common.{true≢false, eqb-true, append-nil, eqb_tells, is_page_size, bits_in, inventory_place, is_system_place, most_pages, inventory_kind, Full, Image, image_size, Draft, drafted, is_kind, inventory_of, put, take_page, lowest_free, system_page, no_page, Need, first_not, maps_from, entry_page, is_kept, needed_at, new_within, Cause, first_cause, when, lowest_broken, not_of_form, no_room, or_false}
 use Rattle.nb_model.proofs.DraftJoin.{joined, joined_new, join_new}
 use Rattle.nb_model.proofs.NeedLaws.{first_append, both_none, maps_all, none_ready}
 use Rattle.nb_model.proofs.StepLaws.{IsClear, IsReady}

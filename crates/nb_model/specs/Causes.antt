@@ -33,6 +33,20 @@ Tested (Err (Refused refusal)) cause = cause ≡ Some refusal
 Tested (Err Device) cause = Unit {0}
 Tested (Err Memory) cause = Unit {0}
 
+-- so it is of a test that only reads: it wants no memory
+abbrev pub TestedByReads : {T : Type 0} → Result T Fault → Cause → Type 0
+TestedByReads (Ok value) cause = cause ≡ None
+TestedByReads (Err (Refused refusal)) cause = cause ≡ Some refusal
+TestedByReads (Err Device) cause = Unit {0}
+TestedByReads (Err Memory) cause = ⊥
+
+-- and of one that calls nothing: it passes exactly where there is no cause
+abbrev pub TestedAlone : {T : Type 0} → Result T Fault → Cause → Type 0
+TestedAlone (Ok value) cause = cause ≡ None
+TestedAlone (Err (Refused refusal)) cause = cause ≡ Some refusal
+TestedAlone (Err Device) cause = ⊥
+TestedAlone (Err Memory) cause = ⊥
+
 -- the database may not be changed
 abbrev pub read_only : Image → Cause
 read_only image = when (is_read_only image) (Access 1)

@@ -1,5 +1,5 @@
 use Rattle.std.proofs.Common.{◌≡◌, ℕ, ◌+◌, sym, ap, subst, ◌∙◌, length, Option}
-use Rattle.nb_fold.proofs.Common.{eqb-true, head_of, LevelHead, Cause, Head, Contents, Tested, first_size, not_after}
+use Rattle.nb_fold.proofs.Common.{eqb-true, head_of, LevelHead, Cause, Head, Contents, TestedAlone, first_size, not_after}
 use Rattle.nb_change.proofs.ResultLaws.{on_ok_then}
 use Rattle.nb_fold.proofs.AddLaws.{last_there, last_alike, no_last, some_of, same_test}
 use Rattle.nb_fold.proofs.opening.goes_on_from.Goals as goal
@@ -15,7 +15,7 @@ returns-clause-test c last x is_last head =
     let here : head_of c.head-last.result ≡ l.0.head = ap head_of c.head-last.ensures.value ∙ l.2 in
     let same = same_test (c.from-wanted.result + 1) (l.0.head.level + 1) c.of.result l.0 c.args.name.now x (ap (λ (n : ℕ). n + 1) (c.from-wanted.ensures ∙ ap (λ (h : Head). h.level) here))
     (c.of.ensures.guid ∙ ap (λ (h : Head). h.guid) here) (c.of.ensures.scn ∙ ap (λ (h : Head). h.scn) here) (c.of.ensures.size ∙ ap (λ (h : Head). h.size) here) in
-    subst (λ (o : Option Contents). Tested (not_after o c.args.name.now x) c.goes_on.result) (sym l.1) (subst (λ (cause : Cause). Tested cause c.goes_on.result) same (c.goes_on.ensures.test x head))
+    subst (λ (o : Option Contents). TestedAlone c.goes_on.result (not_after o c.args.name.now x)) (sym l.1) (subst (λ (cause : Cause). TestedAlone c.goes_on.result cause) same (c.goes_on.ensures.test x head))
 
 pub returns-clause-size : goal.returns-clause-size
 returns-clause-size c =

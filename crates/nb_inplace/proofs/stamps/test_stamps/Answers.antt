@@ -1,5 +1,5 @@
 use Rattle.std.proofs.Common.{◌≡◌, ℕ, ◌*◌, ◌≤◌, List, length, take, drop, ap, sym, ◌∙◌, arith, Option, Some, None, option_map}
-use Rattle.nb_inplace.proofs.Common.{length-take-le, Files, Refusal, ChainScn, quiet_joined, Page, written_since, IsOfSize, all-take, all-drop, Tested, passed}
+use Rattle.nb_inplace.proofs.Common.{length-take-le, Files, Refusal, ChainScn, quiet_joined, Page, written_since, IsOfSize, all-take, all-drop, TestedByReads, passed}
 use Rattle.nb_inplace.proofs.StampLaws.{room_for, piece_late, piece_early, none_left, done_tested}
 use Rattle.nb_inplace.proofs.stamps.test_stamps.Goals as goal
 
@@ -20,7 +20,7 @@ returns-in_err-read_pages-clause-test g c tells ps there sizes long =
     let now = ap (λ (f : Files). f c.args.standby.now) loop.quiet.still.files ∙ there in
     let room : c.min-count.result * c.args.page_size ≤ length c.loop-number.piece = let low = room_for (length c.args.piece.now) c.args.page_size c.min-count.result (omega (arith, c.min-count.ensures)) in omega (arith, low, c.loop-number.auto.piece) in
     let wide : length (take (c.min-count.result * c.args.page_size) c.loop-number.piece) ≡ c.min-count.result * c.args.page_size = length-take-le _ c.loop-number.piece room in
-    passed (Unit {0}) (Tested (written_since c.args.file.now c.args.scn (drop 1 ps))) c.from_residual.result c.in_err-read_pages.field-0.0 c.from_residual.ensures
+    passed (Unit {0}) (λ r. TestedByReads r (written_since c.args.file.now c.args.scn (drop 1 ps))) c.from_residual.result c.in_err-read_pages.field-0.0 c.from_residual.ensures
     (done_tested (Unit {0}) (Unit {0}) _ _ c.in_err-read_pages.field-0.0 (c.in_err-read_pages.ensures.pages tells ps c.min-count.result now sizes wide (omega (arith, c.min-count.ensures, long, c.loop-number-test.true))))
 
 pub returns-in-Some-clause-test : goal.returns-in-Some-clause-test

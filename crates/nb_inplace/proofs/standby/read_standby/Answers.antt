@@ -1,5 +1,5 @@
 use Rattle.std.proofs.Common.{ℕ, List, take, sym, ap, subst, ◌∙◌, Some}
-use Rattle.nb_inplace.proofs.Common.{File, Files, bytes_of, NoFile, not_standby, Tested, IsLong, long_file}
+use Rattle.nb_inplace.proofs.Common.{File, Files, bytes_of, NoFile, not_standby, TestedByReads, IsLong, long_file}
 use Rattle.nb_inplace.proofs.StandbyLaws.{not_there}
 use Rattle.nb_inplace.proofs.standby.read_standby.Goals as goal
 
@@ -8,7 +8,7 @@ returns-clause-test g c tells =
     let name : List ℕ = c.args.name.now in
     let here : IsLong ((g.H.Host.world c.args.host.now).files name) c.in-Some.len = long_file _ _ _ (c.in_ok-len.ensures.answer tells) c.in-Some.is in
     let read = (c.in_ok-got.ensures.answer tells).bytes ∙ ap (λ (f : Files). take 66 (bytes_of (f name))) c.size.ensures.files.files ∙ ap (λ (x : File). take 66 (bytes_of x)) here.is in
-    subst (λ (x : File). Tested (not_standby name x) c.standby_in.result) (sym here.is) (c.standby_in.ensures.test name here.bytes here.long read)
+    subst (λ (x : File). TestedByReads c.standby_in.result (not_standby name x)) (sym here.is) (c.standby_in.ensures.test name here.bytes here.long read)
 
 pub returns-in_default-clause-test : goal.returns-in_default-clause-test
 returns-in_default-clause-test g c tells =

@@ -1,5 +1,5 @@
 use Rattle.std.proofs.Common.{◌≡◌, ℕ, sym, ap, subst, ◌∙◌, rules, true, not, nat_eq, ◌==◌, Some, None}
-use Rattle.nb_inplace.proofs.Common.{is_header, WrongState, not_database, not_standby, OnApply, size_is, state_is, refused, tested_by, Tested, Standby, unheaded, passed}
+use Rattle.nb_inplace.proofs.Common.{is_header, WrongState, not_database, not_standby, OnApply, size_is, state_is, refused, tested_by, TestedByReads, Standby, unheaded, passed}
 use denote.Enum.Bare.{same_true, same_false}
 use Rattle.nb_cases.specs.contracts.events.Case.{the_type}
 use Rattle.nb_cases.specs.declared.events.Case.TheVariants as case
@@ -18,7 +18,7 @@ returns-in_err-pages-clause-test c name bytes long read =
     let first = c.args.first.now in
     let headed : is_header bytes ≡ true = sym (first_header first bytes read) ∙ sym c.in-Some.ensures.exact in
     let size = size_is bytes c.in-Some.header (c.in-Some.ensures.value ∙ header_is first bytes read) in
-    passed Standby (Tested (not_standby name (Some bytes))) c.from_residual.result c.in_err-pages.field-0.0 c.from_residual.ensures
+    passed Standby (λ r. TestedByReads r (not_standby name (Some bytes))) c.from_residual.result c.in_err-pages.field-0.0 c.from_residual.ensures
     (tested_by ℕ Standby c.in_err-pages.field-0.0 (not_database bytes) (not_standby name (Some bytes)) (unformed name bytes) (c.in_err-pages.ensures.test bytes headed (sym size) long))
 
 pub returns-then-eq-clause-test : goal.returns-then-eq-clause-test
