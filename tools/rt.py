@@ -5,7 +5,8 @@
 
 `rt` knows a library that it has built by a sum of its text and of all text below it. It takes that several times in a run, and each time once for each way that
 leads down through crates.txt, of which an upper crate has thousands (docs/GATE.md has what they cost). Where nothing changes the text during the run, as in a room
-(`rooms.py`), the sum that was taken first holds. What is proved, and by what, is as `rt` has it. An `rt` that takes its sums in another way runs as it is.
+(`rooms.py`), the sum that was taken first holds; elsewhere nobody may edit a crate below meanwhile. What is proved, and by what, is as `rt` has it. Where its crates have no such sum, `rt` runs
+as it is.
 """
 import functools
 import importlib.machinery

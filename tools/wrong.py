@@ -4,8 +4,8 @@
     tools/wrong.py            of every crate
     tools/wrong.py NAME ..    of these crates
 
-The libraries below are proved first, where they weren't before, and that is kept. Then one `rt must-fail` tries all the edits, as many side by side as the machine has
-processors and memory for, in a room in which wrong/ stands in the place of must-fail/. What isn't refused, or can't be tried, is shown, and the status is the number of
+The libraries below are proved first, where they weren't before, and that is kept. Then one `rt must-fail` tries all the edits, side by side as far as the kit does so
+(docs/GATE.md), in a room in which wrong/ stands in the place of must-fail/. What isn't refused, or can't be tried, is shown, and the status is the number of
 such edits."""
 import os
 import re
