@@ -49,18 +49,20 @@ def rt_ci(top):
     return subprocess.run(["rt", "ci"], cwd=top, check=False).returncode
 
 
-def changes():
-    """What tells whether a file was changed, also where it was changed back."""
-    return [(path, os.stat(path).st_ino, os.stat(path).st_ctime_ns) for path in tree.files(tree.ROOT)]
+def seen():
+    """The sum of the text as it stands, and what tells whether a file was changed, also where it was changed back. Nothing where a file
+    can't be read, of which `rt ci` then says why."""
+    with contextlib.suppress(OSError):
+        return tree.sum_of(tree.ROOT), [(it.st_ino, it.st_ctime_ns) for it in map(os.stat, tree.files(tree.ROOT))]
 
 
 def gate():
-    text, before = tree.sum_of(tree.ROOT), changes()
+    before = seen()
     status = rt_ci(tree.ROOT)
-    # Where it passes, what can't be kept fails nothing: the last line is that of `rt ci`.
+    # What can't be kept fails nothing: the status and the last line are those of `rt ci`.
     with contextlib.suppress(OSError):
-        if status == 0 and changes() == before:
-            keep(tree.ROOT, text)
+        if status == 0 and before and seen() == before:
+            keep(tree.ROOT, before[0])
     return status
 
 
