@@ -79,6 +79,7 @@ def program():
 def main(words):
     if words not in ([], ["program"]):
         sys.exit(__doc__)
+    tree.want_kit()
     status = program() if words else gate()
     return status if status >= 0 else 128 - status
 

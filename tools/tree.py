@@ -4,6 +4,7 @@ import hashlib
 import os
 import shutil
 import subprocess
+import sys
 import tempfile
 
 ROOT = os.path.dirname(os.path.dirname(os.path.abspath(__file__)))
@@ -11,6 +12,11 @@ ROOT = os.path.dirname(os.path.dirname(os.path.abspath(__file__)))
 # The folders of a crate that no program is built of: what was made there, and the wrong bodies.
 LEFT_OUT = {"out", "must-fail", "wrong"}
 SHARED = ("crates.txt", "HANDLES")
+
+
+def want_kit():
+    if not shutil.which("rt"):
+        sys.exit("rt, the command of the Rattle kit, is not on the PATH")
 
 
 def left_out(folder, names):

@@ -51,6 +51,7 @@ def show(name, said):
 
 
 def main(names):
+    tree.want_kit()
     every = [it for it in sorted(os.listdir(f"{tree.ROOT}/crates")) if edits_of(it)]
     unknown = [it for it in names if it not in every]
     if unknown:
