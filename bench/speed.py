@@ -2,27 +2,22 @@
 
     python3 bench/speed.py PROGRAM [MIB [PAGE_SIZE]]
 
-A database of MIB (100) and pages of PAGE_SIZE bytes (4,096, and then 8,192) is locked and merged with 1 and 10 % of its pages written,
-backed up at level 0, at level 1 with 0, 1 and 10 % of its pages changed and at level 2, and restored from level 0 and from levels 0, 1 and 2.
-Each row is a median of ROUNDS runs that take turns; one run more counts the calls by strace, and another watches the memory. Then
-acknowledged page writes a second, beside a loop of `pwrite` and `fdatasync` and beside SQLite, and real nbackup on a database of that size
-where Debian's firebird3.0-server and firebird3.0-utils are installed. Nothing is judged: the aims are printed beside.
+A database (`timing.py`) is locked and merged with 1 and 10 % of its pages written, backed up at level 0, at level 1 with 0, 1 and 10 % of its pages changed and
+at level 2, and restored from level 0 and from levels 0, 1 and 2. Then acknowledged page writes a second, beside a loop of `pwrite` and `fdatasync` and beside
+SQLite, and real nbackup on a database of that size where Debian's firebird3.0-server and firebird3.0-utils are installed.
 """
 
 import os
-import platform
-import re
 import shutil
 import sqlite3
 import statistics
 import subprocess
-import sys
 import time
 
-from common import FIRST_RAW, Folder
+from common import FIRST_RAW
+from timing import ROUNDS, Database, copied, each_table, heading, is_system_place, looks, row, synced, timed
 
-ROUNDS, ACKNOWLEDGED, ROTATED = 7, 3_000, 500
-MOST_LINES, MOST_RAW = 9_000, 65_535
+ACKNOWLEDGED, ROTATED = 3_000, 500
 AIMS = {
     "level 0": "1.15",
     "level 1, 1 % changed": "0.3",
@@ -43,103 +38,10 @@ JOBS = (
     "restore of level 0",
     "restore of levels 0, 1, 2",
 )
-CALL = re.compile(r"^(?:\d+ +)?(pread64|pwrite64|fdatasync|fsync)\(")
-MEMORY = re.compile(r"VmHWM:\s+(\d+) kB")
 
 
-def check(words, output):
-    if b"refused" in output or not output:
-        raise SystemExit(f"{words}: {output[:200]}")
-
-
-def timed(folder, words):
-    """Seconds, and seconds of the processor."""
-    os.sync()
-    began = time.perf_counter()
-    running = folder.start(words)
-    output = running.stdout.read()
-    _, _, usage = os.wait4(running.pid, 0)
-    took = time.perf_counter() - began
-    running.returncode = 0
-    check(words, output)
-    return {"seconds": took, "processor": usage.ru_utime + usage.ru_stime}
-
-
-def counted(folder, words):
-    """How many reads, writes and syncs of the system."""
-    output, _ = folder.start(["strace", "-f", "-qq", "-o", folder.file("trace")] + words).communicate()
-    check(words, output)
-    with open(folder.file("trace"), encoding="utf-8", errors="replace") as trace:
-        found = [CALL.match(line) for line in trace]
-    names = [call[1] for call in found if call]
-    reads, writes = names.count("pread64"), names.count("pwrite64")
-    return {"reads": reads, "writes": writes, "syncs": len(names) - reads - writes}
-
-
-def watched(folder, words):
-    """The most memory, in MiB, of many looks while it runs."""
-    running = folder.start(words)
-    most = 0
-    while running.poll() is None:
-        try:
-            with open(f"/proc/{running.pid}/status", encoding="ascii") as status:
-                found = MEMORY.search(status.read())
-                name = os.readlink(f"/proc/{running.pid}/exe")
-        except OSError:
-            continue
-        if found and name == os.path.realpath(words[0]):
-            most = max(most, int(found[1]))
-    check(words, running.stdout.read())
-    return {"memory": most / 1024}
-
-
-def copied(folder, source, target):
-    """cp and fsync."""
-    os.sync()
-    began = time.perf_counter()
-    subprocess.run(["cp", source, target], cwd=folder.path, check=True)
-    synced(folder, target)
-    return {"seconds": time.perf_counter() - began, "processor": 0.0}
-
-
-def synced(folder, name):
-    file = os.open(folder.file(name), os.O_RDONLY)
-    os.fsync(file)
-    os.close(file)
-
-
-def is_system_place(page_size, page):
-    entries = (page_size - 32) // 4
-    return page % entries == 0 or (page + 1) % (32 * entries) == 0
-
-
-class Database:
-    """A database of a size, from which each round starts anew."""
-
-    def __init__(self, folder, path, mib, page_size):
-        self.folder, self.path, self.page_size = folder, path, page_size
-        raw = (mib << 20) // page_size - 40
-        self.run([f"1: create database 'kept' page_size {page_size} raw {min(raw, MOST_RAW)}"])
-        for begin in range(MOST_RAW, raw, MOST_LINES):
-            self.run(["1: open 'kept'", "1: forced writes off"] + ["1: page new"] * min(MOST_LINES, raw - begin) + ["1: forced writes on"])
-        self.pages = os.path.getsize(folder.file("kept")) // page_size
-
-    def run(self, lines):
-        self.folder.write_script("script", lines)
-        return timed(self.folder, [self.path, "run", "script"])
-
-    def fresh(self):
-        for name in os.listdir(self.folder.path):
-            if name not in ("kept", "f.fdb"):
-                os.remove(self.folder.file(name))
-        shutil.copyfile(self.folder.file("kept"), self.folder.file("x.db"))
-
-    def write(self, every, first=0):
-        """Writes one page in so many."""
-        chosen = [page for page in range(FIRST_RAW + first, self.pages, every) if not is_system_place(self.page_size, page)]
-        for begin in range(0, len(chosen), MOST_LINES):
-            lines = [f"1: write {page} 'x'" for page in chosen[begin : begin + MOST_LINES]]
-            self.run(["1: open 'x.db'", "1: forced writes off"] + lines + ["1: sync", "1: forced writes on"])
+class Backups(Database):
+    """A database that goes through every job of a backup."""
 
     def round(self, measure, found):
         """Each job once."""
@@ -279,50 +181,21 @@ def firebird_rows(folder, mib, page_size):
         print(f"| {name} | {statistics.median(took):.3f} | {statistics.median(took) / whole:.2f} |", flush=True)
 
 
-def machine(folder):
-    """What the figures were taken on."""
-    with open("/proc/cpuinfo", encoding="ascii", errors="replace") as info:
-        model = next((line.split(":")[1].strip() for line in info if line.startswith("model name")), platform.machine())
-    system = subprocess.run(["stat", "-f", "-c", "%T", folder.path], check=True, capture_output=True, text=True).stdout.strip()
-    return f"{os.cpu_count()} × {model}, Linux {platform.release()}, {system}; load {os.getloadavg()[0]:.1f}"
-
-
-def tables_of(path, mib, page_size):
-    with Folder() as folder:
-        base = Database(folder, path, mib, page_size)
-        print(f"{mib} MiB, pages of {page_size:,} bytes; {machine(folder)}\n")
-        found = {job: [] for job in JOBS}
-        for _ in range(ROUNDS):
-            base.round(timed, found)
-        more = {job: [] for job in JOBS}
-        if shutil.which("strace"):
-            base.round(counted, more)
-        base.round(watched, more)
-        print("| Job | Seconds | Of `cp` and `fsync` | Aim | Processor | Reads | Writes | Syncs | MiB of memory |\n|---|---|---|---|---|---|---|---|---|")
-        whole = statistics.median(run["seconds"] for run in found["cp and fsync"])
-        for job in JOBS:
-            took, processor = (statistics.median(run[kind] for run in found[job]) for kind in ("seconds", "processor"))
-            calls = {kind: count for run in more[job] for kind, count in run.items()}
-            rest = [f"{processor:.3f}" if processor else ""] + [f"{calls[kind]:,}" if kind in calls else "" for kind in ("reads", "writes", "syncs")]
-            memory = f"{calls['memory']:.1f}" if calls.get("memory") else ""
-            print(f"| {job} | {took:.3f} | {took / whole:.2f} | {AIMS.get(job, '')} | {' | '.join(rest)} | {memory} |", flush=True)
-        print("\n| Acknowledged page writes | A second | Of the time of the bare calls | Aim |\n|---|---|---|---|")
-        acknowledged_rows(base)
-        if shutil.which("nbackup") and shutil.which("isql-fb"):
-            firebird_rows(folder, mib, page_size)
-        print()
-
-
-def main():
-    if not 2 <= len(sys.argv) <= 4:
-        sys.exit(f"usage: {sys.argv[0]} PROGRAM [MIB [PAGE_SIZE]]")
-    path = os.path.abspath(sys.argv[1])
-    if not os.access(path, os.X_OK):
-        sys.exit(f"{path} is no program")
-    mib = int(sys.argv[2]) if len(sys.argv) > 2 else 100
-    for page_size in [int(sys.argv[3])] if len(sys.argv) > 3 else [4_096, 8_192]:
-        tables_of(path, mib, page_size)
+def table_of(folder, path, mib, page_size):
+    base = Backups(folder, path, mib, page_size)
+    found, more = {job: [] for job in JOBS}, {job: [] for job in JOBS}
+    for _ in range(ROUNDS):
+        base.round(timed, found)
+    for look in looks():
+        base.round(look, more)
+    heading()
+    for job, runs in found.items():
+        row(job, runs, found["cp and fsync"], more[job], AIMS.get(job, ""))
+    print("\n| Acknowledged page writes | A second | Of the time of the bare calls | Aim |\n|---|---|---|---|")
+    acknowledged_rows(base)
+    if shutil.which("nbackup") and shutil.which("isql-fb"):
+        firebird_rows(folder, mib, page_size)
 
 
 if __name__ == "__main__":
-    main()
+    each_table(table_of)

@@ -4,67 +4,62 @@
     tools/wrong.py            of every crate
     tools/wrong.py NAME ..    of these crates
 
-The libraries below are proved first, where they weren't before, and that is kept. Then one `rt must-fail` tries all the edits, side by side as far as the kit does so
-(docs/GATE.md), in a room in which wrong/ stands in the place of must-fail/. What isn't refused, or can't be tried, is shown, and the status is the number of
-such edits."""
+`rt ci` tries them, in a copy of these crates and of those below in which wrong/ stands in the place of must-fail/. What it says is
+shown as it says it; at the end stands for each crate how many were refused, with those that weren't, couldn't be tried, or were refused for
+a lost name alone. The status is the number of those that weren't refused, 255 at the most."""
 import os
 import re
 import shutil
+import subprocess
 import sys
-import time
 
-import rooms
+import tree
 
 # What rt says of an edit that was tried.
 VERDICT = re.compile(r"rt: must-fail (\w+)/(\S+\.edit): (.*)")
 
 
 def edits_of(name):
-    folder = f"{rooms.ROOT}/crates/{name}/wrong"
+    folder = f"{tree.ROOT}/crates/{name}/wrong"
     return sorted(os.listdir(folder)) if os.path.isdir(folder) else []
 
 
 def tried(names):
-    """What was said of the edits of these crates, by crate and edit, and all that `rt` said."""
-    with rooms.Room(*names) as room:
+    """What was said of the edits of these crates, by crate and edit."""
+    said = {}
+    with tree.copy_of(names) as top:
         for name in names:
-            shutil.copytree(f"{rooms.ROOT}/crates/{name}/wrong", f"{room.folder(name)}/must-fail")
-        _, text = room.rt("must-fail", *names)
-    return {(crate, edit): why for crate, edit, why in VERDICT.findall(text)}, text
+            shutil.copytree(f"{tree.ROOT}/crates/{name}/wrong", f"{top}/crates/{name}/must-fail")
+        with subprocess.Popen(["rt", "ci"], cwd=top, stdout=subprocess.PIPE, text=True, errors="replace") as running:
+            for line in running.stdout:
+                print(line, end="", flush=True)
+                found = VERDICT.match(line)
+                if found:
+                    said[found[1], found[2]] = found[3]
+    return said
 
 
-def show(names, said):
-    """Shows for each crate how many of its edits were refused, and which weren't, or for a lost name alone. Answers how many weren't."""
-    left = 0
-    for name in names:
-        verdicts = {edit: said.get((name, edit), "not tried") for edit in edits_of(name)}
-        refused = [edit for edit, why in verdicts.items() if why.startswith("refused")]
-        left += len(verdicts) - len(refused)
-        print(f"{name}: {len(refused)} of {len(verdicts)} refused")
-        for edit, why in verdicts.items():
-            if edit not in refused or "(only " in why:
-                print(f"  {edit}: {why}")
-    return left
+def show(name, said):
+    """Shows how many edits of a crate were refused, and which weren't, or for a lost name alone. Answers how many weren't."""
+    verdicts = {edit: said.get((name, edit), "not tried") for edit in edits_of(name)}
+    refused = [edit for edit, why in verdicts.items() if why.startswith("refused")]
+    print(f"{name}: {len(refused)} of {len(verdicts)} refused")
+    for edit, why in verdicts.items():
+        if edit not in refused or "(only " in why:
+            print(f"  {edit}: {why}")
+    return len(verdicts) - len(refused)
 
 
 def main(names):
-    every = [it for it in rooms.KNOWN if edits_of(it)]
+    tree.want_kit()
+    every = [it for it in sorted(os.listdir(f"{tree.ROOT}/crates")) if edits_of(it)]
     unknown = [it for it in names if it not in every]
     if unknown:
         sys.exit(f"no crate of that name has a folder wrong/: {' '.join(unknown)}")
-    names, began, failed = names or every, time.time(), []
-    needed = set().union(*(rooms.below(it) for it in names))
-    print(f"{len(needed)} libraries stand below; those that weren't proved before are proved first", flush=True)
-    if rooms.prove(needed, lambda name, stands, text: None if stands else failed.append(f"{name}: not proved\n{text}")):
-        sys.exit("".join(failed))
-    count = sum(len(edits_of(it)) for it in names)
-    print(f"{count} edits of {len(names)} crates are tried, after {(time.time() - began) / 60:.0f} minutes", flush=True)
-    said, text = tried(names)
-    left = show(names, said)
-    if any((it, edit) not in said for it in names for edit in edits_of(it)):
-        # rt ended before it had tried them all: it says why.
-        print(text)
-    print(f"{left} not refused, {(time.time() - began) / 60:.0f} minutes")
+    names = names or every
+    said = tried(names)
+    left = sum(show(it, said) for it in names)
+    print(f"{left} not refused")
     return min(left, 255)
 
 
