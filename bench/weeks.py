@@ -1,20 +1,20 @@
 """Weeks of `examples/nightly` in which something goes wrong that a backup could be lost by: none is that was whole.
 
-Each case has a small database of its own, and some nights of both kinds of chain. What each chain restores to is noted in its night; at
-the end each file is there, but those that the levels 0 which are kept don't need, and each chain restores to what it did.
+Each case has a small database of its own, and some weeks of both kinds of chain; to be short a week has four days here. What each chain restores to
+is noted in its night; at the end each file is there, but those that the levels 0 which are kept don't need, and each chain restores to what it did.
 """
 
-import datetime
+import concurrent.futures
 import os
 import signal
-import sys
 import time
 
 from common import in_memory, program, report
-from nightly import FIRST, KEEP, Place, finished, locked
+from nightly import KEEP, Place, finished, locked
 
 PAGE_SIZE, RAW = 1024, 40
-CALLS = "openat,flock,ftruncate,pwrite64,fdatasync,fsync,unlink"
+WEEK = 4
+CALLS = "flock,ftruncate,pwrite64,fdatasync,fsync,unlink"
 
 
 class Weeks(Place):
@@ -47,10 +47,12 @@ class Weeks(Place):
             if status or sent:
                 yield f"{self.today()} ends with {status}: {sent}"
 
-    def until(self, weekday):
-        """Nights up to the one before a day of the week."""
-        while (FIRST + datetime.timedelta(self.day + 1)).isoweekday() % 7 != weekday:
-            yield from self.nights(1)
+    def weekday(self):
+        return str(self.day % WEEK)
+
+    def backup(self):
+        """The file that tonight's backup goes to, whichever level it is of."""
+        return [self.path_of(f"{self.today()}.{level}") for level in range(10)]
 
     def note(self):
         line = self.log()[-1]
@@ -80,7 +82,7 @@ class Weeks(Place):
             yield f"left are {os.listdir(self.file('tmp'))}"
 
     def stops(self, at):
-        """A program that is killed by its call `at`, of those that matter, while it makes a backup, and the night with it."""
+        """A program that is killed at its call `at`, of those that lock a file (each that is opened) or change one, while it makes a backup, and the night with it."""
         with open(self.file("stops"), "w", encoding="ascii") as file:
             trace = f"strace -qq -o /dev/null -e trace={CALLS} -e inject={CALLS}:signal=KILL:when={at}"
             file.write(f"#!/bin/sh\n[ \"$1\" = -B ] || exec '{self.program}' \"$@\"\n")
@@ -90,8 +92,8 @@ class Weeks(Place):
 
 
 def moved(place):
-    """Two levels 0 are elsewhere for a day, on which a level 0 is made instead; three weeks after all goes its way."""
-    yield from place.nights(12)
+    """Two levels 0 are elsewhere for a day, on which a level 0 is made instead; then all goes its way."""
+    yield from place.nights(6)
     away = place.whole_files()[-2:]
     for name in away:
         os.rename(place.path_of(name), place.file(name))
@@ -103,7 +105,7 @@ def moved(place):
         yield f"{gone} were removed"
     for name in away:
         os.rename(place.file(name), place.path_of(name))
-    yield from place.nights(14)
+    yield from place.nights(6)
     if len(place.whole_files()) != KEEP:
         yield f"kept are {place.whole_files()}"
 
@@ -170,13 +172,12 @@ def stopped_at_each_call(place):
         states.add(place.state())
         if place.state() == 0 and not ended and at % 2:
             old = time.time() - 3600
-            for name in place.backup()[:1] + [place.path_of(f"{place.today()}.{level}") for level in range(1, 10)]:
+            for name in place.backup():
                 if os.path.exists(name):
                     os.utime(name, (old, old))
-            whole = not os.path.exists(place.path_of("under-way"))
             place.words("-L", "a.db")
-            status, sent = place.night(TODAY=place.today() + "x")
-            if place.state() != 1 and not whole:
+            status, sent = place.night(TODAY="2030-01-01")
+            if place.state() != 1:
                 yield f"call {at}: the lock of someone else is gone: {status} {sent!r}"
             place.words("-N", "a.db")
         place.day += 1
@@ -193,8 +194,7 @@ def stopped_at_each_call(place):
 
 def cut(place):
     """The last level 0 is cut at the end of a page: a level 0 is made the same night, and nothing is removed while the cut one counts."""
-    yield from place.until(0)
-    yield from place.nights(3)
+    yield from place.nights(6)
     bad = place.whole_files()[-1]
     os.truncate(place.path_of(bad), os.path.getsize(place.path_of(bad)) - PAGE_SIZE)
     yield from falls_back(place, bad, "is cut")
@@ -202,8 +202,7 @@ def cut(place):
 
 def damaged(place):
     """The header of the last level 0 is damaged."""
-    yield from place.until(0)
-    yield from place.nights(3)
+    yield from place.nights(6)
     bad = place.whole_files()[-1]
     with open(place.path_of(bad), "r+b") as file:
         file.seek(16)
@@ -222,13 +221,12 @@ def falls_back(place, bad, why):
         yield f"{set(before) - set(place.names())} were removed"
     yield from place.lost(but=[bad])
     os.remove(place.path_of(bad))
-    yield from place.nights(14)
+    yield from place.nights(6)
 
 
 def damaged_level(place):
     """The last level file is cut short: a chain of the week falls back, the others don't need it. Nothing is removed while it is there."""
-    yield from place.until(0)
-    yield from place.nights(9)
+    yield from place.nights(7)
     bad = place.names()[-1]
     os.truncate(place.path_of(bad), 2000)
     status, sent = place.tonight()
@@ -238,7 +236,7 @@ def damaged_level(place):
     os.remove(place.path_of(bad))
     for name in [name for name, (files, _) in place.noted.items() if bad in files]:
         del place.noted[name]
-    yield from place.nights(12)
+    yield from place.nights(6)
 
 
 def killed(place):
@@ -258,24 +256,24 @@ def killed(place):
 
 def others(place):
     """Others make backups of all levels between the nights, by level and by GUID, on each day but before that of the check."""
-    yield from place.nights(5)
-    for day in range(9):
+    yield from place.nights(3)
+    for day in range(6):
         place.words("-B", "0", "a.db", f"other{day}.0")
         for level in range(1, 6):
             place.words("-B", str(level), "a.db", f"other{day}.{level}")
-        status, sent = place.tonight(CHECK_DAY="none")
+        status, sent = place.tonight(CHECK_DAY="none", WHOLE_DAY="none")
         if status or sent:
             yield f"{place.today()} ends with {status}: {sent}"
     levels = max(int(name[-1]) for name in place.names() if name[10:11] == ".")
-    if levels != (6 if place.chain == "week" else 1):
+    if levels != (8 if place.chain == "week" else 1):
         yield f"the highest level is {levels}"
-    yield from place.nights(7)
+    yield from place.nights(3)
 
 
 def no_sunday(place):
-    """No night falls on a Sunday: after nine files a chain of the week begins anew."""
+    """No night falls on the day of level 0: after nine files a chain of the week begins anew."""
     yield from place.nights(1)
-    for _ in range(19):
+    for _ in range(10):
         status, sent = place.tonight(WHOLE_DAY="none", CHECK_DAY="none")
         if status or sent:
             yield f"{place.today()} ends with {status}: {sent}"
@@ -285,8 +283,7 @@ def no_sunday(place):
 
 def restored(place):
     """The database is restored from its last chain: its history lacks that, so a level 0 is made, and nothing is removed while SCNs and dates disagree."""
-    yield from place.until(0)
-    yield from place.nights(11)
+    yield from place.nights(7)
     files = place.noted[place.names()[-1]][0]
     os.remove(place.file("a.db"))
     place.words("-R", "a.db", *[f"backups/{file}" for file in files])
@@ -294,7 +291,7 @@ def restored(place):
     if not os.path.exists(place.backup()[0]) or "lacks" not in sent:
         yield f"the next night ends with {status}: {sent!r}"
     yield from place.lost()
-    for _ in range(21):
+    for _ in range(10):
         place.tonight()
     yield from place.lost()
     yield from place.nights(1)
@@ -342,10 +339,18 @@ CASES = [
     ("the last level file is cut", damaged_level),
     ("SIGKILL, and the temporary folder", killed),
     ("others make backups between", others),
-    ("no Sunday for three weeks", no_sunday),
+    ("no level 0 for eleven nights", no_sunday),
     ("the database was restored", restored),
     ("paths that the program doesn't take", names),
 ]
+
+
+def tried(path, chain, name, case):
+    """What is wrong in a case."""
+    begun = time.monotonic()
+    with Weeks(path, chain) as place:
+        wrong = [*case(place), *place.lost()]
+    return f"  {chain:4} {name:42} {time.monotonic() - begun:5.1f} s  {'; '.join(wrong) or 'no backup is lost'}", wrong
 
 
 def main():
@@ -353,15 +358,14 @@ def main():
     path = program()
     start = time.monotonic()
     failed = 0
-    for chain in ("day", "week"):
-        for name, case in CASES:
-            begun = time.monotonic()
-            with Weeks(path, chain) as place:
-                wrong = [*case(place), *place.lost()]
+    with concurrent.futures.ThreadPoolExecutor(os.cpu_count()) as pool:
+        trials = [pool.submit(tried, path, chain, name, case) for name, case in CASES for chain in ("day", "week")]
+        for trial in trials:
+            line, wrong = trial.result()
             failed += bool(wrong)
-            print(f"  {chain:4} {name:42} {time.monotonic() - begun:5.1f} s  {'; '.join(wrong) or 'no backup is lost'}", flush=True)
+            print(line, flush=True)
     report("weeks", failed == 0, f"{len(CASES)} things that go wrong, with both chains: a backup is lost, or a night fails, in {failed}, in {time.monotonic() - start:.0f} s")
 
 
 if __name__ == "__main__":
-    sys.exit(main())
+    main()
