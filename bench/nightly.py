@@ -141,7 +141,7 @@ class Place(Folder):
 
 
 def finished(running):
-    said, sent = running.communicate(timeout=60)
+    said, sent = running.communicate(timeout=300)
     return running.returncode, said + sent
 
 

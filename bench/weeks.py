@@ -358,9 +358,9 @@ def main():
     path = program()
     start = time.monotonic()
     failed = 0
-    with concurrent.futures.ThreadPoolExecutor(os.cpu_count()) as pool:
+    with concurrent.futures.ThreadPoolExecutor(3 * os.cpu_count()) as pool:
         trials = [pool.submit(tried, path, chain, name, case) for name, case in CASES for chain in ("day", "week")]
-        for trial in trials:
+        for trial in concurrent.futures.as_completed(trials):
             line, wrong = trial.result()
             failed += bool(wrong)
             print(line, flush=True)
