@@ -8,6 +8,7 @@ are given, so that no day passes. A table shows each case. Where it isn't root w
 import contextlib
 import datetime
 import fcntl
+import hashlib
 import os
 import random
 import shutil
@@ -27,10 +28,10 @@ FIRST = datetime.date(2026, 11, 25)  # a Wednesday
 
 
 class Place(Folder):
-    """A database of 47 MiB, a folder for its backups, and the night that comes next."""
+    """A database, of 47 MiB unless it is said, a folder for its backups, and the night that comes next."""
 
-    def __init__(self, path):
-        self.program, self.day = path, 0
+    def __init__(self, path, raw=RAW, page_size=PAGE_SIZE):
+        self.program, self.day, self.raw, self.page_size = path, 0, raw, page_size
 
     def __enter__(self):
         super().__enter__()
@@ -40,7 +41,7 @@ class Place(Folder):
         with open(self.slow, "w", encoding="ascii") as file:
             file.write(f"#!/bin/sh\nexec strace -D -qq -o /dev/null -e trace=pwrite64 -e inject=pwrite64:delay_enter={DELAY} '{self.program}' \"$@\"\n")
         os.chmod(self.slow, 0o755)
-        self.do(f"1: create database 'a.db' page_size {PAGE_SIZE} raw {RAW}", "1: create table t")
+        self.do(f"1: create database 'a.db' page_size {self.page_size} raw {self.raw}", "1: create table t")
         return self
 
     def words(self, *words):
@@ -54,7 +55,7 @@ class Place(Folder):
 
     def change(self):
         """A row more, and other texts on some pages."""
-        self.do("1: open 'a.db'", f"1: insert t {self.day} 'day {self.day}'", *[f"1: write {5 + 7 * self.day + page} 'day {self.day}'" for page in range(5)])
+        self.do("1: open 'a.db'", f"1: insert t {self.day} 'day {self.day}'", *[f"1: write {5 + (7 * self.day + page) % self.raw} 'day {self.day}'" for page in range(5)])
 
     def state(self):
         """The backup state that the header tells."""
@@ -122,14 +123,25 @@ class Place(Folder):
             yield f"the next night ends with {status}: {sent}"
         yield from self.wrong()
 
-    def log(self):
+    def log(self, what=", 1: ok level "):
+        """The lines of the log that have a backup, or something else."""
         with contextlib.suppress(FileNotFoundError), open(os.path.join(self.backups, "nightly.log"), encoding="ascii") as file:
-            return file.read().splitlines()
+            return [line for line in file.read().splitlines() if what in line]
         return []
+
+    def digest(self, *files):
+        """The digest of what a chain restores to, and nothing where it doesn't."""
+        self.words("-R", "r.db", *[f"backups/{file}" for file in files])
+        if not os.path.exists(self.file("r.db")):
+            return None
+        with open(self.file("r.db"), "rb") as file:
+            found = hashlib.sha256(file.read()).hexdigest()
+        os.remove(self.file("r.db"))
+        return found
 
 
 def finished(running):
-    said, sent = running.communicate(timeout=60)
+    said, sent = running.communicate(timeout=300)
     return running.returncode, said + sent
 
 
@@ -144,7 +156,7 @@ def two_weeks(place):
         yield from place.wrong()
     log = place.log()
     levels = ["01"["level 1" in line] for line in log]
-    if "".join(levels) != "01110111111011"[:14] or sum("compared" in line for line in log) != 2:
+    if "".join(levels) != "01110111111011"[:14] or len(place.log("compared")) != 2:
         yield f"the log: {log}"
     kept = place.names()
     if [name for name in kept if name.endswith(".0")] != ["2026-11-29.0", "2026-12-06.0"] or kept[0] != "2026-11-29.0":
@@ -179,7 +191,7 @@ def full_disk(place):
     subprocess.run(["mount", "-t", "tmpfs", "-o", "size=1m", "tmpfs", small], check=True)
     try:
         yield from expect(place.night(BACKUPS=small), "No space left on device", "is unlocked", "wasn't whole")
-        if os.listdir(small) or place.state():
+        if os.listdir(small) != ["nightly.log"] or os.path.getsize(os.path.join(small, "nightly.log")) or place.state():
             yield f"left are {os.listdir(small)} and the state {place.state()}"
     finally:
         subprocess.run(["umount", small], check=True)
@@ -275,11 +287,22 @@ def file_in_the_way(place):
 
 
 def other_level_0(place):
-    """Someone else has made a level 0: tonight's level 1 would go on from that."""
+    """Someone else has made a level 0: tonight's level 1 goes on from the night's own."""
     place.words("-B", "0", "a.db", "other.0")
-    status, sent = place.night()
-    if status or "a level 0 is made instead" not in sent or not os.path.exists(place.backup()[0]):
+    status, sent = place.night(CHECK_DAY="none")
+    if status or sent or not os.path.exists(place.backup()[1]):
         yield f"status {status}, and it says {sent!r}"
+    yield from place.wrong()
+
+
+def other_level_0_on_check_day(place):
+    """On the day of the check the backup is of a level, and goes on from that of someone else: it is set aside, and made again by the GUID."""
+    place.words("-B", "0", "a.db", "other.0")
+    status, sent = place.night(CHECK_DAY=place.weekday())
+    if status or "isn't compared" not in sent or not os.path.exists(place.backup()[1] + ".other"):
+        yield f"status {status}, and it says {sent!r}"
+    else:
+        os.remove(place.backup()[1] + ".other")
     yield from place.wrong()
 
 
@@ -309,7 +332,7 @@ def damaged(place):
     place.day += 1
     last = os.path.join(place.backups, [name for name in place.names() if name.endswith(".0")][-1])
     with open(last, "r+b") as file:
-        file.seek(PAGE_SIZE * 9000 + 100)
+        file.seek(PAGE_SIZE * (RAW * 3 // 4) + 100)
         file.write(b"x")
     status, sent = place.night()
     yield from expect((status, sent), "isn't what was backed up")
@@ -344,6 +367,7 @@ CASES = [
     ("someone has locked it to copy it", copied_by_hand),
     ("a file is in the way", file_in_the_way),
     ("someone else has made a level 0", other_level_0),
+    ("the same, on the day of the check", other_level_0_on_check_day),
     ("the database was restored", restored),
     ("two nights at once", two_at_once),
     ("a byte of a backup is damaged", damaged),
