@@ -1,6 +1,6 @@
 """Two programs that make the same new file at once: what either acknowledges is there afterwards. `faults.py` judges by it.
 
-In the one part a job is held up between the look at its target and the making of it, and another one makes a file under that name meanwhile. In the other
+In the first part a job is held up between the look at its target and the making of it, and another one makes a file under that name meanwhile. In the second
 part pairs of drawn jobs work on the same few names.
 """
 
@@ -13,11 +13,11 @@ import time
 from common import Folder
 
 PAIRS = 200
-SEED = 58
-DELAY = 1_500_000  # in microseconds, for which the first of two jobs is held up
-STARTED = 0.5  # in seconds, after which it has come there
+SEED = 1
+DELAY = 2_000_000  # microseconds for which the first of two jobs is held up
+STARTED = 0.7  # seconds after which it has come so far
 PRECIOUS = "1: write 6 'precious'"
-RAW_TAKEN = "1: ok 'precious'"
+KEPT = "1: ok 'precious'"
 
 
 class Place:
@@ -60,25 +60,26 @@ def ended(running):
     return running.returncode, said.decode().splitlines(), error.decode()
 
 
-def held_up(name, calls=1):
+def held_up(name):
     """What holds a job up behind the look at a name: the look at the difference file beside it comes next."""
-    return ["strace", "-f", "-qq", "-o", "/dev/null", "-P", f"{name}.delta", "-e", "trace=statx", "-e", f"inject=statx:delay_exit={DELAY}:when={calls}"]
+    return ["strace", "-f", "-qq", "-o", "/dev/null", "-P", f"{name}.delta", "-e", "trace=statx", "-e", f"inject=statx:delay_exit={DELAY}:when=1"]
 
 
 def restore(place):
+    """Restores another database and writes to it. Each of these three answers a test of what was acknowledged, or nothing where it wasn't."""
     place.run(["-R", "c.db", "y.0"])
-    return place.script(["1: open 'c.db'", PRECIOUS])[1][-1:] == ["1: ok"] and (lambda: place.reads("c.db") == [RAW_TAKEN])
+    return place.script(["1: open 'c.db'", PRECIOUS])[1][-1:] == ["1: ok"] and (lambda: place.reads("c.db") == [KEPT])
 
 
 def same_bytes(place, words, name):
-    place.run(words)
+    status = place.run(words)[0]
     kept = place.read(name)
-    return bool(kept) and (lambda: place.read(name) == kept)
+    return status == 0 and (lambda: place.read(name) == kept)
 
 
 def create(place):
-    place.script(["1: create database 'c.db' page_size 1024 raw 3", PRECIOUS])
-    return lambda: place.reads("c.db") == [RAW_TAKEN]
+    said = place.script(["1: create database 'c.db' page_size 1024 raw 3", PRECIOUS])[1]
+    return said[-1:] == ["1: ok"] and (lambda: place.reads("c.db") == [KEPT])
 
 
 def meanwhile(path):
@@ -130,7 +131,7 @@ def guid_of(reply):
 
 
 def draw(random, place, target, number):
-    """A job on the target: the words, and how many replies its last `ok` makes."""
+    """A job on the target: its kind and its words. A script that it needs is written."""
     db = random.choice("xy")
     script = {
         "copy": ["1: open 'z.db'", f"1: copy to '{target}'"],
@@ -152,7 +153,8 @@ def draw(random, place, target, number):
 def is_whole(place, kind, words, reply, target):
     """Whether the file that a reply acknowledged is there and whole."""
     if kind in ("fold", "backup"):
-        return guid_of(reply) in place.read(target)
+        place.folder.write_script("list", [target])  # a plan reads it to its end
+        return guid_of(reply) in place.read(target) and place.run(["plan", "1", "list"])[0] == 0
     if kind == "copy":
         return place.read(target) == place.read("z.db")
     if kind == "restore":
