@@ -1,10 +1,11 @@
 -- Names that are added to a list, and taken out of it.
-use Rattle.std.proofs.Common.{◌≡◌, ℕ, Bool, true, false, ◌||◌, ◌&&◌, not, List, [], ◌∷◌, ◌++◌, sym, ◌∙◌, ap, subst, arith}
+use Rattle.std.proofs.Common.{◌≡◌, ℕ, Bool, true, false, ◌||◌, not, List, [], ◌∷◌, ◌++◌, ◌∙◌, ap}
 use Rattle.std.specs.List.{list_any, filter}
 use Rattle.std.proofs.lemmas.List.Folds.{list_any-append}
 use Rattle.std.proofs.lemmas.Map.Views.{any-filter_same}
 use Rattle.std.specs.Cmp.Lexicographic.{nat_list_eq_equiv}
 use Rattle.nb_host.specs.Names.{same_name}
+use Rattle.nb_file.proofs.Common.{false≢true}
 use Rattle.nb_file.specs.Absent.{has_name}
 
 either : (a b : Bool) → b ≡ true → (a || b) ≡ true
@@ -13,16 +14,12 @@ either false b is = is
 
 first : (a b : Bool) → a ≡ true → (a || b) ≡ true
 first true b is = λ i. true
-first false b is = is
+first false b is = absurd (false≢true is)
 
 -- the name that is added is one of them
 pub has_added : (names : List (List ℕ)) (name : List ℕ) → has_name (names ++ name ∷ []) name ≡ true
 has_added names name =
     list_any-append (λ own. same_name own name) names (name ∷ []) ∙ either (has_name names name) (has_name (name ∷ []) name) (first (same_name name name) false (nat_list_eq_equiv.refl name))
-
--- and those that were still are
-pub still_has : (names : List (List ℕ)) (name other : List ℕ) → has_name names other ≡ true → has_name (names ++ name ∷ []) other ≡ true
-still_has names name other has = list_any-append (λ own. same_name own other) names (name ∷ []) ∙ first (has_name names other) (has_name (name ∷ []) other) has
 
 -- the name that is taken out is none of those that are left
 pub has_left : (names : List (List ℕ)) (name : List ℕ) → has_name (filter (λ own. not (same_name own name)) names) name ≡ false

@@ -13,4 +13,4 @@ returns-clause-gone c =
 pub returns-clause-others : goal.returns-clause-others
 returns-clause-others c other apart =
     ap (λ (names : List (List ℕ)). has_name names other) (filter_same _ (λ own. not (same_name own c.args.name.now)) _ (λ x b f' k. search rules) _ _ c.retain.ensures.filtered)
-    ∙ has_other c.self.inside.names.items c.args.name.now other apart
+    ∙ has_other c.self.inside.names.items c.args.name.now other apart ∙ ap (λ (names : List (List ℕ)). has_name names other) c.self.view_is
