@@ -10,6 +10,9 @@ other, and one that changes it waits for them as long as NEHUMIRO_WAIT says, and
 
 Then a backup, and a merge into a standby, that is cut off at each of its syncs: behind the line of the failure the standard error says what stands
 exactly where the database is locked or half merged, and what it says to do helps. Two merges into one standby at once don't harm each other. And memory that runs out is said, with what the cache of a script asks for.
+
+Then two programs that make the same new file at once (`pairs.py`): what either acknowledges is there afterwards. And that an output which nobody reads any more
+is said by the exit status alone, and that the progress of a restore never runs backwards.
 """
 
 import fcntl
@@ -24,6 +27,7 @@ import threading
 import time
 
 from common import CREATE, PAGE_SIZE, Folder, program, report, write_line, writes
+from pairs import PAIRS, meanwhile, pairs
 
 COUNT = 20
 LOOKS = 50
@@ -75,13 +79,21 @@ def sync_fails(folder, path, call, when):
     return run(folder, words + [path, "run", "script"]), replies, r"x\.db: sync: Input/output error.*"
 
 
+def in_use(process, command=None, name="x.db"):
+    """What is said of a file that a process has, this one where no other is named. The system keeps 15 bytes of a program's name."""
+    if command is None:
+        with open("/proc/self/comm", encoding="ascii") as comm:
+            command = comm.read().strip()
+    return f"{name} is in use by process {process} ({command[:15]})"
+
+
 def database_is_locked(folder, path):
     folder.write_script("create", [CREATE])
     run(folder, [path, "run", "create"])
     folder.write_script("script", ["1: open 'x.db'", "1: page new"])
     with open(folder.file("x.db"), "rb") as file:
         fcntl.flock(file, fcntl.LOCK_EX)
-        return run(folder, [path, "run", "script"]), 0, r"x\.db is in use"
+        return run(folder, [path, "run", "script"]), 0, re.escape(in_use(os.getpid()))
 
 
 def two_runs(folder, path):
@@ -94,7 +106,7 @@ def two_runs(folder, path):
     first.stdout.read()
     if first.wait() != 0:
         report("faults", False, "the first of two runs failed")
-    return ran, 0, r"x\.db is in use"
+    return ran, 0, re.escape(in_use(first.pid, os.path.basename(path)))
 
 
 def broken_scripts(path):
@@ -151,16 +163,16 @@ def with_lock(folder, kind, seconds, words, wait):
 
 def locks(path):
     """What is wrong with locks that are waited for, and with those that aren't."""
-    done, in_use = (0, ""), (3, "nehumiro: x.db is in use\n")
+    done, used = (0, ""), (3, f"nehumiro: {in_use(os.getpid())}\n")
     look, lock, end = [path, "stat", "x.db"], [path, "-L", "x.db"], [path, "-N", "x.db"]
     with Folder() as folder:
         create(folder, path)
         # The kind of the lock, when it is given up, what is run beside it and how long that waits: how it ends, and after how long at least.
         for kind, seconds, words, wait, wanted, least in [
             (fcntl.LOCK_SH, 9, look, 0, done, 0),
-            (fcntl.LOCK_SH, 9, lock, 0, in_use, 0),
-            (fcntl.LOCK_EX, 9, look, 0, in_use, 0),
-            (fcntl.LOCK_EX, 9, look, 1, in_use, 0.9),
+            (fcntl.LOCK_SH, 9, lock, 0, used, 0),
+            (fcntl.LOCK_EX, 9, look, 0, used, 0),
+            (fcntl.LOCK_EX, 9, look, 1, used, 0.9),
             (fcntl.LOCK_EX, 0.4, look, 8, done, 0.4),
             (fcntl.LOCK_SH, 0.4, lock, 8, done, 0.4),
             (fcntl.LOCK_SH, 0.4, end, 8, done, 0.4),
@@ -267,12 +279,12 @@ def merges(path):
         run(folder, [path, "run", "script"])
         run(folder, [path, "-B", "1", "x.db", "x.1"])
         shutil.copy(folder.file("y.db"), folder.file("kept"))
-        # Who has which file, and what the merge then says.
-        for name, kind, line in [("y.db", fcntl.LOCK_SH, "y.db is in use"), ("y.db", fcntl.LOCK_EX, "y.db is in use"), ("x.1", fcntl.LOCK_EX, "x.1 is in use")]:
+        # Which file another has, and how it is locked.
+        for name, kind in [("y.db", fcntl.LOCK_SH), ("y.db", fcntl.LOCK_EX), ("x.1", fcntl.LOCK_EX)]:
             with open(folder.file(name), "rb") as file:
                 fcntl.flock(file, kind)
                 ran = run(folder, words)
-            if ran != (3, [], f"nehumiro: {line}\n"):
+            if ran != (3, [], f"nehumiro: {in_use(os.getpid(), name=name)}\n"):
                 yield f"{ran} of a merge while another has {name}"
         for when in range(1, 100):
             shutil.copy(folder.file("kept"), folder.file("y.db"))
@@ -336,7 +348,7 @@ def of_others(folder, path):
         file.write(b"\1")
         file.flush()
         said = running.communicate()[1].decode()
-    if said != "nehumiro: x.db is in use\n":
+    if said != f"nehumiro: {in_use(os.getpid())}\n":
         yield f"{said!r} where another program has the database"
 
 
@@ -357,6 +369,36 @@ def shortages(path):
                 yield f"{ran} where the first statement is {first}"
 
 
+def unread(path):
+    """What is said where nobody reads the output any more, as behind `head`."""
+    with Folder() as folder:
+        create(folder, path)
+        reader, writer = os.pipe()
+        os.close(reader)
+        with os.fdopen(writer, "wb") as output:
+            ran = run(folder, [path, "stat", "x.db"], output=output)
+        if ran != (3, [], ""):
+            yield f"{ran} where nobody reads the output"
+
+
+def backwards(path):
+    """What is wrong with the progress of a restore whose level has a page at the start of the database, with each write held up."""
+    with Folder() as folder:
+        folder.write_script("script", ["1: create database 'x.db' page_size 32768 raw 100"])
+        run(folder, [path, "run", "script"])
+        run(folder, [path, "-B", "0", "x.db", "x.0"])
+        folder.write_script("script", ["1: open 'x.db'", write_line(5, "new")])
+        run(folder, [path, "run", "script"])
+        run(folder, [path, "-B", "1", "x.db", "x.1"])
+        os.environ["NEHUMIRO_PROGRESS"] = "1"
+        wrap = ["strace", "-f", "-qq", "-o", "/dev/null", "-e", "trace=pwrite64", "-e", "inject=pwrite64:delay_enter=600000"]
+        status, _, said = run(folder, wrap + [path, "-R", "y.db", "x.0", "x.1"])
+        del os.environ["NEHUMIRO_PROGRESS"]
+        shown = [int(mib) for mib in re.findall(r"^nehumiro: y\.db: (\d+) MiB$", said, re.M)]
+        if status or len(shown) != len(said.splitlines()) or shown != sorted(shown) or shown[-1:] != [3]:
+            yield f"{said!r} is shown of a restore of 3 MiB"
+
+
 def main():
     path = program()
     if not shutil.which("strace"):
@@ -375,12 +417,15 @@ def main():
     broken = len(wrong) - failed
     shared = [*without_rights(path), *locks(path), *scripts_beside_readers(path), *looks_beside_backups(path)]
     stands = [*standing(path), *merges(path), *shortages(path)]
+    lost = [*meanwhile(path), *pairs(path)]
+    shown = [*unread(path), *backwards(path)]
     report(
         "faults",
-        not wrong and not shared and not stands,
+        not wrong + shared + stands + lost + shown,
         f"{len(cases) - failed} of {len(cases)} failures end the run and are said, {len(BROKEN) - broken} of {len(BROKEN)} broken scripts are shown, "
-        f"{len(shared)} times one run failed another that it mustn't, or didn't, and {len(stands)} times what stands was said otherwise"
-        f"{''.join(' ' + text for text in (wrong + shared + stands)[:3])}",
+        f"{len(shared)} times one run failed another that it mustn't, or didn't, {len(stands)} times what stands was said otherwise, {len(lost)} times one of two jobs with one new name harmed the other, of {PAIRS} drawn pairs among them, "
+        f"and {len(shown)} times something was shown otherwise"
+        f"{''.join(' ' + text for text in (wrong + shared + stands + lost + shown)[:3])}",
     )
 
 

@@ -1,3 +1,4 @@
+mod AbsentLaws
 mod GatheredLaws
 mod GrowthLaws
 mod HeldLaws

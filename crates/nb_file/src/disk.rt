@@ -3,6 +3,7 @@ ghost use Rattle.std.specs.Prelude.{◌≡◌, ◌+◌, ◌≤◌, ℕ, Bool, tr
 ghost use Rattle.nb_host.specs.Files.{put_at};
 ghost use Rattle.nb_file.specs.Resized.{resized, IsBegun};
 
+use crate::stamp::Stamp;
 use std::fs::{File, OpenFile, TryLockError};
 use std::io;
 use std::os::unix::fs::FileExt;
@@ -35,6 +36,9 @@ pub trait Disk {
     /// Its length in bytes, and nothing of what is no file: a folder, a FIFO, a device.
     fn measure(&self) -> io::Result<u64>
         ensures { IsTrue tells → IfOk result (λ len. len ≡ length (bytes self.now)) };
+
+    /// Which file it is, and how it stands.
+    fn stamp(&self) -> io::Result<Stamp>;
 
     /// Locks it as long as it is open. Answers whether nobody else has it open otherwise.
     fn lock(&self, sharing: Sharing) -> io::Result<bool>;
@@ -78,6 +82,10 @@ impl Disk for File {
         } else {
             Err(no_file())
         }
+    }
+
+    fn stamp(&self) -> io::Result<Stamp> {
+        Ok(Stamp::of(&self.metadata()?))
     }
 
     fn lock(&self, sharing: Sharing) -> io::Result<bool> {

@@ -1,8 +1,9 @@
 // What failed, and how it is said.
 ghost use Rattle.std.specs.Prelude.{◌≡◌, ◌↔◌, Ok, IfOk, IsOk};
 
+use crate::holder::Holder;
 use nb_host::Name;
-use std::alloc::AllocFailed;
+use std::alloc::{AllocError, AllocFailed};
 use std::{fmt, io};
 
 /// What was asked of the system.
@@ -36,8 +37,14 @@ impl fmt::Display for Call {
 pub enum Failure {
     /// A call on the file of that name.
     OnFile(Name, Call, io::Error),
-    /// Another program has the file, or this one has it under another name.
-    InUse(Name),
+    /// Another program has the file, or this one has it under another name; and which process that is, where the system tells.
+    InUse(Name, Option<Holder>),
+    /// The name led to no file when it was looked at in this run, and leads to one now that this run didn't make.
+    CameToBe(Name),
+    /// The file was changed, or another put in its place, between the time that it was read and the time that it was to be written.
+    Changed(Name),
+    /// Nobody reads the standard output any more.
+    NoReader,
     /// The output, the random bytes or the clock.
     Of(&'static str, io::Error),
     Memory,
@@ -49,11 +56,28 @@ impl<T: Drop> From<AllocFailed<T>> for Failure {
     }
 }
 
+impl From<AllocError> for Failure {
+    fn from(_: AllocError) -> Self {
+        Failure::Memory
+    }
+}
+
+impl Failure {
+    /// Whether it is said. Who has closed the reader of the standard output knows, as `head` does, and other programs don't say so either.
+    pub fn is_said(&self) -> bool {
+        !matches!(self, Failure::NoReader)
+    }
+}
+
 impl fmt::Display for Failure {
     fn fmt<W: fmt::Write>(&self, f: &mut fmt::Formatter<W>) -> fmt::Result {
         match self {
             Failure::OnFile(name, call, error) => write!(f, "{name}: {call}: {error}"),
-            Failure::InUse(name) => write!(f, "{name} is in use"),
+            Failure::InUse(name, Some(holder)) => write!(f, "{name} is in use by {holder}"),
+            Failure::InUse(name, None) => write!(f, "{name} is in use"),
+            Failure::CameToBe(name) => write!(f, "{name} came to be meanwhile"),
+            Failure::Changed(name) => write!(f, "{name} was changed meanwhile"),
+            Failure::NoReader => f.pad("nobody reads the standard output"),
             Failure::Of(what, error) => write!(f, "{what}: {error}"),
             Failure::Memory => f.pad("out of memory"),
         }

@@ -12,6 +12,7 @@ use crate::ahead::Ahead;
 use crate::disk::Disk;
 use crate::folder::sync_folder;
 use crate::growth::put_whole;
+use crate::stamp::Stamp;
 use crate::state::State;
 use crate::waiting::Waiting;
 use nb_host::Name;
@@ -27,6 +28,8 @@ pub struct Held<F: Disk + Drop> {
     pub name: Name,
     /// It was opened to write, so that nobody else has it.
     pub can_write: bool,
+    /// Which file it is, and how it stood when it was opened.
+    pub stamp: Stamp,
     file: F,
     pub state: State,
     ahead: Ahead,
@@ -48,9 +51,11 @@ impl<F: Disk + Drop> Held<F> {
         ensures file { IfOk result (λ held. (held.file ≡ file) × (held.can_write ≡ can_write)) }
     {
         let len = file.measure()?;
+        let stamp = file.stamp()?;
         Ok(Held {
             name,
             can_write,
+            stamp,
             file,
             state: State::opened(len, is_new),
             ahead: Ahead::new(alloc),

@@ -12,6 +12,7 @@ use crate::said::Said;
 use crate::table::Table;
 use nb_host::{Host, HostFault, Name};
 use std::alloc::Global;
+use std::io::ErrorKind;
 use std::marker::Model;
 use std::os::fd::AsRawFd;
 use std::rt::{Clock, Files};
@@ -159,7 +160,7 @@ where
         self.answer(outcome)
     }
 
-    /// Counts a fault where the system failed, and says on the standard error what failed.
+    /// Counts a fault where the system failed, and says on the standard error what failed, but not that nobody reads the output any more.
     fn answer<T: Drop>(&mut self, outcome: Result<T, Failure>) -> Result<T, HostFault>
         ensures value { IfOk result (λ value. outcome ≡ Ok value) }
         ensures waiting { self.new.waiting ≡ self.old.waiting }
@@ -170,8 +171,10 @@ where
             Ok(value) => Ok(value),
             Err(failure) => {
                 self.clear_line();
-                // Nothing is left to do where the standard error fails too.
-                let _ = eprintln!(self.rt; "nehumiro: {failure}");
+                if failure.is_said() {
+                    // Nothing is left to do where the standard error fails too.
+                    let _ = eprintln!(self.rt; "nehumiro: {failure}");
+                }
                 self.faults = self.faults.saturating_add(1);
                 Err(HostFault)
             }
@@ -190,6 +193,7 @@ where
         // The runtime has no buffer: each byte was given to the system before this answers Ok.
         match self.rt.write_all(bytes) {
             Ok(()) => Ok(()),
+            Err(error) if error.kind() == ErrorKind::BrokenPipe => Err(Failure::NoReader),
             Err(error) => Err(Failure::Of("standard output", error)),
         }
     }

@@ -35,7 +35,8 @@ pub enum Counted {
 /// How it is shown.
 #[derive(Clone, Copy)]
 pub enum Manner {
-    /// By a line at most once a second: a file, and where in it bytes were read or written then.
+    /// By a line at most once a second: a file, and how many of its bytes have counted so far. Where those of any file count, the file whose
+    /// bytes were moved then, and where in it.
     Lines,
     /// By one line that is written over again, from two seconds after the start on and at most ten times a second: for a terminal.
     Rewritten,
@@ -110,9 +111,18 @@ impl Shown {
         // Nothing is left to do where the standard error fails.
         match self.progress.manner {
             Manner::Lines => {
-                let _ = eprintln!(rt; "nehumiro: {name}: {} MiB", end / MIB);
+                let _ = eprintln!(rt; "nehumiro: {name}: {} MiB", self.reached(end) / MIB);
             }
             Manner::Rewritten => self.rewrite(rt, now.saturating_sub(self.begun)),
+        }
+    }
+
+    /// How far the run has come, in bytes, where it moves those up to the place `end`. Of one file that is what has counted so far: the pages of
+    /// a further level go to places before the end of what a restore has written, so the place would run backwards.
+    fn reached(&self, end: u64) -> u64 {
+        match self.progress.counted {
+            Counted::All => end,
+            Counted::ReadOf(_) | Counted::WrittenTo(_) => self.counted,
         }
     }
 

@@ -1,14 +1,17 @@
 // The open files.
-ghost use Rattle.std.specs.Prelude.{◌≡◌, ◌≢◌, ◌+◌, ◌++◌, ◌<◌, ◌≤◌, ℕ, List, false, IsTrue, length, None, IfOk, IfSome, OnOk, MatchOption, vec_len};
+ghost use Rattle.std.specs.Prelude.{◌≡◌, ◌≢◌, ◌+◌, ◌++◌, ◌<◌, ◌≤◌, ℕ, List, [], true, false, IsTrue, length, None, IfOk, IfSome, OnOk, MatchOption, vec_len};
 ghost use Rattle.nb_host.specs.Names.{is_name, delta_suffix};
+ghost use Rattle.nb_file.specs.Absent.{has_name};
 ghost use Rattle.nb_file.specs.Gathered.{IsFreeFor, is_owner};
 ghost use Rattle.nb_file.specs.Named.{IsNamedAt};
 
+use crate::absent::Absent;
 use crate::disk::Disk;
 use crate::failure::{Call, Failure, named};
 use crate::folder::{look_up, main_of, sync_folder};
 use crate::held::Held;
 use crate::lock::open_locked;
+use crate::stamp::Stamp;
 use crate::waiting::Waiting;
 use nb_host::Name;
 use std::alloc::Global;
@@ -27,6 +30,9 @@ const MOST_OPEN: usize = 64;
 /// A file that is only read or synced is opened to read and locked with other readers. Before it is written, emptied or removed it
 /// is opened to write and locked against everyone, by whatever name they have it. The file that is held alone is so from its first
 /// use on, and its difference file too.
+///
+/// What a run has seen under a name is what it changes. Where it saw no file it makes a new one, and where it read one under a lock that readers
+/// share it writes that one as it was read. If another program was there meanwhile that is a failure, and nothing of its file is changed.
 #[derive(Drop)]
 pub struct Table<R: Files + Drop>
 where
@@ -35,6 +41,8 @@ where
     alloc: Global,
     files: Vec<Held<R::File>>,
     waiting: Waiting,
+    /// The names that led to no file.
+    absent: Absent,
     /// The file that is held alone from its first use of any kind on.
     pub alone: Option<Name>,
     /// For how many seconds a lock that another program has is tried again.
@@ -48,12 +56,13 @@ where
 {
     /// None is open, and nothing waits.
     pub fn new(alloc: Global) -> Table<R>
-        ensures { result.waiting.name ≡ None }
+        ensures { (result.waiting.name ≡ None) × (result.absent ≡ []) }
     {
         Table {
             alloc,
             files: Vec::new(alloc),
             waiting: Waiting::new(alloc),
+            absent: Absent::new(alloc),
             alone: None,
             patience: 0,
         }
@@ -70,6 +79,7 @@ where
     pub fn flush(&mut self) -> Result<(), Failure>
         ensures none { self.new.waiting.name ≡ None }
         ensures count { vec_len self.new.files ≡ vec_len self.old.files }
+        ensures absent { self.new.absent ≡ self.old.absent }
     {
         let name = match &self.waiting.name {
             Some(name) => name.copied(),
@@ -82,6 +92,7 @@ where
         requires { IsFreeFor self.old.waiting.name name.now }
         ensures none { self.new.waiting.name ≡ None }
         ensures count { vec_len self.new.files ≡ vec_len self.old.files }
+        ensures absent { self.new.absent ≡ self.old.absent }
     {
         match self.index_of(name) {
             Some(i) => {
@@ -97,7 +108,8 @@ where
 
     /// Writes what waits for another file.
     fn turn_to(&mut self, name: &Name) -> Result<(), Failure>
-        ensures { IsFreeFor self.new.waiting.name name.now }
+        ensures free { IsFreeFor self.new.waiting.name name.now }
+        ensures absent { self.new.absent ≡ self.old.absent }
     {
         if self.waiting.is_for(name) {
             return Ok(());
@@ -111,6 +123,8 @@ where
         ensures place { IfOk result (λ found. IfSome found (λ i. i < vec_len self.new.files)) }
         ensures name { IfOk result (λ found. IfSome found (IsNamedAt self.new.files.items (λ held. held.name) name.now)) }
         ensures none { self.old.waiting.name ≡ None → self.new.waiting.name ≡ None }
+        ensures remembered { IfOk result (λ found. found ≡ None → has_name self.new.absent name.now ≡ true) }
+        ensures others { (other : List ℕ) → has_name self.old.absent other ≡ true → has_name self.new.absent other ≡ true }
     {
         if let Some(i) = self.index_of(name) {
             return Ok(Some(i));
@@ -140,6 +154,8 @@ where
         ensures place { IfOk result (λ found. IfSome found (λ i. i < vec_len self.new.files)) }
         ensures name { IfOk result (λ found. IfSome found (IsNamedAt self.new.files.items (λ held. held.name) name.now)) }
         ensures none { self.old.waiting.name ≡ None → self.new.waiting.name ≡ None }
+        ensures remembered { IfOk result (λ found. found ≡ None → has_name self.new.absent name.now ≡ true) }
+        ensures others { (other : List ℕ) → has_name self.old.absent other ≡ true → has_name self.new.absent other ≡ true }
     {
         match self.claim(rt, name) {
             Err(Failure::OnFile(_, Call::Open, error)) if is_read_only(error.kind()) => {
@@ -154,13 +170,28 @@ where
         ensures place { IfOk result (λ found. IfSome found (λ i. i < vec_len self.new.files)) }
         ensures name { IfOk result (λ found. IfSome found (IsNamedAt self.new.files.items (λ held. held.name) name.now)) }
         ensures none { self.old.waiting.name ≡ None → self.new.waiting.name ≡ None }
+        ensures remembered { IfOk result (λ found. found ≡ None → has_name self.new.absent name.now ≡ true) }
+        ensures others { (other : List ℕ) → has_name self.old.absent other ≡ true → has_name self.new.absent other ≡ true }
     {
-        if named(look_up(rt, name), name, Call::Open)?.is_none() {
+        if !self.is_there(rt, name)? {
             return Ok(None);
         }
         let mut how = OpenOptions::new();
         how.read(true);
         self.open(rt, name, &how).map(Some)
+    }
+
+    /// Looks whether the name leads to a file. Where it doesn't that is remembered.
+    fn is_there(&mut self, rt: &R, name: &Name) -> Result<bool, Failure>
+        ensures remembered { IfOk result (λ there. there ≡ false → has_name self.new.absent name.now ≡ true) }
+        ensures others { (other : List ℕ) → has_name self.old.absent other ≡ true → has_name self.new.absent other ≡ true }
+        ensures same { (self.new.waiting ≡ self.old.waiting) × (self.new.files ≡ self.old.files) }
+    {
+        if named(look_up(rt, name), name, Call::Open)?.is_some() {
+            return Ok(true);
+        }
+        self.absent.add(name)?;
+        Ok(false)
     }
 
     /// The file of this name, open to write and locked, if there is one.
@@ -169,6 +200,8 @@ where
         ensures name { IfOk result (λ found. IfSome found (IsNamedAt self.new.files.items (λ held. held.name) name.now)) }
         ensures free { IsFreeFor self.old.waiting.name name.now → IsFreeFor self.new.waiting.name name.now }
         ensures none { self.old.waiting.name ≡ None → self.new.waiting.name ≡ None }
+        ensures remembered { IfOk result (λ found. found ≡ None → has_name self.new.absent name.now ≡ true) }
+        ensures others { (other : List ℕ) → has_name self.old.absent other ≡ true → has_name self.new.absent other ≡ true }
     {
         if let Some(i) = self.index_of(name) {
             if self.files[i].can_write {
@@ -176,8 +209,26 @@ where
             }
             named(self.files[i].state.check(), name, Call::Open)?;
         }
-        if named(look_up(rt, name), name, Call::Open)?.is_none() {
+        self.open_to_write(rt, name)
+    }
+
+    /// Opens the file of this name to write, if there is one. Where the name led to no file before, one that it leads to now is another
+    /// program's: that is a failure, and the file isn't opened.
+    fn open_to_write(&mut self, rt: &R, name: &Name) -> Result<Option<usize>, Failure>
+        ensures place { IfOk result (λ found. IfSome found (λ i. i < vec_len self.new.files)) }
+        ensures name { IfOk result (λ found. IfSome found (IsNamedAt self.new.files.items (λ held. held.name) name.now)) }
+        ensures absent { has_name self.old.absent name.now ≡ true → IfOk result (λ found. found ≡ None) }
+        ensures remembered { IfOk result (λ found. found ≡ None → has_name self.new.absent name.now ≡ true) }
+        ensures free { IsFreeFor self.old.waiting.name name.now → IsFreeFor self.new.waiting.name name.now }
+        ensures none { self.old.waiting.name ≡ None → self.new.waiting.name ≡ None }
+        ensures others { (other : List ℕ) → has_name self.old.absent other ≡ true → has_name self.new.absent other ≡ true }
+    {
+        let was_absent = self.absent.has(name);
+        if !self.is_there(rt, name)? {
             return Ok(None);
+        }
+        if was_absent {
+            return Err(Failure::CameToBe(name.copied()));
         }
         let mut how = OpenOptions::new();
         how.read(true).write(true);
@@ -214,6 +265,7 @@ where
         }
     }
 
+    /// Makes the file of this name, empty, open to write and locked. One that is there is left as it is, and is a failure.
     fn create(&mut self, rt: &R, name: &Name) -> Result<usize, Failure>
         ensures place { IfOk result (λ i. i < vec_len self.new.files) }
         ensures name { IfOk result (IsNamedAt self.new.files.items (λ held. held.name) name.now) }
@@ -221,21 +273,40 @@ where
     {
         let mut how = OpenOptions::new();
         how.read(true).write(true).create_new(true).mode(0o660);
-        self.open(rt, name, &how)
+        let place = self.open(rt, name, &how)?;
+        self.absent.forget(name);
+        Ok(place)
     }
 
-    /// Opens the file, in the place of one that was opened to read, and locks it. What waits is written before.
+    /// Opens the file, in the place of one that was opened to read, and locks it. What waits is written before. It has to be the file that was
+    /// opened to read, as it was then.
     fn open(&mut self, rt: &R, name: &Name, how: &OpenOptions) -> Result<usize, Failure>
         ensures place { IfOk result (λ i. i < vec_len self.new.files) }
         ensures name { IfOk result (IsNamedAt self.new.files.items (λ held. held.name) name.now) }
         ensures none { self.new.waiting.name ≡ None }
+        ensures absent { self.new.absent ≡ self.old.absent }
     {
+        let before = self.stamp_of(name);
         self.make_room()?;
         // A lock of our own on the same file would keep us out. Once it is given up, and until the other is taken, another program may
-        // take it and change the file. That is why the file that a run changes is held alone from its first use on.
+        // take it and change the file. That is why the file that a run changes is held alone from its first use on, and why one that was
+        // only read till now is compared.
         self.files.retain(|held| held.name != *name);
-        let file = open_locked(rt, name, how, self.patience)?;
+        let file = open_locked(self.alloc, rt, name, how, self.patience)?;
+        if let Some(before) = before {
+            if !named(file.stamp(), name, Call::Open)?.is_same(&before) {
+                return Err(Failure::Changed(name.copied()));
+            }
+        }
         self.add(name, file, how)
+    }
+
+    /// How the file of this name stood when it was opened, if it is open.
+    fn stamp_of(&self, name: &Name) -> Option<Stamp> {
+        match self.index_of(name) {
+            Some(i) => Some(self.files[i].stamp),
+            None => None,
+        }
     }
 
     fn add(&mut self, name: &Name, file: R::File, how: &OpenOptions) -> Result<usize, Failure>
@@ -243,6 +314,7 @@ where
         ensures place { IfOk result (λ i. i < vec_len self.new.files) }
         ensures name { IfOk result (IsNamedAt self.new.files.items (λ held. held.name) name.now) }
         ensures waiting { self.new.waiting ≡ self.old.waiting }
+        ensures absent { self.new.absent ≡ self.old.absent }
     {
         let held = Held::new(
             self.alloc,
@@ -263,6 +335,7 @@ where
         ensures count { IfOk result (λ closed. MatchOption closed (vec_len self.new.files ≡ vec_len self.old.files) (λ _. vec_len self.new.files + 1 ≡ vec_len self.old.files)) }
         ensures clean { IfOk result (λ closed. IfSome closed (λ held. (held.state.is_dirty ≡ false) × (held.state.is_lost ≡ false))) }
         ensures none { self.new.waiting.name ≡ None }
+        ensures absent { self.new.absent ≡ self.old.absent }
     {
         self.flush()?;
         if self.files.len() < MOST_OPEN {
@@ -275,7 +348,7 @@ where
     }
 
     /// The file that was opened first of those that are only read, so that no lock against everyone is given up; where there
-    /// is none, of those that are not lost.
+    /// is none, of those that are not lost, nor held alone from their first use on.
     fn first_to_close(&self) -> Option<usize>
         ensures { IfSome result (λ i. i < vec_len self.now.files) }
     {
@@ -286,7 +359,9 @@ where
         if reader.is_some() {
             return reader;
         }
-        self.files.iter().position(|held| !held.state.is_lost)
+        self.files
+            .iter()
+            .position(|held| !held.state.is_lost && !self.is_alone(&held.name))
     }
 
     /// Closes a file, for which nothing is left to do then.
@@ -295,6 +370,7 @@ where
         ensures count { OnOk result (vec_len self.new.files + 1 ≡ vec_len self.old.files) }
         ensures clean { IfOk result (λ held. (held.state.is_dirty ≡ false) × (held.state.is_lost ≡ false)) }
         ensures same { self.new.waiting ≡ self.old.waiting }
+        ensures absent { self.new.absent ≡ self.old.absent }
     {
         let held = &mut self.files[i];
         let outcome = held.finish();
@@ -341,11 +417,14 @@ where
     }
 
     /// Takes the file away, and what waits for it.
-    pub fn remove(&mut self, rt: &R, name: &Name) -> Result<(), Failure> {
+    pub fn remove(&mut self, rt: &R, name: &Name) -> Result<(), Failure>
+        ensures remembered { OnOk result (has_name self.new.absent name.now ≡ true) }
+    {
         self.turn_to(name)?;
         if self.claim(rt, name)?.is_none() {
             return Ok(());
         }
+        self.absent.add(name)?; // What comes to be there from now on isn't this run's.
         match fs::remove_file(rt, name.as_str()) {
             Err(error) if error.kind() != ErrorKind::NotFound => {
                 return named(Err(error), name, Call::Remove);

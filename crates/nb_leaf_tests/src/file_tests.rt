@@ -1,6 +1,6 @@
 // The calls on real files. What lies in the files is asked of the system, beside the host.
 use crate::sample::name_of;
-use nb_file::{Counted, FileHost, Manner, Progress};
+use nb_file::{Counted, FileHost, Manner, Progress, process_that_locks};
 use nb_host::{Host, HostFault, Name};
 use std::fs;
 use std::rt::Files;
@@ -132,7 +132,28 @@ fn readers_share<H: Host>(host: &mut H, other: &mut H, name: &Name) -> [bool; 5]
         other.size(name) == Ok(Some(2)),
         host.sync(name) == Ok(()),
         other.sync(name) == Ok(()),
+        other.append(name, &[3]) == Err(HostFault),
+    ]
+}
+
+/// Whether the file that another has put under a name that led to none is left as it is, though nobody has it any more.
+fn is_left_to_its_maker<R: Files, H: Host>(rt: &R, host: &mut H, name: &Name) -> [bool; 5] {
+    [
+        host.size(name) == Ok(Some(2)),
+        host.make(name) == Err(HostFault),
         host.append(name, &[3]) == Err(HostFault),
+        host.remove(name) == Err(HostFault),
+        is_long(rt, name, 2),
+    ]
+}
+
+/// Whether a file that something changes after it was read is left as that leaves it.
+fn is_left_as_changed<R: Files, H: Host>(rt: &R, host: &mut H, name: &Name) -> [bool; 4] {
+    [
+        host.size(name) == Ok(Some(2)),
+        fs::write(rt, name.as_str(), b"xyz").is_ok(),
+        host.append(name, &[3]) == Err(HostFault),
+        is_long(rt, name, 3),
     ]
 }
 
@@ -227,12 +248,17 @@ fn files_are_locked(rt: HostRuntime) -> Result<(), Fail> {
     let shared = readers_share(&mut host, &mut reader, &name);
     let read_faults = (host.fault_count(), reader.fault_count());
     drop(reader);
+    let of_other = is_left_to_its_maker(&rt, &mut host, &name);
+    let other_faults = host.fault_count();
+    drop(host);
+    let mut host = FileHost::new(rt, rt.alloc());
     let mut holder = FileHost::new(rt, rt.alloc());
     holder.hold_alone(name.copied());
     host.wait_for_locks(1);
     let alone = holds_alone(&mut holder, &mut host, &name, &delta, &stray);
     let alone_faults = (holder.fault_count(), host.fault_count());
     drop(holder);
+    let changed = is_left_as_changed(&rt, &mut host, &name);
     let is_gone = host.remove(&name);
     let none = folder_is_no_file(&mut host, &folder, &below);
     assert_eq!(rt;
@@ -240,18 +266,44 @@ fn files_are_locked(rt: HostRuntime) -> Result<(), Fail> {
             (held, write_faults),
             (shared, read_faults),
             (alone, alone_faults),
-            is_gone,
+            (of_other, other_faults),
+            (changed, is_gone),
             none,
             host.fault_count()
         ),
         (
             ([true; 14], (2, 3)),
-            ([true; 5], (3, 0)),
-            ([true; 6], (1, 4)),
-            Ok(()),
+            ([true; 5], (2, 1)),
+            ([true; 6], (1, 1)),
+            ([true; 5], 5),
+            ([true; 4], Ok(())),
             [true; 4],
-            7
+            5
         )
+    );
+    Ok(())
+}
+
+#[test]
+fn lock_is_told_by_its_line(rt: HostRuntime) -> Result<(), Fail> {
+    let lines = "\
+1: POSIX  ADVISORY  WRITE 11 08:01:1234 0 EOF
+2: FLOCK  ADVISORY  WRITE 12 08:01:1235 0 EOF
+2: -> FLOCK  ADVISORY  READ 13 08:01:1234 0 EOF
+3: FLOCK  ADVISORY  READ 14 103:fff12:1234 0 EOF
+4: FLOCK  ADVISORY  READ -1 08:01:1236 0 EOF
+5: FLOCK  ADVISORY  READ 15 08:01:1234 0 EOF
+6: FLOCK  ADVISORY  READ 16 08:01:1234 0 EOF
+7: FLOCK  ADVISORY  WRITE 17 08:0";
+    assert_eq!(rt;
+        [
+            process_that_locks(lines, 0x801, 1234),
+            process_that_locks(lines, 0x801, 1235),
+            process_that_locks(lines, 0x801, 1236),
+            process_that_locks(lines, 0xfff1_0312, 1234),
+            process_that_locks("", 0x801, 1234)
+        ],
+        [Some(15), Some(12), None, Some(14), None]
     );
     Ok(())
 }
