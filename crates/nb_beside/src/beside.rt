@@ -118,7 +118,7 @@ fn show_emptied<V: ReadOnly + Eprint>(alloc: Global, rt: &V, job: &Job) {
 }
 
 /// What is known before a run of that database, whose progress is shown so.
-fn before<V: ReadOnly>(files: &V, db: Option<&Name>, manner: Option<Manner>) -> Before {
+fn known<V: ReadOnly>(files: &V, db: Option<&Name>, manner: Option<Manner>) -> Before {
     Before {
         state: db.and_then(|db| state_of(files, db)),
         is_watched: manner.is_some(),
@@ -140,12 +140,12 @@ where
         let rt = self.runtime();
         let manner = manner(wants_progress(&rt), is_terminal);
         let Ok(job) = job else {
-            return before(&rt, None, manner);
+            return known(&rt, None, manner);
         };
         set_patience(&rt, self);
         set_shown(alloc, &rt, self, job, manner);
         show_emptied(alloc, &rt, job);
-        before(&rt, database_of(job), manner)
+        known(&rt, database_of(job), manner)
     }
 
     fn write_rest(&mut self) -> Result<(), HostFault> {
