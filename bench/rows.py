@@ -697,7 +697,7 @@ USAGE = [
 # What it says of a job that is refused, each from the files of a session: what is changed before, the words, and the line.
 UNSOUND = "back a.db up no more, and restore a chain from before that: nehumiro -R NEW FILE.."
 LOCKED = rf"a.db is locked since {TIME}, by -L or by a backup that was stopped \(by Ctrl-C, a signal or a power cut\): end that with: nehumiro -N a.db"
-UNMERGED = "a.db isn't merged yet behind its last backup, whose end was stopped: end that with: nehumiro -N a.db"
+UNMERGED = "a.db isn't merged yet after its last backup, whose end was stopped: end that with: nehumiro -N a.db"
 LOST = f"with all that was written to a.db since {TIME}: put it back; where it is lost, a copy of a.db becomes the database as it was then, by: nehumiro -F COPY"
 ADVICE = [
     ("a write while stalled", None, "-B 0 a.db f", LOCKED),
@@ -759,35 +759,36 @@ ADVICE = [
     ("level 1", None, "-N a.0", f"a.0.delta is gone, {LOST.replace('a.db', 'a.0')}"),
     ("level 1", write_at("a.0", 0, bytes(1024)), "-R c.db a.0 a.1", "a.0 isn't whole, as a stopped backup of level 0 leaves it, with zeros at its start: take another copy of it, or another backup, and remove it"),
     ("levels folded into one", cut("f.1", 4000), "fold f.1 a.1 g.2", "f.1 is there already, and isn't whole: a backup or a fold that was stopped left it, and it may be removed"),
-    ("past level 9", None, "fold f.9 9 a", "9 is of level 9, and no level follows 9: fold it with the file of level 8 that it goes on from, and no further; a restore takes a behind that fold"),
+    ("past level 9", None, "fold f.9 9 a", "9 is of level 9, and no level follows 9: fold it with the file of level 8 that it goes on from, and no further; a restore takes a after that fold"),
     ("past level 9", None, "fold f.9 9 1", "9 is of level 9, and no level follows 9: give consecutive levels, the lowest first"),
     ("level 1", left("s", b"#" * 1048577), "run s", "s is too long: a script has 10,000 statements and 1,048,576 bytes at most"),
 ]
 
 # What it says of a job that is done, as in ADVICE.
 SHORT = "it has 10 pages, and its inventory counts 13"
-REMEDY = "compare its length with the pages that its backup's reply gave, take another copy of it, and remove no older backup before"
+REMEDY = "compare its length with the pages that its backup's reply gave, take another copy of it, and remove no older backup until then"
 NINE = (
     r"no restore takes b as it is, since it goes on from a backup of level 9, and a chain has one file of each level: fold the files of levels 8 and 9 before it into one, "
     r"which stands in their place \(nehumiro fold NEW FILE FILE\), or begin anew with level 0; a standby takes it \(nehumiro -I -R STANDBY b\)"
 )
-EMPTIED = f"a.db.delta has no byte, and the begin of a backup had kept a page of it, so what was written to a.db since {TIME} may be gone: look for the right a.db.delta before anything else, and don't end the backup before that"
+EMPTIED = f"a.db.delta has no byte, and the begin of a backup had written a page of it, so what was written to a.db since {TIME} may be gone: look for the right a.db.delta before anything else, and don't end the backup before that"
 OUTPUT = "and not on the standard output, to which none is ever written: give that file another name, and send it on from there"
 TOLD = [
     ("level 1", None, "-B 1 a.db f", []),
     ("level 1", None, "-R c.db a.0 a.1", []),
-    ("level 1", cut("a.0", 10240), "-R c.db a.0", [f"a.0 was cut off: {SHORT}, and c.db may lack what is missing: {REMEDY}"]),
-    ("level 1", cut("a.0", 10240), "-R c.db a.0 a.1", [f"a.0 was cut off: {SHORT}, and c.db may lack what is missing: {REMEDY}"]),
-    ("level 1", cut("a.0", 10240), "-F a.0", [f"a.0 was cut off: {SHORT}: {REMEDY}"]),
-    ("level 1", both(cut("a.0", 10240), left("l", b"a.0\n# b\na.1\n")), "plan 1 l", [f"a.0 was cut off: {SHORT}: {REMEDY}"]),
+    ("level 1", cut("a.0", 10240), "-R c.db a.0", [f"a.0 lacks its end: {SHORT}, and c.db may lack what is missing: {REMEDY}"]),
+    ("level 1", cut("a.0", 10240), "-R c.db a.0 a.1", [f"a.0 lacks its end: {SHORT}, and c.db may lack what is missing: {REMEDY}"]),
+    ("level 1", cut("a.0", 10240), "-F a.0", [f"a.0 lacks its end: {SHORT}: {REMEDY}"]),
+    ("level 1", both(cut("a.0", 10240), left("l", b"a.0\n# b\na.1\n")), "plan 1 l", [f"a.0 lacks its end: {SHORT}: {REMEDY}"]),
     ("a database of two inventory pages", left("l", b"k.0\n"), "plan 1 l", []),
-    ("a database of two inventory pages", cut("k.0", 7936 * 1024), "-F k.0", [f"k.0 was cut off: it has 7936 pages, and its inventory counts 8000: {REMEDY}"]),
-    ("a database of two inventory pages", cut("k.0", 7935 * 1024), "-F k.0", [f"k.0 was cut off: it has 7935 pages, and its inventory counts 7936: {REMEDY}"]),
+    ("a database of two inventory pages", cut("k.0", 7936 * 1024), "-F k.0", [f"k.0 lacks its end: it has 7936 pages, and its inventory counts 8000: {REMEDY}"]),
+    ("a database of two inventory pages", cut("k.0", 7935 * 1024), "-F k.0", [f"k.0 lacks its end: it has 7935 pages, and its inventory counts 7936: {REMEDY}"]),
     ("a write while stalled", None, "stat a.db", [LOCKED]),
     ("a write while stalled", write_at("a.db", 22, b"\2"), "stat a.db", [UNMERGED]),
     ("level 1", None, "stat a.db", []),
     ("a write while stalled", cut("a.db.delta", 0), "stat a.db", [EMPTIED, LOCKED]),
     ("a write while stalled", cut("a.db.delta", 0), "-N a.db", [EMPTIED]),
+    ("a write while stalled", both(cut("a.db.delta", 0), write_at("a.db", 22, b"\2")), "stat a.db", [EMPTIED.replace(f" since {TIME}", ""), UNMERGED]),
     ("a write while stalled", both(cut("a.db.delta", 0), left("s", b"1: open 'a.db'\n")), "run s", [EMPTIED]),
     ("level 1", left("a.db.delta", b""), "stat a.db", []),
     ("past level 9", None, "-B G11 a.db b", [NINE]),
@@ -799,16 +800,16 @@ TOLD = [
 # The same where progress is shown.
 ON_FROM = [
     ("level 1", "-B 0 a.db f", []),
-    ("level 1", "-B 1 a.db f", ["f goes on from a.0, the backup G1 of the level 0 and the SCN 1"]),
-    ("level 1", "-B 2 a.db f", ["f goes on from a.1, the backup G2 of the level 1 and the SCN 3"]),
-    ("level 1", "-B G1 a.db f", ["f goes on from a.0, the backup G1 of the level 0 and the SCN 1"]),
-    ("past level 9", "-B G11 a.db b", ["b goes on from a, the backup G11 of the level 9 and the SCN 21", NINE]),
+    ("level 1", "-B 1 a.db f", ["f goes on from a.0, the backup G1 of level 0, SCN 1"]),
+    ("level 1", "-B 2 a.db f", ["f goes on from a.1, the backup G2 of level 1, SCN 3"]),
+    ("level 1", "-B G1 a.db f", ["f goes on from a.0, the backup G1 of level 0, SCN 1"]),
+    ("past level 9", "-B G11 a.db b", ["b goes on from a, the backup G11 of level 9, SCN 19", NINE]),
 ]
 
 # Scripts and lists that break their form: the words that read them, their bytes, the line, and why it is wrong, where that is said.
 FIRST = "the first statement is: open 'NAME', or create database 'NAME' page_size P raw N; either may end in: cache C"
 SESSION = "it has to begin with the number of a session, 1 to 16, a colon and a space"
-ORDER = "it stands right behind the first statement and only there: schedule S S .., up to 4,096 numbers of 1 to 16, or seed U"
+ORDER = "it stands right after the first statement and only there: schedule S S .., up to 4,096 numbers of 1 to 16, or seed U"
 DOS = "it ends in a carriage return, as DOS ends lines: a line ends in a line feed alone"
 REASONS = [
     ("run s", b"1: open 'a.db'\n1: reed 5\n", 2, 'no statement begins with "reed"'),
@@ -818,7 +819,7 @@ REASONS = [
     ("run s", b"1: open 'a.db'\n1: write 5 '\xc3\xa4'\n", 2, "byte 13 is \\xc3, and no printable ASCII"),
     ("run s", b"1: open 'a.db'\n 1: read 5\n", 2, "it begins with a space"),
     ("run s", b"1: open 'a.db'\n1: read 5 \n", 2, "a space stands at its end"),
-    ("run s", b"1: open 'a.db'\n1:  read 5\n", 2, "one space alone stands behind the colon"),
+    ("run s", b"1: open 'a.db'\n1:  read 5\n", 2, "one space alone stands after the colon"),
     ("run s", b"1: open 'a.db'\nread 5\n", 2, SESSION),
     ("run s", b"1: open 'a.db'\n17: read 5\n", 2, SESSION),
     ("run s", b"1: open 'a.db'\n01: read 5\n", 2, SESSION),

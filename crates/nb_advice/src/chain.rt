@@ -105,7 +105,7 @@ fn past_nine(
 ) -> Result<Option<String>, AllocError> {
     let text = if level == "9" {
         format!(in alloc;
-            "{before} is of level 9, and no level follows 9: fold it with the file of level 8 that it goes on from, and no further; a restore takes {file} behind that fold"
+            "{before} is of level 9, and no level follows 9: fold it with the file of level 8 that it goes on from, and no further; a restore takes {file} after that fold"
         )?
     } else {
         format!(in alloc;

@@ -61,7 +61,7 @@ impl Cut {
     }
 }
 
-/// What is to be said of a file that was cut off, and of what was made of it.
+/// What is to be said of a file that ends too early, as a copy onto a full disk does, and of what was made of it.
 pub fn cut_off(
     alloc: Global,
     file: &Name,
@@ -74,6 +74,6 @@ pub fn cut_off(
         None => String::new(alloc),
     };
     format!(in alloc;
-        "{file} was cut off: it has {pages} pages, and its inventory counts {counted}{lacks}: compare its length with the pages that its backup's reply gave, take another copy of it, and remove no older backup before"
+        "{file} lacks its end: it has {pages} pages, and its inventory counts {counted}{lacks}: compare its length with the pages that its backup's reply gave, take another copy of it, and remove no older backup until then"
     )
 }

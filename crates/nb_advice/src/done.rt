@@ -14,7 +14,7 @@ pub fn locked(alloc: Global, db: &Name, seen: &Seen) -> Result<Option<String>, A
             "{db} is locked{since}, by -L or by a backup that was stopped (by Ctrl-C, a signal or a power cut): end that with: nehumiro -N {db}"
         )?,
         Some(2) => format!(in alloc;
-            "{db} isn't merged yet behind its last backup, whose end was stopped: end that with: nehumiro -N {db}"
+            "{db} isn't merged yet after its last backup, whose end was stopped: end that with: nehumiro -N {db}"
         )?,
         _ => return Ok(None),
     };
@@ -33,15 +33,15 @@ pub fn goes_on(
     let guid = guid.hyphenated().encode_lower(&mut buffer);
     let scn = origin.scn;
     let Some(row) = row else {
-        return format!(in alloc; "{file} goes on from the backup {guid} of the SCN {scn}");
+        return format!(in alloc; "{file} goes on from the backup {guid}, SCN {scn}");
     };
     let level = row.level;
     match &row.name {
         Some(name) => format!(in alloc;
-            "{file} goes on from {name}, the backup {guid} of the level {level} and the SCN {scn}"
+            "{file} goes on from {name}, the backup {guid} of level {level}, SCN {scn}"
         ),
         None => format!(in alloc;
-            "{file} goes on from the backup {guid} of the level {level} and the SCN {scn}"
+            "{file} goes on from the backup {guid} of level {level}, SCN {scn}"
         ),
     }
 }
@@ -71,10 +71,10 @@ pub fn named_as_output(alloc: Global, file: &Name) -> Result<Option<String>, All
     }
 }
 
-/// That what was written to a locked database may be lost, since its difference file has no byte.
-pub fn emptied(alloc: Global, db: &Name, written: Option<u64>) -> Result<String, AllocError> {
-    let since = since(alloc, written)?;
+/// That what was written to a database since a backup of it began may be lost, since its difference file has no byte.
+pub fn emptied(alloc: Global, db: &Name, began: Option<u64>) -> Result<String, AllocError> {
+    let since = since(alloc, began)?;
     format!(in alloc;
-        "{db}.delta has no byte, and the begin of a backup had kept a page of it, so what was written to {db}{since} may be gone: look for the right {db}.delta before anything else, and don't end the backup before that"
+        "{db}.delta has no byte, and the begin of a backup had written a page of it, so what was written to {db}{since} may be gone: look for the right {db}.delta before anything else, and don't end the backup before that"
     )
 }

@@ -82,7 +82,7 @@ fn form_of(word: &str) -> Option<&'static str> {
     }
 }
 
-/// What stands behind the session's number, a colon and a space, and none where a line doesn't begin so.
+/// What stands after the session's number, a colon and a space, and none where a line doesn't begin so.
 fn after_session(line: &str) -> Option<&str> {
     let (number, rest) = line.split_once(": ")?;
     match number.parse::<u32>() {
@@ -103,13 +103,13 @@ fn without_session(alloc: Global, line: &str) -> Result<Option<String>, AllocErr
     match first_word(line) {
         "schedule" | "seed" => said(
             alloc,
-            "it stands right behind the first statement and only there: schedule S S .., up to 4,096 numbers of 1 to 16, or seed U",
+            "it stands right after the first statement and only there: schedule S S .., up to 4,096 numbers of 1 to 16, or seed U",
         ),
         _ => said(alloc, NO_SESSION),
     }
 }
 
-/// What is wrong with a statement behind the first one.
+/// What is wrong with a statement after the first one.
 fn wrong_further(alloc: Global, text: &str, before: u32) -> Result<Option<String>, AllocError> {
     let word = first_word(text);
     if word == "open" || text.starts_with("create database ") {
@@ -159,7 +159,7 @@ pub fn wrong_statement(
     match after_session(line) {
         None => without_session(alloc, line),
         Some(text) if text.starts_with(' ') => {
-            said(alloc, "one space alone stands behind the colon")
+            said(alloc, "one space alone stands after the colon")
         }
         Some(text) if before == 0 => wrong_first(alloc, text),
         Some(text) => wrong_further(alloc, text, before),

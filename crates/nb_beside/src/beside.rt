@@ -111,8 +111,8 @@ where
 /// Says that the difference file of the database which a job opens has lost its bytes.
 fn show_emptied<V: ReadOnly + Eprint>(alloc: Global, rt: &V, job: &Job) {
     if let Some(db) = opened(alloc, rt, job) {
-        if let Some(written) = emptied(rt, &db) {
-            say(rt, nb_advice::emptied(alloc, &db, written).map(Some));
+        if let Some(began) = emptied(rt, &db) {
+            say(rt, nb_advice::emptied(alloc, &db, began).map(Some));
         }
     }
 }

@@ -1,6 +1,6 @@
 // What the standard error says of a job that was done.
 use crate::after::say;
-use crate::look::look_at;
+use crate::look::{Look, look_at};
 use crate::reading::ReadOnly;
 use crate::seeing::seen;
 use nb_advice::{There, cut_off, goes_on, locked, named_as_output, past_nine};
@@ -12,9 +12,15 @@ use std::alloc::Global;
 /// The backup state of a copy of a locked database, as a backup of level 0 is.
 const STALLED: u16 = 1;
 
-/// Says where whole pages were cut off, and what was made of them.
-fn show_cut<V: ReadOnly + Eprint>(alloc: Global, rt: &V, file: &Name, made: Option<&Name>) {
-    if let Some(cut) = look_at(rt, file.as_str()).and_then(|found| found.cut(alloc)) {
+/// Says that whole pages of a database end too early, and what was made of them.
+fn show_cut<V: ReadOnly + Eprint>(
+    alloc: Global,
+    rt: &V,
+    file: &Name,
+    found: Option<&Look<'_, V>>,
+    made: Option<&Name>,
+) {
+    if let Some(cut) = found.and_then(|found| found.cut(alloc)) {
         say(rt, cut_off(alloc, file, &cut, made).map(Some));
     }
 }
@@ -63,16 +69,19 @@ fn show_deed<V: ReadOnly + Eprint>(alloc: Global, rt: &V, deed: &Deed) {
     match deed {
         Deed::Restore { db, files } => {
             if let Some(file) = files.as_slice().first() {
-                show_cut(alloc, rt, file, Some(db));
+                let found = look_at(rt, file.as_str());
+                show_cut(alloc, rt, file, found.as_ref(), Some(db));
             }
         }
-        Deed::Fixup { db } => show_cut(alloc, rt, db, None),
+        Deed::Fixup { db } => {
+            show_cut(alloc, rt, db, look_at(rt, db.as_str()).as_ref(), None);
+        }
         Deed::Fold { out, .. } => say(rt, named_as_output(alloc, out)),
         Deed::Apply { .. } | Deed::Plan { .. } => {}
     }
 }
 
-/// Of each level 0 of a list, that it was cut off.
+/// Of each level 0 of a list, that it ends too early.
 fn show_list<V: ReadOnly + Eprint>(alloc: Global, rt: &V, list: &Name) {
     let bytes = look_at(rt, list.as_str()).and_then(|found| found.bytes(alloc, MOST_BYTES as u64));
     let Some(bytes) = bytes else {
@@ -92,12 +101,12 @@ fn show_list<V: ReadOnly + Eprint>(alloc: Global, rt: &V, list: &Name) {
 fn show_level_0<V: ReadOnly + Eprint>(alloc: Global, rt: &V, file: &Name) {
     if let Some(found) = look_at(rt, file.as_str()) {
         if found.there() == There::Database(STALLED) {
-            show_cut(alloc, rt, file, None);
+            show_cut(alloc, rt, file, Some(&found), None);
         }
     }
 }
 
-/// What is to be known of a job that was done: that a file was cut off, what a backup goes on from where that `is_asked`, what no restore takes, and
+/// What is to be known of a job that was done: that a file ends too early, what a backup goes on from where that `is_asked`, what no restore takes, and
 /// since when a database that was shown is locked.
 pub fn show_done<V: ReadOnly + Eprint>(alloc: Global, rt: &V, job: &Job, is_asked: bool) {
     match job {

@@ -6,8 +6,10 @@ use nb_host::{MOST_BASE_NAME, Name};
 use nb_model::{Deed, Job};
 use std::alloc::Global;
 
-/// The backup state of a database in which its main file is frozen.
+/// The backup states of a database beside which its difference file has pages: its main file is frozen, or is merged into.
 const STALLED: u16 = 1;
+
+const MERGING: u16 = 2;
 
 /// The database that a job by words names.
 pub fn database_of(job: &Job) -> Option<&Name> {
@@ -41,29 +43,29 @@ fn has_delta<V: ReadOnly>(files: &V, name: &Name) -> bool {
     name.as_str().len() <= MOST_BASE_NAME && files.is_taken(name.delta().as_str())
 }
 
-/// The SCN of a database whose main file is frozen, and when that was written last.
-fn frozen<V: ReadOnly>(files: &V, db: &Name) -> Option<(u32, Option<u64>)> {
+/// The SCN of a database with a backup that isn't ended, and when that backup began, as long as its main file is frozen.
+fn under_backup<V: ReadOnly>(files: &V, db: &Name) -> Option<(u32, Option<u64>)> {
     let found = look_at(files, db.as_str())?;
     let header = found.header()?;
-    if header.state == STALLED {
-        Some((header.scn, found.found.written))
-    } else {
-        None
+    match header.state {
+        STALLED => Some((header.scn, found.found.written)),
+        MERGING => Some((header.scn, None)),
+        _ => None,
     }
 }
 
-/// When the main file of a locked database was written last, where its difference file has no byte, though the begin of the backup kept a page
-/// of it; and none where all is well, or that time isn't known. Where another program ends a backup and begins one meanwhile, the SCN has risen.
+/// When a backup began whose difference file has no byte now, as far as that is known, though the begin had made a page of it durable. None where
+/// all is well. Where another program ended a backup and began the next one meanwhile, the SCN has risen.
 pub fn emptied<V: ReadOnly>(files: &V, db: &Name) -> Option<Option<u64>> {
     if db.as_str().len() > MOST_BASE_NAME {
         return None;
     }
-    let (scn, written) = frozen(files, db)?;
+    let (scn, began) = under_backup(files, db)?;
     if files.find(db.delta().as_str())?.length > 0 {
         return None;
     }
-    let (again, _) = frozen(files, db)?;
-    if again == scn { Some(written) } else { None }
+    let (again, _) = under_backup(files, db)?;
+    if again == scn { Some(began) } else { None }
 }
 
 /// What stands of the files of a job by words.
