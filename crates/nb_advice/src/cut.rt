@@ -36,7 +36,11 @@ impl Cut {
     /// The page with the inventory of what follows that many pages. It is one of them, unless there are fewer than two.
     pub fn inventory(size: u32, pages: u64) -> u64 {
         let first = Cut::first_counted(u64::from(size), pages);
-        if first == 0 { 1 } else { first.saturating_sub(1) }
+        if first == 0 {
+            1
+        } else {
+            first.saturating_sub(1)
+        }
     }
 
     /// The first page that this inventory page counts.

@@ -1,4 +1,5 @@
 // Why a line of a script, or of a list of names, breaks its form.
+use crate::word::shown;
 use std::alloc::{AllocError, Global};
 use std::str;
 
@@ -9,7 +10,8 @@ const MOST_STATEMENTS: u32 = 10_000;
 const MARK: &[u8] = b"\xef\xbb\xbf";
 
 /// What is said of a line without a session's number.
-const NO_SESSION: &str = "it has to begin with the number of a session, 1 to 16, a colon and a space";
+const NO_SESSION: &str =
+    "it has to begin with the number of a session, 1 to 16, a colon and a space";
 
 fn said(alloc: Global, text: &str) -> Result<Option<String>, AllocError> {
     Ok(Some(String::from_str(alloc, text)?))
@@ -23,7 +25,9 @@ fn strange_byte(alloc: Global, line: &[u8]) -> Result<Option<String>, AllocError
     };
     let number = at.saturating_add(1);
     let text = match line.get(at).copied() {
-        Some(b'\t') => format!(in alloc; "byte {number} is a tab, and words stand one space apart")?,
+        Some(b'\t') => format!(in alloc;
+            "byte {number} is a tab, and words stand one space apart"
+        )?,
         Some(byte) => format!(in alloc; "byte {number} is \\x{byte:02x}, and no printable ASCII")?,
         None => return Ok(None),
     };
@@ -34,7 +38,10 @@ fn strange_byte(alloc: Global, line: &[u8]) -> Result<Option<String>, AllocError
 /// printable ASCII, a space at its start or its end. The first of these, and none where it has none.
 pub fn wrong_bytes(alloc: Global, line: &[u8]) -> Result<Option<String>, AllocError> {
     if line.starts_with(MARK) {
-        return said(alloc, "it begins with a byte order mark: save the file without one");
+        return said(
+            alloc,
+            "it begins with a byte order mark: save the file without one",
+        );
     }
     if line.ends_with(b"\r") {
         return said(
@@ -113,7 +120,10 @@ fn without_session(alloc: Global, line: &str) -> Result<Option<String>, AllocErr
 fn wrong_further(alloc: Global, text: &str, before: u32) -> Result<Option<String>, AllocError> {
     let word = first_word(text);
     if word == "open" || text.starts_with("create database ") {
-        return said(alloc, "only the first statement opens or creates a database");
+        return said(
+            alloc,
+            "only the first statement opens or creates a database",
+        );
     }
     if let Some(form) = form_of(word) {
         if before >= MOST_STATEMENTS {
@@ -125,7 +135,7 @@ fn wrong_further(alloc: Global, text: &str, before: u32) -> Result<Option<String
     if form_of(small.as_str()).is_some() {
         return Ok(Some(format!(in alloc; "{word} is written in small letters: {small}")?));
     }
-    let word = crate::word::shown(alloc, word)?;
+    let word = shown(alloc, word)?;
     Ok(Some(format!(in alloc; "no statement begins with {word}")?))
 }
 

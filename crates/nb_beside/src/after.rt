@@ -5,9 +5,7 @@ use crate::done::show_done;
 use crate::look::look_at;
 use crate::reading::ReadOnly;
 use crate::seeing::{seen, seen_of};
-use nb_advice::{
-    Refused, advice, complaint, shortage, standing, wrong_bytes, wrong_statement,
-};
+use nb_advice::{Refused, advice, complaint, shortage, standing, wrong_bytes, wrong_statement};
 use nb_ended::{Broken, Status};
 use nb_host::Name;
 use nb_model::{Job, Statement};

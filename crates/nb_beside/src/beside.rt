@@ -131,12 +131,7 @@ where
 {
     ghost waiting = { λ host. host.waiting };
 
-    fn prepare(
-        &mut self,
-        alloc: Global,
-        job: &Result<Job, Fault>,
-        is_terminal: bool,
-    ) -> Before {
+    fn prepare(&mut self, alloc: Global, job: &Result<Job, Fault>, is_terminal: bool) -> Before {
         let rt = self.runtime();
         let manner = manner(wants_progress(&rt), is_terminal);
         let Ok(job) = job else {
