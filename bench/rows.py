@@ -803,7 +803,7 @@ ON_FROM = [
     ("level 1", "-B 1 a.db f", ["f goes on from a.0, the backup G1 of level 0, SCN 1"]),
     ("level 1", "-B 2 a.db f", ["f goes on from a.1, the backup G2 of level 1, SCN 3"]),
     ("level 1", "-B G1 a.db f", ["f goes on from a.0, the backup G1 of level 0, SCN 1"]),
-    ("past level 9", "-B G11 a.db b", ["b goes on from a, the backup G11 of level 9, SCN 19", NINE]),
+    ("past level 9", "-B G11 a.db b", ["b goes on from a, the backup G11 of level 9, SCN 21", NINE]),
 ]
 
 # Scripts and lists that break their form: the words that read them, their bytes, the line, and why it is wrong, where that is said.
