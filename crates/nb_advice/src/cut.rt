@@ -16,7 +16,7 @@ pub struct Cut {
 
 /// How many pages an inventory page counts, where pages have so many bytes.
 fn bits_in(size: u64) -> u64 {
-    size.saturating_sub(BITS_AT as u64).saturating_mul(8).max(1)
+    size.saturating_sub(BITS_AT as u64).saturating_mul(8)
 }
 
 /// The highest bit that says of its page that it is taken, which is a 0.
@@ -46,7 +46,7 @@ impl Cut {
     /// The first page that this inventory page counts.
     fn first_counted(size: u64, pages: u64) -> u64 {
         let bits = bits_in(size);
-        (pages / bits).saturating_mul(bits)
+        pages.checked_div(bits).unwrap_or(0).saturating_mul(bits)
     }
 
     /// Whether that many pages end before one that this inventory page has taken. None where they don't, and where it is no inventory page.

@@ -115,7 +115,7 @@ impl<'a, V: ReadOnly> Look<'a, V> {
     /// inventory page: the one that counts what follows the last page.
     pub fn cut(&self, alloc: Global) -> Option<Cut> {
         let size = self.header()?.page_size;
-        let pages = self.found.length / u64::from(size.max(1));
+        let pages = self.found.length.checked_div(u64::from(size))?;
         let inventory = Cut::inventory(size, pages);
         let mut page = vec![in alloc; 0; size as usize].ok()?;
         if self.read(place_of(inventory, size), &mut page) {
