@@ -9,7 +9,7 @@ use nb_advice::{Refused, advice, complaint, shortage, standing, wrong_bytes, wro
 use nb_ended::{Broken, Status};
 use nb_host::Name;
 use nb_model::{Job, Statement};
-use nb_script::{Lines, MOST_BYTES};
+use nb_script::MOST_BYTES;
 use std::alloc::{AllocError, Global};
 use std::io;
 
@@ -77,18 +77,23 @@ fn show_reason<R: Eprint>(
     }
 }
 
-/// The line of that number among these bytes, and how many stand before it that aren't skipped.
+/// Whether a line is skipped: it is empty, or a comment.
+fn is_skipped(line: &[u8]) -> bool {
+    line.is_empty() || line.starts_with(b"#")
+}
+
+/// The line of that number, from 1, among these bytes, and how many stand before it that aren't skipped.
 fn line_at(bytes: &[u8], number: u32) -> Option<(&[u8], u32)> {
-    if bytes.len() > MOST_BYTES {
-        return None;
-    }
-    let mut lines = Lines::new(bytes);
+    let mut passed: u32 = 0;
     let mut before: u32 = 0;
-    while let Some(line) = lines.next() {
-        if lines.passed() == number {
-            return Some((line, before));
+    for line in bytes.split(|byte| *byte == b'\n') {
+        passed = passed.saturating_add(1);
+        if passed == number {
+            return if line.is_empty() { None } else { Some((line, before)) };
         }
-        before = before.saturating_add(1);
+        if !is_skipped(line) {
+            before = before.saturating_add(1);
+        }
     }
     None
 }

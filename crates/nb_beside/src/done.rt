@@ -6,7 +6,7 @@ use crate::seeing::seen;
 use nb_advice::{There, cut_off, goes_on, locked, named_as_output, past_nine};
 use nb_host::Name;
 use nb_model::{Ask, Deed, Job};
-use nb_script::{Lines, MOST_BYTES};
+use nb_script::MOST_BYTES;
 use std::alloc::Global;
 
 /// The backup state of a copy of a locked database, as a backup of level 0 is.
@@ -87,11 +87,8 @@ fn show_list<V: ReadOnly + Eprint>(alloc: Global, rt: &V, list: &Name) {
     let Some(bytes) = bytes else {
         return;
     };
-    if bytes.len() > MOST_BYTES {
-        return;
-    }
-    let mut lines = Lines::new(&bytes);
-    while let Some(line) = lines.next() {
+    // A comment is no name, and neither is an empty line.
+    for line in bytes.split(|byte| *byte == b'\n') {
         if let Some(file) = Name::read_bytes(line) {
             show_level_0(alloc, rt, &file);
         }
