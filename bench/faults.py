@@ -116,7 +116,8 @@ def broken_scripts(path):
             with open(folder.file("script"), "wb") as file:
                 file.write(script)
             ran = run(folder, [path, "run", "script"])
-            if ran != (1, [f"0: refused 2 BadScript {line}"], f"nehumiro: script:{line}: {shown}\n"):
+            # A second line says why, which `rows.py` compares.
+            if ran[:2] != (1, [f"0: refused 2 BadScript {line}"]) or not ran[2].startswith(f"nehumiro: script:{line}: {shown}\n"):
                 yield f"{ran} for line {line}: {shown}"
 
 

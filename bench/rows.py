@@ -135,6 +135,14 @@ def left(name, content):
     return change
 
 
+def both(*changes):
+    def change(folder):
+        for each in changes:
+            each(folder)
+
+    return change
+
+
 def no_c(folder):
     return is_missing(folder, "c.db")
 
@@ -579,6 +587,27 @@ CASES = [
         check=is_generated,
     ),
     Case(
+        "past level 9",
+        [
+            *[
+                (words(f"-B {level} a.db {level}"), f"1: ok level {level} scn {2 * level + 1} pages {pages} guid G{level + 1}", 0)
+                for level, pages in enumerate((13, 3, 3, 5, 3, 3, 5, 3, 3, 5))
+            ],
+            (words("-B G10 a.db a"), "1: ok level 9 scn 21 pages 3 guid G11", 0),
+            (words("-R c.db 0 1 2 3 4 5 6 7 8 a"), "1: refused 17 ChainGuid a G10 G9", 1),
+            (words("fold f.8 8 9"), "1: ok level 8 scn 19 pages 5 guid G10", 0),
+            (words("-R c.db 0 1 2 3 4 5 6 7 f.8 a"), "1: ok pages 16", 0),
+        ],
+        "create, write, read",
+    ),
+    Case(
+        "a database of two inventory pages",
+        [
+            (script("1: create database 'k.db' page_size 1024 raw 7962"), "1: ok pages 8000", 0),
+            (words("-B 0 k.db k.0"), "1: ok level 0 scn 1 pages 8000 guid G1", 0),
+        ],
+    ),
+    Case(
         "leaked pages are given back",
         [
             write_at("a.db", 5 * 1024 + 16, bytes(4)),
@@ -629,6 +658,10 @@ HOSTILE = [
 
 TIME = r"\d{4}-\d\d-\d\d \d\d:\d\d:\d\d UTC"
 LONG = "a" * 101
+LEVEL_0 = (
+    f"is locked and a.0.delta isn't there, so it looks like a backup of level 0: restore it: nehumiro -R NEW a.0, or make a copy of it a database: nehumiro -F COPY; "
+    f"if it is the locked database itself, all that was written to it since {TIME} is in a.0.delta alone: put that back first"
+)
 
 # What the standard error says first where words name no job.
 USAGE = [
@@ -663,15 +696,17 @@ USAGE = [
 
 # What it says of a job that is refused, each from the files of a session: what is changed before, the words, and the line.
 UNSOUND = "back a.db up no more, and restore a chain from before that: nehumiro -R NEW FILE.."
+LOCKED = rf"a.db is locked since {TIME}, by -L or by a backup that was stopped \(by Ctrl-C, a signal or a power cut\): end that with: nehumiro -N a.db"
+UNMERGED = "a.db isn't merged yet after its last backup, whose end was stopped: end that with: nehumiro -N a.db"
 LOST = f"with all that was written to a.db since {TIME}: put it back; where it is lost, a copy of a.db becomes the database as it was then, by: nehumiro -F COPY"
 ADVICE = [
-    ("a write while stalled", None, "-B 0 a.db f", f"a.db is locked since {TIME}: end that backup with: nehumiro -N a.db"),
-    ("a write while stalled", None, "-L a.db", f"a.db is locked since {TIME}: end that backup with: nehumiro -N a.db"),
+    ("a write while stalled", None, "-B 0 a.db f", LOCKED),
+    ("a write while stalled", None, "-L a.db", LOCKED),
     ("create, write, read", None, "-N a.db", "a.db isn't locked: there is no backup to end"),
-    ("a write while stalled", write_at("a.db", 22, b"\2"), "-B 0 a.db f", "a.db isn't merged yet behind its last backup: end that with: nehumiro -N a.db"),
+    ("a write while stalled", write_at("a.db", 22, b"\2"), "-B 0 a.db f", UNMERGED),
     ("level 1", write_at("a.db", 65, b"\1"), "-L a.db", "a.db is read-only, and a backup writes to it: a script with the line '1: access read_write' lifts that"),
     ("level 1", None, "-B 0 a.db a.1", "a.1 is there already: choose another name, or move it away"),
-    ("level 1", cut("a.1", 4000), "-B 1 a.db a.1", "a.1 is there already, and isn't whole: a stopped backup left it, and it may be removed"),
+    ("level 1", cut("a.1", 4000), "-B 1 a.db a.1", "a.1 is there already, and isn't whole: a backup or a fold that was stopped left it, and it may be removed"),
     ("level 1", left("f.delta", b""), "-B 1 a.db f", "f is no free name, since f.delta stands beside it: move that away where nothing needs it, or choose another name"),
     ("create, write, read", None, "-B 2 a.db f", r"the history of a.db has no backup to go on from \(a copy made by hand is none\): first make: nehumiro -B 0 a.db FILE"),
     ("level 1", None, "-B 4 a.db f", "the history of a.db has backups of the levels 0 and 1, and none of level 3 to go on from: first make: nehumiro -B 2 a.db FILE"),
@@ -719,6 +754,89 @@ ADVICE = [
     ("create, write, read", write_at("a.db", 3 * 1024 + 20, b"\5"), "check a.db", "page 3 of a.db is damaged: restore a chain: nehumiro -R NEW FILE.."),
     ("create, write, read", write_at("a.db", 65, b"\1"), "reclaim a.db", "a.db is read-only, and giving pages back writes to it: a script with the line '1: access read_write' lifts that"),
     ("a generated script", None, "gen 8 i.s", "gen.db is there already: choose another name, or move it away"),
+    ("level 1", None, "stat a.0", f"a.0 {LEVEL_0}"),
+    ("level 1", None, "check a.0", f"a.0 {LEVEL_0}"),
+    ("level 1", None, "-N a.0", f"a.0.delta is gone, {LOST.replace('a.db', 'a.0')}"),
+    ("level 1", write_at("a.0", 0, bytes(1024)), "-R c.db a.0 a.1", "a.0 isn't whole, as a stopped backup of level 0 leaves it, with zeros at its start: take another copy of it, or another backup, and remove it"),
+    ("levels folded into one", cut("f.1", 4000), "fold f.1 a.1 g.2", "f.1 is there already, and isn't whole: a backup or a fold that was stopped left it, and it may be removed"),
+    ("past level 9", None, "fold f.9 9 a", "9 is of level 9, and no level follows 9: fold it with the file of level 8 that it goes on from, and no further; a restore takes a after that fold"),
+    ("past level 9", None, "fold f.9 9 1", "9 is of level 9, and no level follows 9: give consecutive levels, the lowest first"),
+    ("level 1", left("s", b"#" * 1048577), "run s", "s is too long: a script has 10,000 statements and 1,048,576 bytes at most"),
+]
+
+# What it says of a job that is done, as in ADVICE.
+SHORT = "it has 10 pages, and its inventory counts 13"
+REMEDY = "compare its length with the pages that its backup's reply gave, take another copy of it, and remove no older backup until then"
+NINE = (
+    r"no restore takes b as it is, since it goes on from a backup of level 9, and a chain has one file of each level: fold the files of levels 8 and 9 before it into one, "
+    r"which stands in their place \(nehumiro fold NEW FILE FILE\), or begin anew with level 0; a standby takes it \(nehumiro -I -R STANDBY b\)"
+)
+EMPTIED = f"a.db.delta has no byte, and the begin of a backup had written a page of it, so what was written to a.db since {TIME} may be gone: look for the right a.db.delta before anything else, and don't end the backup before that"
+OUTPUT = "and not on the standard output, to which none is ever written: give that file another name, and send it on from there"
+TOLD = [
+    ("level 1", None, "-B 1 a.db f", []),
+    ("level 1", None, "-R c.db a.0 a.1", []),
+    ("level 1", cut("a.0", 10240), "-R c.db a.0", [f"a.0 lacks its end: {SHORT}, and c.db may lack what is missing: {REMEDY}"]),
+    ("level 1", cut("a.0", 10240), "-R c.db a.0 a.1", [f"a.0 lacks its end: {SHORT}, and c.db may lack what is missing: {REMEDY}"]),
+    ("level 1", cut("a.0", 10240), "-F a.0", [f"a.0 lacks its end: {SHORT}: {REMEDY}"]),
+    ("level 1", both(cut("a.0", 10240), left("l", b"a.0\n# b\na.1\n")), "plan 1 l", [f"a.0 lacks its end: {SHORT}: {REMEDY}"]),
+    ("a database of two inventory pages", left("l", b"k.0\n"), "plan 1 l", []),
+    ("a database of two inventory pages", cut("k.0", 7936 * 1024), "-F k.0", [f"k.0 lacks its end: it has 7936 pages, and its inventory counts 8000: {REMEDY}"]),
+    ("a database of two inventory pages", cut("k.0", 7935 * 1024), "-F k.0", [f"k.0 lacks its end: it has 7935 pages, and its inventory counts 7936: {REMEDY}"]),
+    ("a write while stalled", None, "stat a.db", [LOCKED]),
+    ("a write while stalled", write_at("a.db", 22, b"\2"), "stat a.db", [UNMERGED]),
+    ("level 1", None, "stat a.db", []),
+    ("a write while stalled", cut("a.db.delta", 0), "stat a.db", [EMPTIED, LOCKED]),
+    ("a write while stalled", cut("a.db.delta", 0), "-N a.db", [EMPTIED]),
+    ("a write while stalled", both(cut("a.db.delta", 0), write_at("a.db", 22, b"\2")), "stat a.db", [EMPTIED.replace(f" since {TIME}", ""), UNMERGED]),
+    ("a write while stalled", both(cut("a.db.delta", 0), left("s", b"1: open 'a.db'\n")), "run s", [EMPTIED]),
+    ("level 1", left("a.db.delta", b""), "stat a.db", []),
+    ("past level 9", None, "-B G11 a.db b", [NINE]),
+    ("level 1", None, "-B 0 a.db stdout", [f"the backup is in a file named stdout, {OUTPUT}"]),
+    ("level 1", None, "-B 1 a.db -", [f"the backup is in a file named -, {OUTPUT}"]),
+    ("levels folded into one", None, "fold stdout a.1 g.2", [f"the backup is in a file named stdout, {OUTPUT}"]),
+]
+
+# The same where progress is shown.
+ON_FROM = [
+    ("level 1", "-B 0 a.db f", []),
+    ("level 1", "-B 1 a.db f", ["f goes on from a.0, the backup G1 of level 0, SCN 1"]),
+    ("level 1", "-B 2 a.db f", ["f goes on from a.1, the backup G2 of level 1, SCN 3"]),
+    ("level 1", "-B G1 a.db f", ["f goes on from a.0, the backup G1 of level 0, SCN 1"]),
+    ("past level 9", "-B G11 a.db b", ["b goes on from a, the backup G11 of level 9, SCN 21", NINE]),
+]
+
+# Scripts and lists that break their form: the words that read them, their bytes, the line, and why it is wrong, where that is said.
+FIRST = "the first statement is: open 'NAME', or create database 'NAME' page_size P raw N; either may end in: cache C"
+SESSION = "it has to begin with the number of a session, 1 to 16, a colon and a space"
+ORDER = "it stands right after the first statement and only there: schedule S S .., up to 4,096 numbers of 1 to 16, or seed U"
+DOS = "it ends in a carriage return, as DOS ends lines: a line ends in a line feed alone"
+REASONS = [
+    ("run s", b"1: open 'a.db'\n1: reed 5\n", 2, 'no statement begins with "reed"'),
+    ("run s", b"\xef\xbb\xbf1: open 'a.db'\n", 1, "it begins with a byte order mark: save the file without one"),
+    ("run s", b"1: open 'a.db'\r\n1: read 5\r\n", 1, DOS),
+    ("run s", b"1: open 'a.db'\n1:\tread 5\n", 2, "byte 3 is a tab, and words stand one space apart"),
+    ("run s", b"1: open 'a.db'\n1: write 5 '\xc3\xa4'\n", 2, "byte 13 is \\xc3, and no printable ASCII"),
+    ("run s", b"1: open 'a.db'\n 1: read 5\n", 2, "it begins with a space"),
+    ("run s", b"1: open 'a.db'\n1: read 5 \n", 2, "a space stands at its end"),
+    ("run s", b"1: open 'a.db'\n1:  read 5\n", 2, "one space alone stands after the colon"),
+    ("run s", b"1: open 'a.db'\nread 5\n", 2, SESSION),
+    ("run s", b"1: open 'a.db'\n17: read 5\n", 2, SESSION),
+    ("run s", b"1: open 'a.db'\n01: read 5\n", 2, SESSION),
+    ("run s", b"1: open 'a.db'\n1 read 5\n", 2, SESSION),
+    ("run s", b"1: open 'a.db'\n1: READ 5\n", 2, "READ is written in small letters: read"),
+    ("run s", b"1: open 'a.db'\n1: read x\n", 2, "the statement is: read N"),
+    ("run s", b"1: open 'a.db'\n1: write 5 it\n", 2, "the statement is: write N 'TEXT'"),
+    ("run s", b"1: open 'a.db'\n1: open 'a.db'\n", 2, "only the first statement opens or creates a database"),
+    ("run s", b"1: open 'a.db'\n1: read 5\nschedule 1\n", 3, ORDER),
+    ("run s", b"1: open 'a.db'\nschedule 17\n", 2, ORDER),
+    ("run s", b"1: read 5\n", 1, FIRST),
+    ("run s", b"1: Open 'a.db'\n", 1, "Open is written in small letters: open"),
+    ("run s", b"1: open 'a.db'\n" + b"1: read 5\n" * 10_000, 10_001, "a script has 10,000 statements at most"),
+    ("run s", b"# a comment\n", 2, None),
+    ("plan 1 s", b"a.0\r\n", 1, DOS),
+    ("plan 1 s", b"a.0 \n", 1, "a space stands at its end"),
+    ("plan 1 s", b"a.0\na.0\n", 2, None),
 ]
 
 
@@ -797,22 +915,53 @@ def errors(path, kept):
         folder, guids = kept.folder(f"a{number}", after)
         if change is not None:
             change(folder)
-        said = subprocess.run([path, *asked.split()], cwd=folder.path, capture_output=True, check=False).stderr.decode()
+        said = subprocess.run([path, *with_guids(asked, guids).split()], cwd=folder.path, capture_output=True, check=False).stderr.decode()
         if not re.fullmatch(f"nehumiro: {with_guids(line, guids)}\n", said):
             yield f"{asked}: {said}"
+
+
+def said_of(folder, path, asked, shown="0"):
+    """The lines of the standard error, without the program's name, where progress is shown or not."""
+    ran = subprocess.run([path, *asked.split()], cwd=folder.path, capture_output=True, check=False, env={**os.environ, "NEHUMIRO_PROGRESS": shown})
+    return [line.removeprefix("nehumiro: ") for line in ran.stderr.decode().splitlines()], ran.returncode
+
+
+def told(path, kept):
+    """What the standard error says otherwise of jobs that are done."""
+    cases = [(after, change, asked, lines, "0") for after, change, asked, lines in TOLD]
+    cases += [(after, None, asked, lines, "1") for after, asked, lines in ON_FROM]
+    for number, (after, change, asked, lines, shown) in enumerate(cases):
+        folder, guids = kept.folder(f"t{number}", after)
+        if change is not None:
+            change(folder)
+        said, ended = said_of(folder, path, with_guids(asked, guids), shown)
+        wanted = [with_guids(line, guids) for line in lines]
+        if ended != 0 or len(said) != len(wanted) or not all(re.fullmatch(*pair) for pair in zip(wanted, said)):
+            yield f"{asked}: {said} ({ended})"
+
+
+def reasons(path, kept):
+    """What it says otherwise of a line that breaks the form of a script or a list."""
+    for number, (asked, content, line, why) in enumerate(REASONS):
+        folder, _ = kept.folder(f"r{number}", None)
+        left("s", content)(folder)
+        said, ended = said_of(folder, path, asked)
+        reason = [f"s:{line}: {why}"] if why is not None else []
+        if ended != 1 or not said[0].startswith(f"s:{line}: ") or said[1 : 1 + len(reason)] != reason or (asked == "run s" and len(said) != 1 + len(reason)):
+            yield f"{content[:60]}: {said} ({ended})"
 
 
 def main():
     path = program()
     with Folder() as base:
         kept = Kept(base)
-        wrong = [*sessions(path, kept), *changed_files(path, kept), *errors(path, kept)]
+        wrong = [*sessions(path, kept), *changed_files(path, kept), *errors(path, kept), *told(path, kept), *reasons(path, kept)]
     for text in wrong:
         print(text)
     report(
         "rows",
         not wrong,
-        f"{len(CASES)} sessions, {len(HOSTILE)} changed files and {len(USAGE) + len(ADVICE)} lines of the standard error say and leave what they must, but for {len(wrong)}",
+        f"{len(CASES)} sessions, {len(HOSTILE)} changed files and {len(USAGE) + len(ADVICE) + len(TOLD) + len(ON_FROM) + len(REASONS)} cases of the standard error say and leave what they must, but for {len(wrong)}",
     )
 
 

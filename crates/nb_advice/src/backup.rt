@@ -1,5 +1,5 @@
 // A backup that couldn't begin or end.
-use crate::moment::since;
+use crate::done::locked;
 use crate::opening::opening;
 use crate::refused::Refused;
 use crate::seen::{Seen, There};
@@ -13,15 +13,8 @@ pub(crate) fn lock(
     refused: &Refused<'_>,
     seen: &Seen,
 ) -> Result<Option<String>, AllocError> {
-    let [value, _, _] = refused.values;
     let text = match refused.name {
-        "WrongState" if value == "1" => {
-            let since = since(alloc, seen.written)?;
-            format!(in alloc; "{db} is locked{since}: end that backup with: nehumiro -N {db}")?
-        }
-        "WrongState" => format!(in alloc;
-            "{db} isn't merged yet behind its last backup: end that with: nehumiro -N {db}"
-        )?,
+        "WrongState" => return locked(alloc, db, seen),
         "Access" => format!(in alloc;
             "{db} is read-only, and a backup writes to it: a script with the line '1: access read_write' lifts that"
         )?,
@@ -59,7 +52,7 @@ pub(crate) fn not_free(
             "{name} is no free name, since {name}.delta stands beside it: move that away where nothing needs it, or choose another name"
         )?,
         There::PartOfLevel => format!(in alloc;
-            "{name} is there already, and isn't whole: a stopped backup left it, and it may be removed"
+            "{name} is there already, and isn't whole: a backup or a fold that was stopped left it, and it may be removed"
         )?,
         There::Level | There::Database(_) | There::Unfinished | There::Unknown | There::Other => {
             format!(in alloc; "{name} is there already: choose another name, or move it away")?

@@ -2,7 +2,7 @@
 use crate::backup::not_free;
 use crate::opening::no_file;
 use crate::refused::Refused;
-use crate::seen::Seen;
+use crate::seen::{Seen, There};
 use nb_host::Name;
 use std::alloc::{AllocError, Global};
 
@@ -32,6 +32,10 @@ pub(crate) fn broken_file(
     let text = if is_short {
         format!(in alloc;
             "{file} isn't whole, as a stopped backup or copy leaves it: take another copy of it, or a chain without it"
+        )?
+    } else if seen.named == There::Unfinished {
+        format!(in alloc;
+            "{file} isn't whole, as a stopped backup of level 0 leaves it, with zeros at its start: take another copy of it, or another backup, and remove it"
         )?
     } else if at == "0" {
         format!(in alloc;
@@ -92,6 +96,25 @@ pub(crate) fn restore(
     }
 }
 
+/// That no level follows a file of level 9, and what to do where the next one is of level 9 too, as a backup since that one is.
+fn past_nine(
+    alloc: Global,
+    file: &str,
+    level: &str,
+    before: &str,
+) -> Result<Option<String>, AllocError> {
+    let text = if level == "9" {
+        format!(in alloc;
+            "{before} is of level 9, and no level follows 9: fold it with the file of level 8 that it goes on from, and no further; a restore takes {file} after that fold"
+        )?
+    } else {
+        format!(in alloc;
+            "{before} is of level 9, and no level follows 9: give consecutive levels, the lowest first"
+        )?
+    };
+    Ok(Some(text))
+}
+
 /// What is to be said where level files are not folded, `fold`.
 pub(crate) fn fold(
     alloc: Global,
@@ -104,6 +127,7 @@ pub(crate) fn fold(
         "BadLevel" if found == "0" => Ok(Some(format!(in alloc;
             "{file} is no level file: give those that -B 1 to -B 9 made, and restore one of level 0 with the file that they are folded into"
         )?)),
+        "ChainLevel" if wanted == "10" => past_nine(alloc, file, found, before(files, file)),
         "ChainLevel" => Ok(Some(format!(in alloc;
             "{file} is of level {found}, and one of level {wanted} has to follow {}: give consecutive levels, the lowest first",
             before(files, file)

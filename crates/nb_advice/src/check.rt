@@ -1,5 +1,5 @@
 // A check that found the database unsound, and pages that couldn't be given back.
-use crate::opening::opening;
+use crate::opening::looking;
 use crate::refused::Refused;
 use crate::seen::Seen;
 use nb_host::Name;
@@ -41,7 +41,7 @@ pub(crate) fn check(
     let [fact, page, _] = refused.values;
     match refused.name {
         "Unsound" => unsound(alloc, db, fact, page),
-        _ => opening(alloc, db, refused, seen),
+        _ => looking(alloc, db, refused, seen),
     }
 }
 

@@ -50,6 +50,35 @@ pub(crate) fn no_file(alloc: Global, name: &str) -> Result<Option<String>, Alloc
     Ok(Some(text))
 }
 
+/// What to do where a file that is only looked at is locked and has no difference file, as a backup of level 0 is.
+fn as_level_0(
+    alloc: Global,
+    db: &Name,
+    delta: &str,
+    seen: &Seen,
+) -> Result<Option<String>, AllocError> {
+    let since = since(alloc, seen.written)?;
+    Ok(Some(format!(in alloc;
+        "{db} is locked and {delta} isn't there, so it looks like a backup of level 0: restore it: nehumiro -R NEW {db}, or make a copy of it a database: nehumiro -F COPY; if it is the locked database itself, all that was written to it{since} is in {delta} alone: put that back first"
+    )?))
+}
+
+/// What is to be said where the database of a job that only looks at it is not opened.
+pub(crate) fn looking(
+    alloc: Global,
+    db: &Name,
+    refused: &Refused<'_>,
+    seen: &Seen,
+) -> Result<Option<String>, AllocError> {
+    let [value, _, _] = refused.values;
+    match refused.name {
+        "NoFile" if value.ends_with(".delta") && seen.state == Some(1) => {
+            as_level_0(alloc, db, value, seen)
+        }
+        _ => opening(alloc, db, refused, seen),
+    }
+}
+
 /// What is to be said where the database of a job is not opened.
 pub(crate) fn opening(
     alloc: Global,

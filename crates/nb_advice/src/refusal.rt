@@ -3,7 +3,7 @@ use crate::backup::{backup, lock, not_free, unlock};
 use crate::chain::plan;
 use crate::check::{check, reclaim};
 use crate::deeds;
-use crate::opening::opening;
+use crate::opening::looking;
 use crate::refused::Refused;
 use crate::seen::Seen;
 use nb_host::Name;
@@ -19,7 +19,7 @@ fn of_ask(
     seen: &Seen,
 ) -> Result<Option<String>, AllocError> {
     match ask {
-        Ask::Stat => opening(alloc, db, refused, seen),
+        Ask::Stat => looking(alloc, db, refused, seen),
         Ask::Check => check(alloc, db, refused, seen),
         Ask::Reclaim => reclaim(alloc, db, refused, seen),
         Ask::Lock | Ask::LockWithSize => lock(alloc, db, refused, seen),
@@ -28,7 +28,8 @@ fn of_ask(
     }
 }
 
-/// What is to be said after the refusal of a job by words: what stands, and what to do about it. None of a script, whose lines say it.
+/// What is to be said after the refusal of a job by words: what stands, and what to do about it. Of a script only
+/// that it is too long, since its lines say the rest.
 pub fn advice(
     alloc: Global,
     job: &Job,
@@ -42,6 +43,9 @@ pub fn advice(
         Job::Gen { .. } if refused.name == "FileExists" => {
             not_free(alloc, refused.values[0], &Seen::nothing())
         }
+        Job::Run { script } if refused.name == "ScriptLong" => Ok(Some(format!(in alloc;
+            "{script} is too long: a script has 10,000 statements and 1,048,576 bytes at most"
+        )?)),
         Job::Gen { .. } | Job::Run { .. } => Ok(None),
     }
 }

@@ -33,7 +33,9 @@ pub struct Seen {
     pub there: There,
     /// Whether a difference file stands beside that name.
     pub has_delta: bool,
-    /// How many bytes the file has that the refusal names.
+    /// What stands under the name that the refusal gives.
+    pub named: There,
+    /// How many bytes that file has.
     pub length: Option<u64>,
     /// Which backups the history of the job's database has.
     pub levels: Option<Levels>,
@@ -50,6 +52,7 @@ impl Seen {
             written: None,
             there: There::Unknown,
             has_delta: false,
+            named: There::Unknown,
             length: None,
             levels: None,
             is_merged: false,
@@ -89,6 +92,31 @@ fn ends_whole(first: &[u8; 64], length: u64, last: &[u8; 8]) -> bool {
 /// Whether the file with these first 64 bytes is the level file that a database with this header is of: their GUIDs are the same.
 pub fn is_level_of(first: &[u8; 64], header: &Header) -> bool {
     first.starts_with(b"NBAK") && first[8..24] == header.guid[0..16]
+}
+
+/// Which backup a level file goes on from, as its head says.
+#[derive(Clone, Copy, Debug, PartialEq, Eq)]
+pub struct Origin {
+    /// The file's own level, 1 to 9.
+    pub level: u32,
+    pub guid: [u8; 16],
+    pub scn: u32,
+}
+
+impl Origin {
+    /// Reads it from the first 64 bytes of a file, and none where that is no level file.
+    pub fn of(first: &[u8; 64]) -> Option<Origin> {
+        if !first.starts_with(b"NBAK") {
+            return None;
+        }
+        let mut guid = [0; 16];
+        guid.copy_from_slice(&first[24..40]);
+        Some(Origin {
+            level: number_at(first, 4) / 65_536,
+            guid,
+            scn: number_at(first, 48),
+        })
+    }
 }
 
 impl There {

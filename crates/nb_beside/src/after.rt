@@ -1,18 +1,17 @@
 // What the standard error says after a run.
 use crate::beside::End;
 use crate::changed::script_in;
+use crate::done::show_done;
 use crate::look::look_at;
-use crate::seeing::{database_of, seen, seen_of};
-use nb_advice::{Refused, advice, complaint, shortage, standing};
+use crate::reading::ReadOnly;
+use crate::seeing::{seen, seen_of};
+use nb_advice::{Refused, advice, complaint, shortage, standing, wrong_bytes, wrong_statement};
 use nb_ended::{Broken, Status};
-use nb_file::{Disk, FileHost};
 use nb_host::Name;
 use nb_model::{Job, Statement};
+use nb_script::MOST_BYTES;
 use std::alloc::{AllocError, Global};
 use std::io;
-use std::os::fd::AsRawFd;
-use std::os::unix::fs::FileExt;
-use std::rt::{Clock, Files};
 
 /// What the words may be, for a reader.
 const USAGE: &str = "\
@@ -34,8 +33,17 @@ usage: nehumiro run SCRIPT          runs the statements of a script
        nehumiro gen N SCRIPT        writes the script of the number N to a new file, and runs it: for trials
 ";
 
+/// What the host tells of a run that is over.
+#[derive(Drop)]
+pub struct Told<'a> {
+    /// The bytes that were said last.
+    pub said: &'a [u8],
+    /// Whether the run had the job's database alone. Where another program has it, what stands of it is none of this run's.
+    pub is_held: bool,
+}
+
 /// Says a line, if there is one. Nothing is left to do where the standard error fails, or where there is no memory for a text.
-fn say<R: Eprint>(rt: &R, text: Result<Option<String>, AllocError>) {
+pub(crate) fn say<R: Eprint>(rt: &R, text: Result<Option<String>, AllocError>) {
     if let Ok(Some(text)) = text {
         let _ = eprintln!(rt; "nehumiro: {text}");
     }
@@ -57,47 +65,89 @@ fn show_line<R: Eprint>(rt: &R, name: &Name, broken: &Broken) {
     let _ = eprintln!(rt; "nehumiro: {name}:{}: {}", broken.line, broken.text);
 }
 
+/// Why that line breaks it.
+fn show_reason<R: Eprint>(
+    rt: &R,
+    name: &Name,
+    broken: &Broken,
+    reason: Result<Option<String>, AllocError>,
+) {
+    if let Ok(Some(reason)) = reason {
+        let _ = eprintln!(rt; "nehumiro: {name}:{}: {reason}", broken.line);
+    }
+}
+
+/// Whether a line is skipped: it is empty, or a comment.
+fn is_skipped(line: &[u8]) -> bool {
+    line.is_empty() || line.starts_with(b"#")
+}
+
+/// The line of that number, from 1, among these bytes, and how many stand before it that aren't skipped.
+fn line_at(bytes: &[u8], number: u32) -> Option<(&[u8], u32)> {
+    let mut passed: u32 = 0;
+    let mut before: u32 = 0;
+    for line in bytes.split(|byte| *byte == b'\n') {
+        passed = passed.saturating_add(1);
+        if passed == number {
+            return if line.is_empty() { None } else { Some((line, before)) };
+        }
+        if !is_skipped(line) {
+            before = before.saturating_add(1);
+        }
+    }
+    None
+}
+
+/// What is wrong with the line of a script, or of a list, as the file is now.
+fn show_why<V: ReadOnly + Eprint>(
+    alloc: Global,
+    rt: &V,
+    name: &Name,
+    broken: &Broken,
+    is_script: bool,
+) {
+    let bytes = look_at(rt, name.as_str()).and_then(|found| found.bytes(alloc, MOST_BYTES as u64));
+    let Some(bytes) = bytes else {
+        return;
+    };
+    if let Some((line, before)) = line_at(&bytes, broken.line) {
+        let reason = if is_script {
+            wrong_statement(alloc, line, before)
+        } else {
+            wrong_bytes(alloc, line)
+        };
+        show_reason(rt, name, broken, reason);
+    }
+}
+
 /// What to do about the reply that refused a job by words.
-fn show_advice<R: Files + Eprint>(alloc: Global, rt: &R, job: &Job, reply: &[u8])
-where
-    R::File: FileExt,
-{
+fn show_advice<V: ReadOnly + Eprint>(alloc: Global, rt: &V, job: &Job, reply: &[u8]) {
     if let Some(refused) = Refused::read(reply) {
         let seen = seen_of(alloc, rt, job, &refused);
         say(rt, advice(alloc, job, &refused, &seen));
     }
 }
 
-/// What stands of a job by words that ended early, where its database was in that backup state before. Where another program has the
-/// database, what stands of it is none of this run's.
-fn show_standing<R: Files + Print + Eprint + Clock + Drop>(
+/// What stands of a job by words that ended early, where its database was in that backup state before.
+fn show_standing<V: ReadOnly + Eprint>(
     alloc: Global,
-    rt: &R,
-    host: &FileHost<R>,
+    rt: &V,
     job: &Job,
+    told: &Told<'_>,
     before: Option<u16>,
-)
-where
-    R::File: Disk + AsRawFd + FileExt,
-{
-    if let Some(db) = database_of(job) {
-        if !host.holds_alone(db) {
-            return;
-        }
+) {
+    if told.is_held {
+        let seen = seen(rt, job);
+        say(rt, standing(alloc, job, before, &seen));
     }
-    let seen = seen(rt, job);
-    say(rt, standing(alloc, job, before, &seen));
 }
 
 /// What the cache of a script asks for, where it can be read.
-fn shortage_of<R: Files>(alloc: Global, rt: &R, job: &Job) -> Option<String>
-where
-    R::File: FileExt,
-{
+fn shortage_of<V: ReadOnly>(alloc: Global, files: &V, job: &Job) -> Option<String> {
     let Job::Run { script } = job else {
         return None;
     };
-    let script = script_in(alloc, rt, script)?;
+    let script = script_in(alloc, files, script)?;
     let (cache, page_size) = match script.first() {
         Statement::CreateDb {
             cache,
@@ -105,7 +155,7 @@ where
             ..
         } => (*cache, *page_size),
         Statement::OpenDb { name, cache } => {
-            (*cache, look_at(rt, name.as_str())?.header()?.page_size)
+            (*cache, look_at(files, name.as_str())?.header()?.page_size)
         }
         _ => return None,
     };
@@ -122,36 +172,50 @@ fn show_shortage<R: Eprint>(rt: &R, asked: Option<String>) {
     }
 }
 
-/// What is to be said after a run: why its words name no job, why a script or a list wasn't read, what to do about a refusal, what stands where it ended
-/// early.
-pub fn explain<R: Files + Print + Eprint + Clock + Drop>(
+/// Why a job was refused: the line of a script or of a list that breaks its form, and what to do.
+fn show_refused<V: ReadOnly + Eprint>(
     alloc: Global,
-    rt: &R,
-    host: &FileHost<R>,
+    rt: &V,
+    job: &Job,
+    broken: Option<&Broken>,
+    reply: &[u8],
+) {
+    match (job, broken) {
+        (Job::Run { script }, Some(broken)) => {
+            show_line(rt, script, broken);
+            show_why(alloc, rt, script, broken, true);
+        }
+        (Job::Plan { list, .. }, Some(broken)) => {
+            show_line(rt, list, broken);
+            show_why(alloc, rt, list, broken, false);
+            show_advice(alloc, rt, job, reply);
+        }
+        _ => show_advice(alloc, rt, job, reply),
+    }
+}
+
+/// What is to be said after a run: why its words name no job, why a script or a list wasn't read, what to do about a refusal, what stands where it ended
+/// early, and what is to be known where it was done.
+pub fn explain<V: ReadOnly + Eprint>(
+    alloc: Global,
+    rt: &V,
     words: &io::Result<Vec<String>>,
     job: Option<&Job>,
     end: &End,
-)
-where
-    R::File: Disk + AsRawFd + FileExt,
-{
+    told: &Told<'_>,
+) {
     match (end.status, job) {
-        (Status::Done, _) => {}
+        (Status::Done, Some(job)) => show_done(alloc, rt, job, end.before.is_watched),
         (Status::Usage, _) => show_usage(alloc, rt, words),
-        (Status::Refused, Some(job)) => match (job, &end.broken) {
-            (Job::Run { script }, Some(broken)) => show_line(rt, script, broken),
-            (Job::Plan { list, .. }, Some(broken)) => {
-                show_line(rt, list, broken);
-                show_advice(alloc, rt, job, host.last_said());
-            }
-            _ => show_advice(alloc, rt, job, host.last_said()),
-        },
-        (Status::Device, Some(job)) => show_standing(alloc, rt, host, job, end.before),
+        (Status::Refused, Some(job)) => {
+            show_refused(alloc, rt, job, end.broken.as_ref(), told.said)
+        }
+        (Status::Device, Some(job)) => show_standing(alloc, rt, job, told, end.before.state),
         (Status::Memory, Some(job)) => {
             show_shortage(rt, shortage_of(alloc, rt, job));
-            show_standing(alloc, rt, host, job, end.before);
+            show_standing(alloc, rt, job, told, end.before.state);
         }
         (Status::Memory, None) => show_shortage(rt, None),
-        (Status::Refused | Status::Device, None) => {}
+        (Status::Done | Status::Refused | Status::Device, None) => {}
     }
 }

@@ -4,14 +4,15 @@ ghost use Rattle.nb_host.specs.Calls.{IsSilent, IsStill};
 ghost use Rattle.nb_host.specs.Causes.{CountsFault};
 ghost use Rattle.nb_host.specs.Moments.{Passes};
 
-use crate::after::explain;
-use crate::changed::changed;
+use crate::after::{Told, explain, say};
+use crate::changed::{changed, opened};
 use crate::progress::{manner, progress_of};
-use crate::seeing::{database_of, state_of};
+use crate::reading::ReadOnly;
+use crate::seeing::{database_of, emptied, state_of};
 use crate::settings::{patience, wants_progress};
 use nb_ended::{Broken, Status};
-use nb_file::{Disk, FileHost};
-use nb_host::{Fault, Host, HostFault};
+use nb_file::{Disk, FileHost, Manner};
+use nb_host::{Fault, Host, HostFault, Name};
 use nb_model::Job;
 use std::alloc::Global;
 use std::io;
@@ -19,11 +20,20 @@ use std::os::fd::AsRawFd;
 use std::os::unix::fs::FileExt;
 use std::rt::{Clock, Env, Files};
 
-/// How a run ended, in which backup state the database of a job by words was before it, and which line of its script breaks the form, if one does.
+/// What is known of a run before it begins.
+#[derive(Clone, Copy)]
+pub struct Before {
+    /// The backup state in which the database of a job by words is.
+    pub state: Option<u16>,
+    /// Whether progress is shown: a person watches, or the environment asks for it.
+    pub is_watched: bool,
+}
+
+/// How a run ended, what was known before it, and which line of its script breaks the form, if one does.
 #[derive(Drop)]
 pub struct End {
     pub status: Status,
-    pub before: Option<u16>,
+    pub before: Before,
     pub broken: Option<Broken>,
 }
 
@@ -33,9 +43,9 @@ pub trait Beside: Host {
     /// The file some of whose bytes still wait to be given to the system, if there is one.
     ghost waiting: { Self → Option (List ℕ) };
 
-    /// Says how long the run waits for locks, which database it holds alone, and how its progress is shown. Answers the backup state in
-    /// which the database of a job by words is before it.
-    fn prepare(&mut self, alloc: Global, job: &Result<Job, Fault>, is_terminal: bool) -> Option<u16>
+    /// Says how long the run waits for locks, which database it holds alone, and how its progress is shown; and on the standard error where the
+    /// difference file of the database that it opens was lost. Answers what is known before it.
+    fn prepare(&mut self, alloc: Global, job: &Result<Job, Fault>, is_terminal: bool) -> Before
         ensures { self.new ≡ self.old };
 
     /// Gives the system what still waits to be written of files. A reply would have done so, and the end of the program doesn't.
@@ -58,8 +68,8 @@ pub trait Beside: Host {
 }
 
 /// Says how long a run waits for locks.
-fn set_patience<R: Files + Print + Eprint + Clock + Env + AllocGlobal + Drop>(
-    rt: &R,
+fn set_patience<R: Files + Print + Eprint + Clock + Drop, V: Eprint + Env + AllocGlobal>(
+    rt: &V,
     host: &mut FileHost<R>,
 )
 where
@@ -77,12 +87,12 @@ where
 }
 
 /// Says which database a run holds alone, and how its progress is shown.
-fn set_shown<R: Files + Print + Eprint + Clock + Env + AllocGlobal + Drop>(
+fn set_shown<R: Files + Print + Eprint + Clock + Drop, V: ReadOnly>(
     alloc: Global,
-    rt: &R,
+    rt: &V,
     host: &mut FileHost<R>,
     job: &Job,
-    is_terminal: bool,
+    manner: Option<Manner>,
 )
 where
     R::File: Disk + AsRawFd + FileExt,
@@ -91,10 +101,27 @@ where
     if let Some(db) = changed(alloc, rt, job) {
         host.hold_alone(db);
     }
-    if let Some(manner) = manner(wants_progress(rt), is_terminal) {
+    if let Some(manner) = manner {
         if let Ok(Some(progress)) = progress_of(alloc, job, manner) {
             host.show_progress(progress);
         }
+    }
+}
+
+/// Says that the difference file of the database which a job opens has lost its bytes.
+fn show_emptied<V: ReadOnly + Eprint>(alloc: Global, rt: &V, job: &Job) {
+    if let Some(db) = opened(alloc, rt, job) {
+        if let Some(began) = emptied(rt, &db) {
+            say(rt, nb_advice::emptied(alloc, &db, began).map(Some));
+        }
+    }
+}
+
+/// What is known before a run of that database, whose progress is shown so.
+fn known<V: ReadOnly>(files: &V, db: Option<&Name>, manner: Option<Manner>) -> Before {
+    Before {
+        state: db.and_then(|db| state_of(files, db)),
+        is_watched: manner.is_some(),
     }
 }
 
@@ -104,19 +131,16 @@ where
 {
     ghost waiting = { λ host. host.waiting };
 
-    fn prepare(
-        &mut self,
-        alloc: Global,
-        job: &Result<Job, Fault>,
-        is_terminal: bool,
-    ) -> Option<u16> {
-        let Ok(job) = job else {
-            return None;
-        };
+    fn prepare(&mut self, alloc: Global, job: &Result<Job, Fault>, is_terminal: bool) -> Before {
         let rt = self.runtime();
+        let manner = manner(wants_progress(&rt), is_terminal);
+        let Ok(job) = job else {
+            return known(&rt, None, manner);
+        };
         set_patience(&rt, self);
-        set_shown(alloc, &rt, self, job, is_terminal);
-        state_of(&rt, database_of(job)?)
+        set_shown(alloc, &rt, self, job, manner);
+        show_emptied(alloc, &rt, job);
+        known(&rt, database_of(job), manner)
     }
 
     fn write_rest(&mut self) -> Result<(), HostFault> {
@@ -132,6 +156,14 @@ where
     ) {
         self.end_progress();
         let rt = self.runtime();
-        explain(alloc, &rt, self, words, job.as_ref().ok(), end);
+        let job = job.as_ref().ok();
+        let told = Told {
+            said: self.last_said(),
+            is_held: match job.and_then(database_of) {
+                Some(db) => self.holds_alone(db),
+                None => true,
+            },
+        };
+        explain(alloc, &rt, words, job, end, &told);
     }
 }

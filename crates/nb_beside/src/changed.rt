@@ -5,12 +5,11 @@ ghost use Rattle.nb_model.specs.Words.{deed_database};
 ghost use Rattle.nb_beside.specs.Changed.{changed_by_words, database_in};
 
 use crate::look::look_at;
+use crate::reading::ReadOnly;
 use nb_host::Name;
 use nb_model::{Ask, Deed, Job, Statement};
 use nb_script::{MOST_BYTES, Script, parse};
 use std::alloc::Global;
-use std::os::unix::fs::FileExt;
-use std::rt::Files;
 
 /// The database that a generated script creates.
 const GENERATED: &str = "gen.db";
@@ -65,11 +64,8 @@ fn script_changes(script: &Script) -> bool {
 }
 
 /// The script of that name, where it can be read.
-pub fn script_in<R: Files>(alloc: Global, rt: &R, name: &Name) -> Option<Script>
-where
-    R::File: FileExt,
-{
-    let bytes = look_at(rt, name.as_str())?.bytes(alloc, MOST_BYTES as u64)?;
+pub fn script_in<V: ReadOnly>(alloc: Global, files: &V, name: &Name) -> Option<Script> {
+    let bytes = look_at(files, name.as_str())?.bytes(alloc, MOST_BYTES as u64)?;
     parse(alloc, &bytes).ok()
 }
 
@@ -119,12 +115,21 @@ fn changed_by_words(job: &Job) -> Option<Name>
 }
 
 /// The database that a job changes, and none where it only reads one. Where a script can't be read the run says why.
-pub fn changed<R: Files>(alloc: Global, rt: &R, job: &Job) -> Option<Name>
-where
-    R::File: FileExt,
-{
+pub fn changed<V: ReadOnly>(alloc: Global, files: &V, job: &Job) -> Option<Name> {
     match job {
-        Job::Run { script } => changed_by_script(&script_in(alloc, rt, script)?),
+        Job::Run { script } => changed_by_script(&script_in(alloc, files, script)?),
         _ => changed_by_words(job),
+    }
+}
+
+/// The database that a job opens, and none where it creates one or opens none. Where a script can't be read the run says why.
+pub fn opened<V: ReadOnly>(alloc: Global, files: &V, job: &Job) -> Option<Name> {
+    match job {
+        Job::Run { script } => match script_in(alloc, files, script)?.first() {
+            Statement::OpenDb { name, .. } => Some(name.copied()),
+            _ => None,
+        },
+        Job::Attach { db, .. } => Some(db.copied()),
+        Job::Gen { .. } | Job::Turn { .. } | Job::Plan { .. } => None,
     }
 }

@@ -1,61 +1,43 @@
 // A look at files beside the run, for what is said of them: it takes no lock, changes nothing, and says nothing of what fails.
-use nb_advice::{Levels, There, is_level_of};
+use crate::reading::{Found, ReadOnly};
+use nb_advice::{Cut, History, Origin, There, is_level_of};
 use nb_fields::MOST_PAGES;
 use nb_page::{Header, read_header};
 use std::alloc::Global;
-use std::fs::{self, File, Metadata};
-use std::os::unix::fs::FileExt;
-use std::rt::Files;
-use std::time::UNIX_EPOCH;
 
 /// The page at which the history of a database begins.
 const HISTORY: u32 = 4;
 
 /// A regular file that is looked at.
 #[derive(Drop)]
-pub struct Look<F: Drop> {
-    file: F,
-    /// In bytes.
-    pub length: u64,
-    /// When it was written last, in seconds since the start of 1970, as far as the system tells.
-    pub written: Option<u64>,
-}
-
-fn written(found: &Metadata) -> Option<u64> {
-    let at = found.modified().ok()?;
-    let since = at.duration_since(UNIX_EPOCH).ok()?;
-    Some(since.as_secs())
+pub struct Look<'a, V: ReadOnly> {
+    files: &'a V,
+    file: V::Opened,
+    pub found: Found,
 }
 
 /// Opens the file of that name to look at it, if there is one that can be read.
-pub fn look_at<R: Files>(rt: &R, name: &str) -> Option<Look<R::File>> {
-    let found = fs::symlink_metadata(rt, name).ok()?;
-    if !found.is_file() {
-        return None;
-    }
-    let file = File::open(rt, name).ok()?;
-    Some(Look {
-        file,
-        length: found.len(),
-        written: written(&found),
-    })
+pub fn look_at<'a, V: ReadOnly>(files: &'a V, name: &str) -> Option<Look<'a, V>> {
+    let found = files.find(name)?;
+    let file = files.open(name)?;
+    Some(Look { files, file, found })
 }
 
 /// Where a page begins, in bytes.
-fn place_of(number: u32, size: u32) -> u64 {
-    u64::from(number) * u64::from(size)
+fn place_of(number: u64, size: u32) -> u64 {
+    number.saturating_mul(u64::from(size))
 }
 
-impl<F: FileExt + Drop> Look<F> {
+impl<'a, V: ReadOnly> Look<'a, V> {
     /// Fills `into` from that place on. Where the file ends before, it answers false.
     fn read(&self, at: u64, into: &mut [u8]) -> bool {
-        self.file.read_exact_at(into, at).is_ok()
+        self.files.read(&self.file, at, into)
     }
 
     /// The first 64 bytes, with zeros after the end of the file.
     fn first(&self) -> Option<[u8; 64]> {
         let mut first = [0; 64];
-        let count = self.length.min(64) as usize;
+        let count = self.found.length.min(64) as usize;
         if self.read(0, &mut first[..count]) {
             Some(first)
         } else {
@@ -66,7 +48,7 @@ impl<F: FileExt + Drop> Look<F> {
     /// The last 8 bytes, and zeros where there are fewer.
     fn last(&self) -> Option<[u8; 8]> {
         let mut last = [0; 8];
-        match self.length.checked_sub(8) {
+        match self.found.length.checked_sub(8) {
             Some(at) if !self.read(at, &mut last) => None,
             _ => Some(last),
         }
@@ -75,7 +57,7 @@ impl<F: FileExt + Drop> Look<F> {
     /// What file it is.
     pub fn there(&self) -> There {
         match (self.first(), self.last()) {
-            (Some(first), Some(last)) => There::of(&first, self.length, &last),
+            (Some(first), Some(last)) => There::of(&first, self.found.length, &last),
             _ => There::Unknown,
         }
     }
@@ -88,6 +70,11 @@ impl<F: FileExt + Drop> Look<F> {
         }
     }
 
+    /// Which backup it goes on from, where it is a level file.
+    pub fn origin(&self) -> Option<Origin> {
+        Origin::of(&self.first()?)
+    }
+
     /// The header of a database.
     pub fn header(&self) -> Option<Header> {
         read_header(&self.first()?)
@@ -95,10 +82,10 @@ impl<F: FileExt + Drop> Look<F> {
 
     /// All its bytes, where it has so many at most.
     pub fn bytes(&self, alloc: Global, most: u64) -> Option<Vec<u8>> {
-        if self.length > most {
+        if self.found.length > most {
             return None;
         }
-        let mut bytes = vec![in alloc; 0; self.length as usize].ok()?;
+        let mut bytes = vec![in alloc; 0; self.found.length as usize].ok()?;
         if self.read(0, &mut bytes) {
             Some(bytes)
         } else {
@@ -106,21 +93,35 @@ impl<F: FileExt + Drop> Look<F> {
         }
     }
 
-    /// Which backups the history of a database in the normal state has.
-    pub fn levels(&self, alloc: Global) -> Option<Levels> {
+    /// What the history of a database in the normal state tells: which levels it has, and of the backup of that GUID all that it knows.
+    pub fn history(&self, alloc: Global, wanted: [u8; 16]) -> Option<History> {
         let size = self.header()?.page_size;
         let mut page = vec![in alloc; 0; size as usize].ok()?;
-        let mut levels = Levels::none();
+        let mut history = History::of(wanted);
         let mut number = HISTORY;
         for _ in 0..MOST_PAGES {
-            if !self.read(place_of(number, size), &mut page) {
+            if !self.read(place_of(u64::from(number), size), &mut page) {
                 return None;
             }
-            number = levels.add_page(&page)?;
+            number = history.add_page(&page)?;
             if number == 0 {
-                return Some(levels);
+                return Some(history);
             }
         }
         None
+    }
+
+    /// Where whole pages of a database end before a page that their inventory has taken, as a copy does that was cut off. It reads one
+    /// inventory page: the one that counts what follows the last page.
+    pub fn cut(&self, alloc: Global) -> Option<Cut> {
+        let size = self.header()?.page_size;
+        let pages = self.found.length.checked_div(u64::from(size))?;
+        let inventory = Cut::inventory(size, pages);
+        let mut page = vec![in alloc; 0; size as usize].ok()?;
+        if self.read(place_of(inventory, size), &mut page) {
+            Cut::of(&page, pages)
+        } else {
+            None
+        }
     }
 }

@@ -1,12 +1,15 @@
 // What is looked up for what is said after a run.
 use crate::look::look_at;
+use crate::reading::ReadOnly;
 use nb_advice::{Levels, Refused, Seen};
 use nb_host::{MOST_BASE_NAME, Name};
 use nb_model::{Deed, Job};
 use std::alloc::Global;
-use std::fs;
-use std::os::unix::fs::FileExt;
-use std::rt::Files;
+
+/// The backup states of a database beside which its difference file has pages: its main file is frozen, or is merged into.
+const STALLED: u16 = 1;
+
+const MERGING: u16 = 2;
 
 /// The database that a job by words names.
 pub fn database_of(job: &Job) -> Option<&Name> {
@@ -30,94 +33,102 @@ fn file_of(job: &Job) -> Option<&Name> {
 }
 
 /// The backup state that the header of a file tells.
-pub fn state_of<R: Files>(rt: &R, db: &Name) -> Option<u16>
-where
-    R::File: FileExt,
-{
-    let header = look_at(rt, db.as_str())?.header()?;
+pub fn state_of<V: ReadOnly>(files: &V, db: &Name) -> Option<u16> {
+    let header = look_at(files, db.as_str())?.header()?;
     Some(header.state)
 }
 
 /// Whether a difference file stands beside that name.
-fn has_delta<R: Files>(rt: &R, name: &Name) -> bool {
-    name.as_str().len() <= MOST_BASE_NAME && fs::exists(rt, name.delta().as_str()).unwrap_or(false)
+fn has_delta<V: ReadOnly>(files: &V, name: &Name) -> bool {
+    name.as_str().len() <= MOST_BASE_NAME && files.is_taken(name.delta().as_str())
+}
+
+/// The SCN of a database with a backup that isn't ended, and when that backup began, as long as its main file is frozen.
+fn under_backup<V: ReadOnly>(files: &V, db: &Name) -> Option<(u32, Option<u64>)> {
+    let found = look_at(files, db.as_str())?;
+    let header = found.header()?;
+    match header.state {
+        STALLED => Some((header.scn, found.found.written)),
+        MERGING => Some((header.scn, None)),
+        _ => None,
+    }
+}
+
+/// When a backup began whose difference file has no byte now, as far as that is known, though the begin had made a page of it durable. None where
+/// all is well. Where another program ended a backup and began the next one meanwhile, the SCN has risen.
+pub fn emptied<V: ReadOnly>(files: &V, db: &Name) -> Option<Option<u64>> {
+    if db.as_str().len() > MOST_BASE_NAME {
+        return None;
+    }
+    let (scn, began) = under_backup(files, db)?;
+    if files.find(db.delta().as_str())?.length > 0 {
+        return None;
+    }
+    let (again, _) = under_backup(files, db)?;
+    if again == scn { Some(began) } else { None }
 }
 
 /// What stands of the files of a job by words.
-pub fn seen<R: Files>(rt: &R, job: &Job) -> Seen
-where
-    R::File: FileExt,
-{
+pub fn seen<V: ReadOnly>(files: &V, job: &Job) -> Seen {
     let mut seen = Seen::nothing();
     if let Some(db) = database_of(job) {
-        see_database(rt, db, &mut seen);
+        see_database(files, db, &mut seen);
     }
     if let Some(file) = file_of(job) {
-        see_file(rt, file, &mut seen);
+        see_file(files, file, &mut seen);
     }
     seen
 }
 
-fn see_database<R: Files>(rt: &R, db: &Name, seen: &mut Seen)
-where
-    R::File: FileExt,
-{
-    if let Some(found) = look_at(rt, db.as_str()) {
+fn see_database<V: ReadOnly>(files: &V, db: &Name, seen: &mut Seen) {
+    if let Some(found) = look_at(files, db.as_str()) {
         if let Some(header) = found.header() {
             seen.state = Some(header.state);
             seen.pending = Some(header.pending);
-            seen.written = found.written;
+            seen.written = found.found.written;
         }
     }
 }
 
-fn see_file<R: Files>(rt: &R, file: &Name, seen: &mut Seen)
-where
-    R::File: FileExt,
-{
-    seen.has_delta = has_delta(rt, file);
-    if let Some(found) = look_at(rt, file.as_str()) {
+fn see_file<V: ReadOnly>(files: &V, file: &Name, seen: &mut Seen) {
+    seen.has_delta = has_delta(files, file);
+    if let Some(found) = look_at(files, file.as_str()) {
         seen.there = found.there();
     }
 }
 
-/// The same, and what the refusal of the job asks for besides: which backups there are to go on from, and how long its file is.
-pub fn seen_of<R: Files>(alloc: Global, rt: &R, job: &Job, refused: &Refused<'_>) -> Seen
-where
-    R::File: FileExt,
-{
-    let mut seen = seen(rt, job);
+/// The same, and what the refusal of the job asks for besides: which backups there are to go on from, and what the file is that it names.
+pub fn seen_of<V: ReadOnly>(alloc: Global, files: &V, job: &Job, refused: &Refused<'_>) -> Seen {
+    let mut seen = seen(files, job);
     match refused.name {
-        "NoHistory" | "NoGuid" => seen.levels = levels_of(alloc, rt, database_of(job)),
-        "BadLevel" => seen.length = length_of(rt, refused.values[0]),
-        "ChainGuid" => seen.is_merged = is_merged(rt, job).unwrap_or(false),
+        "NoHistory" | "NoGuid" => seen.levels = levels_of(alloc, files, database_of(job)),
+        "BadLevel" => see_named(files, refused.values[0], &mut seen),
+        "ChainGuid" => seen.is_merged = is_merged(files, job).unwrap_or(false),
         _ => {}
     }
     seen
 }
 
-fn levels_of<R: Files>(alloc: Global, rt: &R, db: Option<&Name>) -> Option<Levels>
-where
-    R::File: FileExt,
-{
-    look_at(rt, db?.as_str())?.levels(alloc)
+fn levels_of<V: ReadOnly>(alloc: Global, files: &V, db: Option<&Name>) -> Option<Levels> {
+    let history = look_at(files, db?.as_str())?.history(alloc, [0; 16])?;
+    Some(history.levels)
 }
 
 /// Whether the level file of a merge is the one that its standby is of.
-fn is_merged<R: Files>(rt: &R, job: &Job) -> Option<bool>
-where
-    R::File: FileExt,
-{
+fn is_merged<V: ReadOnly>(files: &V, job: &Job) -> Option<bool> {
     let Job::Turn {
         deed: Deed::Apply { db, file },
     } = job
     else {
         return None;
     };
-    let standby = look_at(rt, db.as_str())?.header()?;
-    Some(look_at(rt, file.as_str())?.is_level_of(&standby))
+    let standby = look_at(files, db.as_str())?.header()?;
+    Some(look_at(files, file.as_str())?.is_level_of(&standby))
 }
 
-fn length_of<R: Files>(rt: &R, name: &str) -> Option<u64> {
-    Some(look_at(rt, name)?.length)
+fn see_named<V: ReadOnly>(files: &V, name: &str, seen: &mut Seen) {
+    if let Some(found) = look_at(files, name) {
+        seen.named = found.there();
+        seen.length = Some(found.found.length);
+    }
 }
