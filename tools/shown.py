@@ -2,15 +2,15 @@
 """Runs the commands that docs/MANUAL.md shows, and compares what they answer: tools/shown.py PROGRAM.
 
 An indented block that begins with `$ ` is a session: each such line is a command (with its here-document), and the lines after it are what it
-answers on both outputs. All of them are run in order, in one new folder, with PROGRAM on the PATH as nehumiro, and examples/ too. GUIDs, digests,
-times, numbers of processes and sizes of programs differ from run to run, so they count as equal. `--fill` writes the answers into the manual instead.
+answers on both outputs. All of them are run in order, in one new folder, with PROGRAM on the PATH as nehumiro, beside examples/. GUIDs, digests,
+times and numbers of processes differ from run to run, and progress comes where a run takes long: none of them counts. `--fill` writes the answers into the manual instead.
 """
 import os, re, shutil, subprocess, sys, tempfile
 
 TOP = os.path.dirname(os.path.dirname(os.path.abspath(__file__)))
 MANUAL = os.path.join(TOP, "docs", "MANUAL.md")
 DIFFERS = [(r"[0-9a-f]{8}(-[0-9a-f]{4}){3}-[0-9a-f]{12}", "GUID"), (r"\b[0-9a-f]{64}\b", "DIGEST"), (r"process \d+", "process N"),
-           (r"\d{4}-\d\d-\d\d \d\d:\d\d:\d\d UTC", "TIME"), (r"\d{4}-\d\d-\d\d", "DAY")]
+           (r"\d{4}-\d\d-\d\d \d\d:\d\d:\d\d UTC", "TIME"), (r"\d{4}-\d\d-\d\d", "DAY"), (r"backup_seconds \d+", "backup_seconds N"), (r"(?m)^nehumiro: \S+: \d+ MiB\n?", "")]
 
 
 def sessions(lines):
@@ -48,7 +48,8 @@ def main():
     os.symlink(program, os.path.join(folder, "bin", "nehumiro"))
     work = os.path.join(folder, "work")
     os.mkdir(work)
-    path = ":".join([os.path.join(folder, "bin"), os.path.join(TOP, "examples"), os.environ["PATH"]])
+    os.symlink(os.path.join(TOP, "examples"), os.path.join(work, "examples"))
+    path = os.path.join(folder, "bin") + ":" + os.environ["PATH"]
     filled, last, wrong, count = [], 0, 0, 0
     for indent, begin, end, answered in sessions(lines):
         command = "\n".join(line[len(indent):] for line in lines[begin:end])[2:]
