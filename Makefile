@@ -23,7 +23,7 @@ wrong:
 clean:
 	rm -rf bin crates/*/out
 
-# `make install` puts the program, its manual pages and the examples under PREFIX, in the folder DESTDIR where a package is made.
+# `make install` puts the program that `make` left, its manual pages and the examples under PREFIX, in the folder DESTDIR where a package is made.
 # `make docs` compares the manual pages with docs/REFERENCE.md, and runs what docs/MANUAL.md shows; `make pages` makes the pages anew.
 
 PREFIX ?= /usr/local
@@ -32,7 +32,8 @@ SHARE := $(ROOT)/share
 
 .PHONY: install docs pages
 
-install: $(PROGRAM)
+install:
+	@test -x $(PROGRAM) || { echo 'there is no $(PROGRAM): run make first' >&2; exit 1; }
 	install -D -m 755 $(PROGRAM) $(ROOT)/bin/nehumiro
 	install -D -m 644 -t $(SHARE)/man/man1 docs/man/nehumiro.1
 	install -D -m 644 -t $(SHARE)/man/man5 docs/man/nehumiro.5
@@ -41,7 +42,7 @@ install: $(PROGRAM)
 	cp examples/* $(SHARE)/doc/nehumiro/examples/
 	chmod -R a+rX $(SHARE)/doc/nehumiro/examples
 
-docs: $(PROGRAM)
+docs:
 	tools/pages.py --check
 	! LC_ALL=C.UTF-8 man --warnings -l docs/man/nehumiro.1 docs/man/nehumiro.5 2>&1 >/dev/null | grep .
 	tools/shown.py $(PROGRAM)
