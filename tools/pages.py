@@ -42,9 +42,10 @@ def sections(lines):
 
 
 def row(line, heads):
-    """A row of a table: its first cell is the term, and the others follow it, with their headings where there are three."""
+    """A row of a table: its first cell is the term, and the others follow it; where there are three, with headings, but for 'What it does'."""
     cells = [cell.strip() for cell in line.strip("|").split(" | ")]
-    told = [text(cells[1])] + [text(f"{head}: {cell}") for head, cell in zip(heads[2:], cells[2:])]
+    named = len(cells) > 2
+    told = [text(f"{head}: {cell}" if named and not head.startswith("What") else cell) for head, cell in zip(heads[1:], cells[1:])]
     return [".TP", text(cells[0]), "\n.br\n".join(told)]
 
 
