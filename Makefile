@@ -30,3 +30,30 @@ bench:
 
 clean:
 	rm -rf bin crates/*/out
+
+# `make install` puts the program that `make` left, its manual pages and the examples under PREFIX, in the folder DESTDIR where a package is made.
+# `make docs` compares the manual pages with docs/REFERENCE.md, and runs what docs/MANUAL.md shows; `make pages` makes the pages anew.
+
+PREFIX ?= /usr/local
+ROOT := $(DESTDIR)$(PREFIX)
+SHARE := $(ROOT)/share
+
+.PHONY: install docs pages
+
+install:
+	@test -x $(PROGRAM) || { echo 'there is no $(PROGRAM): run make first' >&2; exit 1; }
+	install -D -m 755 $(PROGRAM) $(ROOT)/bin/nehumiro
+	install -D -m 644 -t $(SHARE)/man/man1 docs/man/nehumiro.1
+	install -D -m 644 -t $(SHARE)/man/man5 docs/man/nehumiro.5
+	install -D -m 644 -t $(SHARE)/doc/nehumiro $(wildcard LICENSE) docs/MANUAL.md docs/REFERENCE.md docs/FORMATS.md
+	install -d $(SHARE)/doc/nehumiro/examples
+	cp examples/* $(SHARE)/doc/nehumiro/examples/
+	chmod -R a+rX $(SHARE)/doc/nehumiro/examples
+
+docs:
+	tools/pages.py --check
+	! LC_ALL=C.UTF-8 man --warnings -l docs/man/nehumiro.1 docs/man/nehumiro.5 2>&1 >/dev/null | grep .
+	tools/shown.py $(PROGRAM)
+
+pages:
+	tools/pages.py
