@@ -89,7 +89,11 @@ fn line_at(bytes: &[u8], number: u32) -> Option<(&[u8], u32)> {
     for line in bytes.split(|byte| *byte == b'\n') {
         passed = passed.saturating_add(1);
         if passed == number {
-            return if line.is_empty() { None } else { Some((line, before)) };
+            return if line.is_empty() {
+                None
+            } else {
+                Some((line, before))
+            };
         }
         if !is_skipped(line) {
             before = before.saturating_add(1);
