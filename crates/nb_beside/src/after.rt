@@ -38,7 +38,8 @@ usage: nehumiro run SCRIPT          runs the statements of a script
 pub struct Told<'a> {
     /// The bytes that were said last.
     pub said: &'a [u8],
-    /// Whether the run had the job's database alone. Where another program has it, what stands of it is none of this run's.
+    /// Whether the run had the job's own file alone: its database, or the file that it makes. Where another program has that, what stands of it is none
+    /// of this run's.
     pub is_held: bool,
 }
 
@@ -132,7 +133,7 @@ fn show_advice<V: ReadOnly + Eprint>(alloc: Global, rt: &V, job: &Job, reply: &[
     }
 }
 
-/// What stands of a job by words that ended early, where its database was in that backup state before.
+/// What stands of a job by words that ended early, where its database was in that backup state before. Nothing is said of another program's file.
 fn show_standing<V: ReadOnly + Eprint>(
     alloc: Global,
     rt: &V,

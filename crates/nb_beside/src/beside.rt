@@ -8,7 +8,7 @@ use crate::after::{Told, explain, say};
 use crate::changed::{changed, opened};
 use crate::progress::{manner, progress_of};
 use crate::reading::ReadOnly;
-use crate::seeing::{database_of, emptied, state_of};
+use crate::seeing::{database_of, emptied, own_file, state_of};
 use crate::settings::{patience, wants_progress};
 use nb_ended::{Broken, Status};
 use nb_file::{Disk, FileHost, Manner};
@@ -159,8 +159,8 @@ where
         let job = job.as_ref().ok();
         let told = Told {
             said: self.last_said(),
-            is_held: match job.and_then(database_of) {
-                Some(db) => self.holds_alone(db),
+            is_held: match job.and_then(own_file) {
+                Some(file) => self.holds_alone(file),
                 None => true,
             },
         };

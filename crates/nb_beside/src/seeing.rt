@@ -20,6 +20,15 @@ pub fn database_of(job: &Job) -> Option<&Name> {
     }
 }
 
+/// The file that a job by words has alone, if it came so far: its database, or the file that a fold makes.
+pub fn own_file(job: &Job) -> Option<&Name> {
+    match job {
+        Job::Attach { db, .. } => Some(db),
+        Job::Turn { deed } => deed.file(),
+        Job::Run { .. } | Job::Gen { .. } | Job::Plan { .. } => None,
+    }
+}
+
 /// The file that a job by words makes, or else its database.
 fn file_of(job: &Job) -> Option<&Name> {
     match job {
