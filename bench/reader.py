@@ -1,6 +1,6 @@
 """A plain reader of a database: what each statement answers, and what it leaves in the files.
 
-It says what `docs/MANUAL.md` and `docs/FORMATS.md` do, of any files whatever stands in them, and knows nothing of the program. A statement is done
+It says what `docs/REFERENCE.md` and `docs/FORMATS.md` do, of any files whatever stands in them, and knows nothing of the program. A statement is done
 on a copy of the files, as it would be on a sound database. Each page on its way that isn't of its kind is noted and passed. Where something was
 noted, the lowest page is the refusal, and the copy is thrown away.
 """
