@@ -315,6 +315,10 @@ def restored(place):
     if status or not os.path.exists(place.backup()[0]):
         yield f"status {status}, and it says {sent!r}"
     yield from place.wrong()
+    # The SCNs of the backups before it are above the new ones for a while, and until then nothing is removed. Here they go elsewhere.
+    for name in place.names():
+        if not name.startswith(place.today()):
+            os.remove(os.path.join(place.backups, name))
 
 
 def two_at_once(place):

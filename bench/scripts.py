@@ -4,6 +4,7 @@ A backup that is stopped by a signal, at moments from its start to its end, leav
 status of a shell; a lock that was there before stays. The lines of watch are right in each state.
 """
 
+import contextlib
 import os
 import random
 import signal
@@ -62,8 +63,9 @@ def stopped(place):
         while stop % 4 and running.poll() is None and time.monotonic() < until:
             time.sleep(0.002)
         met.add(place.state())
-        # A terminal sends Ctrl-C to all of its processes.
-        (os.killpg if sent == signal.SIGINT else os.kill)(running.pid, sent)
+        # It may have ended before. A terminal sends Ctrl-C to all of its processes.
+        with contextlib.suppress(ProcessLookupError):
+            (os.killpg if sent == signal.SIGINT else os.kill)(running.pid, sent)
         status, said, text = ended(running)
         if status not in (128 + sent, 0) or (status == 0) != (" ok " in said):
             yield f"{sent.name}: status {status}, {said!r}, {text!r}"

@@ -226,7 +226,7 @@ def falls_back(place, bad, why):
 
 def damaged_level(place):
     """The last level file is cut short: a chain of the week falls back, the others don't need it. Nothing is removed while it is there."""
-    yield from place.nights(7)
+    yield from place.nights(5)
     bad = place.names()[-1]
     os.truncate(place.path_of(bad), 2000)
     status, sent = place.tonight()
@@ -282,11 +282,12 @@ def no_sunday(place):
 
 
 def restored(place):
-    """The database is restored from its last chain: its history lacks that, so a level 0 is made, and nothing is removed while SCNs and dates disagree."""
-    yield from place.nights(7)
-    files = place.noted[place.names()[-1]][0]
+    """The database is restored: its history lacks the backup that it comes from, so a level 0 is made, and nothing is removed while SCNs and dates disagree."""
+    yield from place.nights(5)
+    # What is restored has the rows of the backups before the last one: where each night goes on from the level 0, that has to be the last.
+    last = [name for name in place.names() if place.chain == "week" or name.endswith(".0")][-1]
     os.remove(place.file("a.db"))
-    place.words("-R", "a.db", *[f"backups/{file}" for file in files])
+    place.words("-R", "a.db", *[f"backups/{file}" for file in place.noted[last][0]])
     status, sent = place.tonight()
     if not os.path.exists(place.backup()[0]) or "lacks" not in sent:
         yield f"the next night ends with {status}: {sent!r}"
