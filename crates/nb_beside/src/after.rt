@@ -31,6 +31,8 @@ usage: nehumiro run SCRIPT          runs the statements of a script
        nehumiro fold OUT FILE..     makes one new level file of 2 to 9 consecutive ones, the lowest level first
        nehumiro plan K LIST         says which of the backup files that a list names the last K restore points need
        nehumiro gen N SCRIPT        writes the script of the number N to a new file, and runs it: for trials
+Ctrl-C or a signal ends the program at once, and a database that it was backing up stays locked until -N: examples/backup is a script
+that unlocks it then, and examples/nightly one for cron.
 ";
 
 /// What the host tells of a run that is over.
