@@ -371,7 +371,7 @@ def shortages(path):
 
 
 def unread(path):
-    """What is said where nobody reads the output any more, as behind `head`."""
+    """What is said where nobody reads the output any more, as after `head`."""
     with Folder() as folder:
         create(folder, path)
         reader, writer = os.pipe()

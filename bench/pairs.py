@@ -61,7 +61,7 @@ def ended(running):
 
 
 def held_up(name):
-    """What holds a job up behind the look at a name: the look at the difference file beside it comes next."""
+    """What holds a job up after the look at a name: the look at the difference file beside it comes next."""
     return ["strace", "-f", "-qq", "-o", "/dev/null", "-P", f"{name}.delta", "-e", "trace=statx", "-e", f"inject=statx:delay_exit={DELAY}:when=1"]
 
 
