@@ -74,7 +74,7 @@ pub accepted_none : (files : Files) (first : Tip) (all : List (List ℕ)) (marks
 accepted_none files first all marks reads = record { links = []; so_far = sym (linked_none (next_links files 1 (tip_link first) all)); next = refl; marks = sym (noted_none marks); reads = omega arith }
 
 -- the first of the names that are left
-left_from : {X : Type 0} (xs : List X) (k : ℕ) (x : X) → k < length xs → x ≡ get_or xs k x → drop k xs ≡ x ∷ drop (k + 1) xs
+pub left_from : {X : Type 0} (xs : List X) (k : ℕ) (x : X) → k < length xs → x ≡ get_or xs k x → drop k xs ≡ x ∷ drop (k + 1) xs
 left_from xs k x h is = drop-cons xs k x h ∙ ap (λ y. y ∷ drop (suc k) xs) (sym is) ∙ ap (λ (n : ℕ). x ∷ drop n xs) (let e : suc k ≡ k + 1 = omega arith in e)
 
 pub accepted_at : (files : Files) (first : Tip) (all : List (List ℕ)) (k : ℕ) (last : Tip) (names : List (List ℕ)) (name : List ℕ) (old new : List Mark) (before after : ℕ) → k < length names → name ≡ get_or names k name

@@ -3,3 +3,4 @@ pub mod First
 pub mod Level
 pub mod Next
 pub mod Overlay
+pub mod Most

@@ -1,9 +1,10 @@
-ghost use Rattle.std.specs.Prelude.{◌≡◌, ◌≤◌, length, drop, IsTrue, IfOk};
+ghost use Rattle.std.specs.Prelude.{◌≡◌, ◌+◌, ◌≤◌, length, drop, IsTrue, IfOk};
 ghost use Rattle.nb_fields.specs.Places.{is_page_size, most_pages};
 ghost use Rattle.nb_page.specs.Header.{HasForm};
 ghost use Rattle.nb_page.specs.Quiet.{Quiet};
 ghost use Rattle.nb_host.specs.Causes.{CountsDevice};
 ghost use Rattle.nb_chain.specs.Chain.{CheckSays, IsFirstOf};
+ghost use Rattle.nb_chain.specs.Most.{RefusedReads, chain_most, levels_most};
 ghost use Rattle.nb_chain.specs.Next.{LevelsSay, tip_link, header_link};
 
 use crate::last_page::count_pages;
@@ -61,6 +62,7 @@ fn read_levels<H: Host>(
     requires size { IsTrue (is_page_size first.page_size) }
     ensures answer { IsTrue H.tells
         → LevelsSay (H.world host.old).files first (drop 1 files.now) overlay.old overlay.new (H.world host.old).reads (H.world host.new).reads result }
+    ensures within { IsTrue H.tells → (H.world host.new).reads ≤ (H.world host.old).reads + levels_most (H.world host.old).files (drop 1 files.now) }
     ensures size { IfOk result (λ tip. IsTrue (is_page_size tip.page_size)) }
     ensures quiet { Quiet (H.world host.old) (H.world host.new) }
     ensures cause { CountsDevice result (H.faults host.old) (H.faults host.new) }
@@ -87,6 +89,7 @@ pub fn check<H: Host>(alloc: Global, host: &mut H, files: &[Name]) -> Result<Cha
     requires few { length files.now ≤ 10 }
     ensures answer { IsTrue H.tells
         → CheckSays (H.world host.old).files files.now (H.world host.old).reads (H.world host.new).reads result }
+    ensures refused { IsTrue H.tells → RefusedReads result (H.world host.old).reads (chain_most (H.world host.old).files files.now) (H.world host.new).reads }
     ensures size { IfOk result (λ chain. IsTrue (is_page_size chain.page_size)) }
     ensures most { IfOk result (λ chain. chain.count ≤ most_pages) }
     ensures first { IsTrue H.tells → IfOk result (λ chain. IsFirstOf (H.world host.old).files files.now chain.first) }

@@ -7,6 +7,7 @@ ghost use Rattle.nb_model.specs.Restoring.{not_whole};
 ghost use Rattle.nb_host.specs.Causes.{CountsDevice};
 ghost use Rattle.nb_model.specs.Causes.{TestedAlone};
 ghost use Rattle.nb_chain.specs.First.{FirstSays, IsRefused, is_bad_count};
+ghost use Rattle.nb_chain.specs.Most.{first_most, level_most};
 
 use crate::start::read_start;
 use crate::whole;
@@ -81,6 +82,7 @@ fn whole_pages(name: &Name, first: &[u8], len: u64) -> Result<First, Fault>
 /// Refuses a level file in the place of the first file of a chain: `BadLevel`, or `ChainLevel` where it is whole.
 fn refuse_level<H: Host>(alloc: Global, host: &mut H, name: &Name) -> Result<First, Fault>
     ensures answer { IsTrue H.tells → (bytes : List ℕ) → (H.world host.old).files name.now ≡ Some bytes → begins_level bytes ≡ true → IsRefused name.now bytes result }
+    ensures within { IsTrue H.tells → (H.world host.new).reads ≤ (H.world host.old).reads + level_most ((H.world host.old).files name.now) }
     ensures quiet { Quiet (H.world host.old) (H.world host.new) }
     ensures cause { CountsDevice result (H.faults host.old) (H.faults host.new) }
     ensures none { IfOk result (λ file. ⊥) }
@@ -97,7 +99,8 @@ fn refuse_level<H: Host>(alloc: Global, host: &mut H, name: &Name) -> Result<Fir
 ///
 /// The refusals are `NoFile`; for a file that begins as a level file `BadLevel`, with its first broken place, or
 /// `ChainLevel`; and for any other `BadLevel`, at 0 where it doesn't begin with a header, at 22 where its state isn't 1, and
-/// at its length where that isn't 5 to 1,048,576 whole pages. Of whole pages it reads the first 64 bytes alone.
+/// at its length where that isn't 5 to 1,048,576 whole pages. Of whole pages it reads the first 64 bytes alone, whatever
+/// it answers, and a level file once.
 pub fn read_first<H: Host>(alloc: Global, host: &mut H, name: &Name) -> Result<First, Fault>
     ensures answer { IsTrue H.tells → FirstSays ((H.world host.old).files name.now) name.now result }
     ensures form { IfOk result (λ file. HasForm file.header) }
@@ -105,6 +108,7 @@ pub fn read_first<H: Host>(alloc: Global, host: &mut H, name: &Name) -> Result<F
     ensures most { IfOk result (λ file. file.pages ≤ most_pages) }
     ensures quiet { Quiet (H.world host.old) (H.world host.new) }
     ensures reads { IsTrue H.tells → IfOk result (λ file. (H.world host.new).reads ≤ (H.world host.old).reads + 1) }
+    ensures within { IsTrue H.tells → (H.world host.new).reads ≤ (H.world host.old).reads + first_most ((H.world host.old).files name.now) }
     ensures cause { CountsDevice result (H.faults host.old) (H.faults host.new) }
 {
     let mut first = [0; header::LENGTH];

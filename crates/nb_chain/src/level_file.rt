@@ -1,8 +1,10 @@
-ghost use Rattle.std.specs.Prelude.{◌≡◌, length, IsTrue, IfOk};
+ghost use Rattle.std.specs.Prelude.{◌≡◌, ◌+◌, ◌≤◌, length, IsTrue, IfOk};
 ghost use Rattle.nb_fields.specs.Places.{is_page_size};
 ghost use Rattle.nb_page.specs.Quiet.{Quiet};
 ghost use Rattle.nb_host.specs.Causes.{CountsDevice};
+ghost use Rattle.nb_host.specs.Files.{bytes_of};
 ghost use Rattle.nb_chain.specs.Level.{EndSays, PagesSay, LevelSays, WholeSays};
+ghost use Rattle.nb_chain.specs.Most.{ReadsRoom, level_most};
 
 use crate::overlay::Overlay;
 use nb_host::{Fault, Host, Name};
@@ -19,6 +21,7 @@ fn read_pages<H: Host>(
     requires { length page.old ≡ reader.old.head.page_size }
     ensures answer { IsTrue H.tells
         → PagesSay ((H.world host.old).files reader.old.name) reader.old overlay.old overlay.new (H.world host.old).reads (H.world host.new).reads result }
+    ensures within { IsTrue H.tells → ReadsRoom (bytes_of ((H.world host.old).files reader.old.name)) reader.old (H.world host.old).reads (H.world host.new).reads }
     ensures quiet { Quiet (H.world host.old) (H.world host.new) }
     ensures cause { CountsDevice result (H.faults host.old) (H.faults host.new) }
 {
@@ -37,6 +40,7 @@ pub(crate) fn read_level<H: Host>(
 ) -> Result<LevelHead, Fault>
     ensures answer { IsTrue H.tells
         → LevelSays ((H.world host.old).files name.now) name.now overlay.old overlay.new (H.world host.old).reads (H.world host.new).reads result }
+    ensures within { IsTrue H.tells → (H.world host.new).reads ≤ (H.world host.old).reads + level_most ((H.world host.old).files name.now) }
     ensures size { IfOk result (λ head. IsTrue (is_page_size head.page_size)) }
     ensures quiet { Quiet (H.world host.old) (H.world host.new) }
     ensures cause { CountsDevice result (H.faults host.old) (H.faults host.new) }
@@ -57,6 +61,7 @@ fn read_to_end<H: Host>(
     requires { length page.old ≡ reader.old.head.page_size }
     ensures answer { IsTrue H.tells
         → EndSays ((H.world host.old).files reader.old.name) reader.old (H.world host.old).reads (H.world host.new).reads result }
+    ensures within { IsTrue H.tells → ReadsRoom (bytes_of ((H.world host.old).files reader.old.name)) reader.old (H.world host.old).reads (H.world host.new).reads }
     ensures quiet { Quiet (H.world host.old) (H.world host.new) }
     ensures cause { CountsDevice result (H.faults host.old) (H.faults host.new) }
 {
@@ -71,6 +76,7 @@ fn read_to_end<H: Host>(
 pub fn whole<H: Host>(alloc: Global, host: &mut H, file: &Name) -> Result<LevelHead, Fault>
     ensures answer { IsTrue H.tells
         → WholeSays ((H.world host.old).files file.now) file.now (H.world host.old).reads (H.world host.new).reads result }
+    ensures within { IsTrue H.tells → (H.world host.new).reads ≤ (H.world host.old).reads + level_most ((H.world host.old).files file.now) }
     ensures size { IfOk result (λ head. IsTrue (is_page_size head.page_size)) }
     ensures quiet { Quiet (H.world host.old) (H.world host.new) }
     ensures cause { CountsDevice result (H.faults host.old) (H.faults host.new) }

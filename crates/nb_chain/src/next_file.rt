@@ -1,4 +1,4 @@
-ghost use Rattle.std.specs.Prelude.{◌≡◌, ◌≤◌, IsTrue, true, false, length, ℕ, ◌==◌, IfOk, OnOk};
+ghost use Rattle.std.specs.Prelude.{◌≡◌, ◌+◌, ◌≤◌, IsTrue, true, false, length, ℕ, ◌==◌, IfOk, OnOk};
 ghost use Rattle.nb_fields.specs.Bytes.{number_in};
 ghost use Rattle.nb_fields.specs.Header.{signature};
 ghost use Rattle.nb_fields.specs.Places.{is_page_size};
@@ -10,6 +10,7 @@ ghost use Rattle.nb_model.specs.Restoring.{not_behind};
 ghost use Rattle.nb_host.specs.Causes.{CountsDevice};
 ghost use Rattle.nb_level.specs.Heads.{head_of};
 ghost use Rattle.nb_model.specs.Causes.{TestedAlone};
+ghost use Rattle.nb_chain.specs.Most.{level_most};
 ghost use Rattle.nb_chain.specs.Next.{NextSays, tip_link};
 
 use crate::level_file::read_level;
@@ -101,6 +102,7 @@ pub(crate) fn read_next<H: Host>(
 ) -> Result<Tip, Fault>
     ensures answer { IsTrue H.tells
         → NextSays ((H.world host.old).files name.now) place last.now name.now overlay.old overlay.new (H.world host.old).reads (H.world host.new).reads result }
+    ensures within { IsTrue H.tells → (H.world host.new).reads ≤ (H.world host.old).reads + (1 + level_most ((H.world host.old).files name.now)) }
     ensures size { IfOk result (λ tip. IsTrue (is_page_size tip.page_size)) }
     ensures quiet { Quiet (H.world host.old) (H.world host.new) }
     ensures cause { CountsDevice result (H.faults host.old) (H.faults host.new) }

@@ -1,9 +1,8 @@
 -- What a merge changes and leaves, from the tests on.
-use Rattle.std.proofs.Common.{◌/◌, take, ◌≡◌, ◌≢◌, ◌⊎◌, inl, inr, ⊎_elim, ℕ, ◌*◌, ◌<◌, ◌≤◌, List, [], ◌∷◌, ◌++◌, length, refl, sym, ap, subst, ◌∙◌, arith, true, Some, None, Result, Ok, Err, Contains}
-use Rattle.nb_inplace.proofs.Common.{mul-div_cancel, eqb-true, take-append-le, is_header, state_of, size_of, size_facts, File, Files, bytes_of, World, Leaves, LeavesAll, IsDurable, Fault, Refused, Device, Memory, Refusal, Changes, Only, NoNames, Remade, GaveNothing, rested, kept_then, nothing_joined, header_in, Header, Quiet, Page, Image, Numbered, first_page, image_size, image_in, trimmed, overwritten, in_place, Head, Contents, joined, read_level, HoldsMain, delta_name, main_page, IsOfSize, as_standby, merged, formed, no_cause, header-long, header-other, same-header, same-number, trimmed-append_zeros, trimmed-other, length-joined, IsLaid, laid, image_in-is, owner_main, header_no_level, trimmed_alike, trimmed_page, Reading, still_to_come, level-headed, Standby, IsFitFor, AcceptSays, base_with, IsHalfIn, ApplyLeft, ApplyAnswers, Applies, applying_page, IsBetween, IsHalf, IsTaken, IsHalfFile, merged_pages, IsHalfOr, KeepsMerged, IsPlan, ReadySays, IsWholeStandby, stamp_cause, IsMergeable, level_pages, some_same, err_not_ok}
+use Rattle.std.proofs.Common.{◌/◌, take, ◌≡◌, ◌≢◌, ◌⊎◌, inl, inr, ⊎_elim, ℕ, mul-le-mul_left, ◌*◌, ◌<◌, ◌≤◌, List, [], ◌∷◌, ◌++◌, length, refl, sym, ap, subst, ◌∙◌, arith, true, Some, None, Result, Ok, Err, Contains}
+use Rattle.nb_inplace.proofs.Common.{mul-div_cancel, eqb-true, take-append-le, is_header, state_of, size_of, size_facts, File, Files, bytes_of, World, Leaves, LeavesAll, IsDurable, Fault, Refused, Device, Memory, Refusal, Changes, Only, NoNames, Remade, GaveNothing, rested, kept_then, nothing_joined, header_in, Header, Quiet, Page, Image, Numbered, first_page, image_size, cut, image_in, trimmed, overwritten, in_place, Head, Contents, joined, read_level, HoldsMain, delta_name, main_page, IsOfSize, as_standby, merged, formed, no_cause, header-long, header-other, same-header, same-number, trimmed-append_zeros, trimmed-other, cut-joined, length-joined, IsLaid, laid, image_in-is, owner_main, header_no_level, trimmed_alike, trimmed_page, Reading, still_to_come, level-headed, Standby, IsFitFor, AcceptSays, pages_of, IsHalfIn, IsMergedTo, ApplyLeft, ApplyAnswers, Applies, applying_page, IsBetween, IsHalf, IsTaken, IsHalfFile, merged_pages, IsHalfOr, IsMergedFile, KeepsMerged, IsPlan, ReadySays, IsWholeStandby, stamp_cause, IsMergeable, level_pages, some_same, err_not_ok}
 use Rattle.nb_change.proofs.MomentLaws.{left_before}
 use Rattle.nb_change.proofs.SettledLaws.{durable_is}
-use Rattle.nb_model.specs.Trail.{ShowsIn}
 use Rattle.nb_restore.specs.Sources.{AreHeaded}
 use Rattle.nb_inplace.proofs.AcceptLaws.{head_clears}
 use Rattle.nb_inplace.proofs.ControlLaws.{applying-size, applying-header}
@@ -201,12 +200,22 @@ module _ (old : World) (standby name : List ℕ) (s : Standby) (reader : Reading
         ap (λ (n : ℕ). as_standby (trimmed (overwritten n c.pages image))) image_sized
         ∙ ap as_standby (trimmed_alike size (overwritten size c.pages image) (overwritten size c.pages pages) (λ p. over_alike size c.pages pages image p (inl (seen p))))
 
-    shows : (now : Files) → HoldsMain (merged_pages size c.pages pages) (now standby) → ShowsIn standby (base_with fit.bytes c) now
-    shows now holds = owner_main standby (merged c.pages image) (now standby) (now (delta_name standby)) (subst (λ (i : Image). HoldsMain i (now standby)) (sym gives) holds)
+    -- the pages of the standby's file
+    file_pages : pages_of fit.bytes ≡ pages
+    file_pages =
+        let count : length fit.bytes ≡ length pages * size = ap length is_laid.is ∙ length-joined size pages sizes in
+        let low : length pages ≤ length fit.bytes = omega (arith, count, (let one : length pages * 1 ≤ length pages * size = mul-le-mul_left (length pages) wide in one)) in
+        ap (λ (n : ℕ). cut n (length fit.bytes) fit.bytes) size_is ∙ ap (cut size (length fit.bytes)) is_laid.is ∙ cut-joined size (length fit.bytes) pages sizes wide low
 
-    part_in : (now : Files) → IsHalfOr size c.pages pages first (now standby) → IsHalfIn standby fit.bytes c now ⊎ ShowsIn standby (base_with fit.bytes c) now
+    merged_to : (now : Files) → IsMergedFile size c.pages pages (now standby) → IsMergedTo standby fit.bytes c now
+    merged_to now is = record {
+      exact = is.exact ∙ ap (λ (ps : List Page). Some (joined (as_standby (overwritten size c.pages ps)))) (sym file_pages) ∙ ap (λ (n : ℕ). Some (joined (as_standby (overwritten n c.pages (pages_of fit.bytes))))) (sym size_is);
+      shows = owner_main standby (merged c.pages image) (now standby) (now (delta_name standby)) (subst (λ (i : Image). HoldsMain i (now standby)) (sym gives) is.holds);
+    }
+
+    part_in : (now : Files) → IsHalfOr size c.pages pages first (now standby) → IsHalfIn standby fit.bytes c now ⊎ IsMergedTo standby fit.bytes c now
     part_in now (inl h) = inl (record { half = half (now standby) h; there = h.reads; is = is_half (now standby) h })
-    part_in now (inr holds) = inr (shows now holds)
+    part_in now (inr is) = inr (merged_to now is)
 
     -- 4. From then on the merge goes.
     module _ (mid new : World) (quiet : Quiet old mid) where
@@ -254,8 +263,8 @@ module _ (old : World) (standby name : List ℕ) (s : Standby) (reader : Reading
             contents = c;
             mergeable = m;
             counted = keeps.1 ∙ sym (ap length gives);
-            left = λ now leaves. shows now (subst (λ (f : File). HoldsMain (merged_pages size c.pages pages) f) (sym (durable_is new standby keeps.0.file keeps.0.kept.durable (now standby) (leaves standby))) keeps.0.holds);
-            shows = shows new.files (subst (λ (f : File). HoldsMain (merged_pages size c.pages pages) f) (sym keeps.0.kept.reads) keeps.0.holds);
+            left = λ now leaves. merged_to now (subst (λ (f : File). IsMergedFile size c.pages pages f) (sym (durable_is new standby keeps.0.file keeps.0.kept.durable (now standby) (leaves standby))) keeps.0.is);
+            now = merged_to new.files (subst (λ (f : File). IsMergedFile size c.pages pages f) (sym keeps.0.kept.reads) keeps.0.is);
           }) left gave
 
       answers : (result : Result ℕ Fault) → IsTaken result (KeepsMerged new standby size c.pages pages) → Goes → GaveNothing mid new → Applies result old new standby name

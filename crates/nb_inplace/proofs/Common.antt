@@ -34,9 +34,9 @@ pub use Rattle.nb_host.specs.declared.faults.Fault.TheVariants.{Device, Memory, 
 pub use Rattle.nb_host.specs.declared.refusals.Refusal.{Refusal}
 pub use Rattle.nb_host.specs.declared.refusals.Refusal.TheVariants.{Access, BadLevel, ChainGuid, ChainScn, ChainSize, NoFile, NotDatabase, Unfinished, WrongState}
 pub use Rattle.nb_inplace.specs.Accepted.{AcceptSays, IsFitFor, IsReaderOf}
-pub use Rattle.nb_inplace.specs.Apply.{Applies, ApplyAnswers, ApplyLeft, IsHalfIn, base_with}
+pub use Rattle.nb_inplace.specs.Apply.{Applies, ApplyAnswers, ApplyLeft, IsHalfIn, IsMergedTo, base_with, pages_of}
 pub use Rattle.nb_inplace.specs.Half.{IsBetween, IsHalf, applying_page}
-pub use Rattle.nb_inplace.specs.Merging.{IsHalfFile, IsHalfOr, KeepsHalf, KeepsMerged, begun_file, merged_pages, pages_with}
+pub use Rattle.nb_inplace.specs.Merging.{IsHalfFile, IsHalfOr, IsMergedFile, KeepsHalf, KeepsMerged, begun_file, merged_pages, pages_with}
 pub use Rattle.nb_inplace.specs.Plan.{IsPlan}
 pub use Rattle.nb_inplace.specs.Ready.{ReadySays}
 pub use Rattle.nb_inplace.specs.Standby.{IsStandby, IsWholeStandby}
@@ -54,7 +54,7 @@ pub use Rattle.nb_model.proofs.FormLaws.{Formed, formed, no_cause, unheaded}
 pub use Rattle.nb_model.proofs.FrontLaws.{plain_base}
 pub use Rattle.nb_model.proofs.HeadSound.{all_zeros}
 pub use Rattle.nb_model.proofs.HeaderLaws.{form, header-long, header-other, header-room, header-scn, header-size, header-state, same-header, same-number}
-pub use Rattle.nb_model.proofs.ImageLaws.{AreZeros, Trimming, all-append, all-drop, all-replicate, all-right, all-take, drop-joined, first_and_rest, joined-append, joined-zeros, length-joined, page-joined, take-joined, trimmed-append_zeros, trimmed-before, trimmed-no_zeros, trimmed-other, trimming, zeros-are}
+pub use Rattle.nb_model.proofs.ImageLaws.{AreZeros, Trimming, all-append, all-drop, all-replicate, all-right, all-take, cut-joined, drop-joined, first_and_rest, joined-append, joined-zeros, length-joined, page-joined, take-joined, trimmed-append_zeros, trimmed-before, trimmed-no_zeros, trimmed-other, trimming, zeros-are}
 pub use Rattle.nb_model.proofs.MainLaws.{IsLaid, image_in-is, laid, laid-front, laid-wide, main_laid, owner-formed, owner_main, some_page}
 pub use Rattle.nb_model.proofs.OwnerLaws.{main_here, main_past, other_page}
 pub use Rattle.nb_model.proofs.PutLaws.{put-first}
@@ -66,7 +66,7 @@ unfoldable pub use Rattle.nb_model.specs.Account.{with_entry}
 pub use Rattle.nb_model.specs.Account.{Account, Ask, Base, IsBase, Kept, Plain, base_of}
 unfoldable pub use Rattle.nb_model.specs.Causes.{first_cause, not_database}
 pub use Rattle.nb_model.specs.Causes.{Cause, TestedByReads, when}
-unfoldable pub use Rattle.nb_model.specs.Image.{image_in, overwritten, trimmed, written_at}
+unfoldable pub use Rattle.nb_model.specs.Image.{cut, image_in, overwritten, trimmed, written_at}
 pub use Rattle.nb_model.specs.Image.{Image, Numbered, Page, first_page, image_guid, image_size, is_read_only, page_at}
 unfoldable pub use Rattle.nb_model.specs.InPlace.{in_place, in_place_of, not_finishing, not_mergeable, not_next, not_standby, written_since}
 pub use Rattle.nb_model.specs.InPlace.{is_another, other_pages}
@@ -85,11 +85,11 @@ pub use Rattle.nb_page.proofs.QuietLaws.{quiet_begun, quiet_joined}
 unfoldable pub use Rattle.nb_page.specs.Header.{header_in}
 pub use Rattle.nb_page.specs.Quiet.{Quiet}
 pub use Rattle.nb_page.specs.declared.header.Header.{Header}
-pub use Rattle.nb_restore.proofs.CopiedLaws.{all_over-one, first-written, overwrites_first, overwrites_joined, overwrites_none, overwrites_page, put-written, written-sizes}
+pub use Rattle.nb_restore.proofs.CopiedLaws.{all_over-one, first-written, overwrites_first, overwrites_joined, overwrites_none, overwrites_page, put-written, written-behind, written-sizes, written-zero}
 pub use Rattle.nb_restore.proofs.FrontLaws.{put_on_ok}
 pub use Rattle.nb_restore.proofs.HeadLaws.{HasHead, head_all, level-headed}
 pub use Rattle.nb_restore.specs.Copied.{Holds, IsDone, Overwrites}
-pub use Rattle.nb_restore.specs.Target.{IsKept}
+pub use Rattle.nb_restore.specs.Target.{IsKept, IsWhole}
 pub use Rattle.std.proofs.Math.Nat.{mul-div_cancel}
 pub use Rattle.std.proofs.lemmas.Bool.{and_from, and_parts, cases_eq, cases_lt, eq-eqb, eqb-false, eqb-true, or_from, or_parts, or_right, true≢false}
 pub use Rattle.std.proofs.lemmas.List.{append-nil, drop-drop, drop-replicate, drop_all, get_or-append_right, get_or-drop, get_or-set_same, length-replicate, length-take, length-take-le, replicate-append-replicate, take-append-drop, take-append-le, take-replicate, take-take, take_all, take_at, with_items_is}

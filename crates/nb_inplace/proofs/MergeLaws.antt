@@ -1,11 +1,11 @@
 -- A merge from its plan on: it is begun, records are written, pages are counted, and page 0 comes last.
-use Rattle.std.proofs.Common.{◌≡◌, ◌⊎◌, inl, inr, ⊎_elim, ℕ, zero, suc, ◌*◌, ◌≤◌, List, [], ◌∷◌, length, drop, refl, sym, ap, subst, ◌∙◌, arith, length-drop, Bool, true, false, Some, Ok, IsTrue, Contains}
-use Rattle.nb_inplace.proofs.Common.{is_zeros, is_header, size_of, is_page_size, most_pages, size_facts, File, Files, bytes_of, with_page, World, Leaves, LeavesAll, PageLeft, Changes, Only, NoNames, Moved, Remade, rested, weaker_has, composed, kept_on, remade_on, moved_from, remade_weaker, Quiet, Page, Image, Numbered, page_at, first_page, trimmed, written_at, overwritten, joined, HoldsMain, main_page, Link, IsOfSize, standby_page, as_standby, header-long, header-other, all-drop, main_tail, trimmed_alike, Reading, still_to_come, length-written, Holds, Overwrites, IsKept, all_over-one, HasHead, head_all, IsHalfFile, KeepsHalf, merged_pages, IsHalfOr, KeepsMerged, begun_file, pages_with, IsPlan, first_and_rest}
+use Rattle.std.proofs.Common.{◌≡◌, inl, inr, ⊎_elim, ℕ, ◌*◌, ◌≤◌, List, [], ◌∷◌, length, drop, refl, sym, ap, subst, ◌∙◌, arith, length-drop, Bool, true, false, Some, Ok, IsTrue}
+use Rattle.nb_inplace.proofs.Common.{is_zeros, is_header, size_of, is_page_size, most_pages, size_facts, File, Files, bytes_of, with_page, World, Leaves, LeavesAll, PageLeft, Changes, Only, NoNames, Moved, Remade, rested, weaker_has, composed, kept_on, remade_on, moved_from, remade_weaker, Quiet, Page, Image, Numbered, page_at, first_page, trimmed, written_at, overwritten, joined, Link, IsOfSize, standby_page, as_standby, header-long, header-other, all-drop, Reading, still_to_come, length-written, Holds, Overwrites, IsKept, all_over-one, HasHead, head_all, IsWhole, IsHalfFile, KeepsHalf, merged_pages, IsHalfOr, IsMergedFile, KeepsMerged, begun_file, pages_with, IsPlan, first_and_rest}
 use Rattle.nb_inplace.proofs.ControlLaws.{applying-long, applying-size, applying-header, standby-long}
 use Rattle.nb_inplace.proofs.EndLaws.{merged_whole}
 use Rattle.nb_inplace.proofs.FileLaws.{first_put, half_begun, begun_left, ended_left}
 use Rattle.nb_inplace.proofs.FirstLaws.{HasFirst}
-use Rattle.nb_inplace.proofs.PagesLaws.{over_alike}
+use Rattle.nb_inplace.proofs.PagesLaws.{over_first}
 
 -- how many pages there are with the records written over
 length_over : (size : ℕ) (rs : List Numbered) (image : Image) → length (overwritten size rs image) ≡ pages_with rs (length image)
@@ -14,13 +14,9 @@ length_over size [] image = refl
 length_over size (r ∷ rs) image = length_over size rs (written_at size r image) ∙ ap (pages_with rs) (length-written size r image)
 
 -- which page 0 the records are written over is the same
-over_first : (size : ℕ) (rs : List Numbered) (first : Page) (ps : List Page) → 1 ≤ length ps → HasFirst rs → trimmed (overwritten size rs (first ∷ drop 1 ps)) ≡ trimmed (overwritten size rs ps)
-over_first size rs first [] some has = absurd (omega (arith, some))
-over_first size rs first (p ∷ ps) some has = trimmed_alike size (overwritten size rs (first ∷ ps)) (overwritten size rs (p ∷ ps)) (λ q. over_alike size rs (p ∷ ps) (first ∷ ps) q (either q))
-  where
-    either : (q : ℕ) → (main_page size (first ∷ ps) q ≡ main_page size (p ∷ ps) q) ⊎ ((page : Page) × Contains rs (q, page))
-    either zero = inr has
-    either (suc q) = inl (main_tail size first ps q ∙ sym (main_tail size p ps q))
+over_begun : (size : ℕ) (rs : List Numbered) (first : Page) (ps : List Page) → 1 ≤ length ps → HasFirst rs → overwritten size rs (first ∷ drop 1 ps) ≡ overwritten size rs ps
+over_begun size rs first [] some has = absurd (omega (arith, some))
+over_begun size rs first (p ∷ ps) some has = over_first size rs first p ps has
 
 standby_length : (image : Image) → length (as_standby image) ≡ length image
 standby_length [] = refl
@@ -137,11 +133,11 @@ module _ (old : World) (standby : List ℕ) (size count : ℕ) (is_begun : Bool)
   abbrev merged_image : Image
   merged_image = merged_pages size records ps
 
-  image_is : as_standby (trimmed merged_over) ≡ merged_image
-  image_is = ap as_standby (over_first size records first ps (omega (arith, least)) plan.level.first)
+  over_is : merged_over ≡ overwritten size records ps
+  over_is = over_begun size records first ps (omega (arith, least)) plan.level.first
 
   pub count_is : (pages : ℕ) → pages ≡ length (trimmed merged_over) → pages ≡ length merged_image
-  count_is pages is = is ∙ sym (standby_length (trimmed merged_over)) ∙ ap length image_is
+  count_is pages is = is ∙ sym (standby_length (trimmed merged_over)) ∙ ap (λ (x : Image). length (as_standby (trimmed x))) over_is
 
   -- 4. Page 0 comes last: a crash leaves the standby half merged, or merged.
   module _ (now : World) (so_far : Changes old now (Only standby) (Remade old standby Half)) (reads : Half (now.files standby)) (was : Leaves now standby (now.files standby)) (noted : Page) (holds : Holds size first noted merged_over (now.files standby))
@@ -152,18 +148,18 @@ module _ (old : World) (standby : List ℕ) (size count : ℕ) (is_begun : Bool)
         noted_long : length noted ≡ size
         noted_long = ap length holds.page_0 ∙ its merged_over holds.sizes holds.some
 
-    whole : HoldsMain merged_image (with_page (now.files standby) (0 * length last) last)
-    whole = subst (λ (i : Image). HoldsMain i (with_page (now.files standby) (0 * length last) last)) image_is (merged_whole size first noted merged_over (now.files standby) is_size holds headed last last_is)
+    whole : IsMergedFile size records ps (with_page (now.files standby) (0 * length last) last)
+    whole = subst (λ (i : Image). IsWhole as_standby i (with_page (now.files standby) (0 * length last) last)) over_is (merged_whole size first noted merged_over (now.files standby) is_size holds headed last last_is)
 
     pub ended_on : (new : World) → Changes now new (Only standby) (Remade now standby (PageLeft (0 * length last) last (now.files standby))) → Changes old new (Only standby) (Remade old standby (IsHalfOr size records ps first))
     ended_on new more =
         remade_on old now new (Only standby) (Remade old standby Half) (Remade old standby (IsHalfOr size records ps first)) standby (PageLeft (0 * length last) last (now.files standby)) (now.files standby) so_far more refl was
         (λ files. ⊎_elim inl (λ half. inr (inl half)))
-        (λ before files left has is put others. inr (⊎_elim inl (λ done. inr (subst (λ (f : File). HoldsMain merged_image f) (sym done) whole))
+        (λ before files left has is put others. inr (⊎_elim inl (λ done. inr (subst (λ (f : File). IsMergedFile size records ps f) (sym done) whole))
         (ended_left size records (omega (arith, wide)) ps first last (now.files standby) (files standby) reads last_long put)))
 
     pub ended_kept : (new : World) (pages : ℕ) → pages ≡ length (trimmed merged_over) → IsKept new standby (with_page (now.files standby) (0 * length last) last) → KeepsMerged new standby size records ps pages
-    ended_kept new pages is kept = (record { file = with_page (now.files standby) (0 * length last) last; kept = kept; holds = whole }, count_is pages is)
+    ended_kept new pages is kept = (record { file = with_page (now.files standby) (0 * length last) last; kept = kept; is = whole }, count_is pages is)
 
   -- All but page 0 is written, and the pages are counted: then a crash leaves the standby half merged, and it holds the image but page 0.
   pub record IsWritten (then : World) (noted : Page) (pages : ℕ) : Type 0 where

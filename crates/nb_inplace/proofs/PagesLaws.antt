@@ -1,6 +1,6 @@
 -- Lists of pages, after whose ends zeros are seen: which pages are the same once records are written over.
-use Rattle.std.proofs.Common.{◌≡◌, ◌≢◌, ◌⊎◌, inl, inr, ℕ, zero, suc, ◌-◌, List, [], ◌∷◌, ◌++◌, length, replicate, refl, sym, ap, ◌∙◌, arith, Contains}
-use Rattle.nb_inplace.proofs.Common.{cases_eq, cases_lt, get_or-append_right, get_or-set_same, Page, Image, Numbered, page_at, written_at, overwritten, main_page, main_here, other_page, written-inside, written-past, length-written}
+use Rattle.std.proofs.Common.{◌≡◌, ◌≢◌, ◌⊎◌, inl, inr, ℕ, zero, suc, ◌-◌, List, [], ◌∷◌, ◌++◌, length, drop, replicate, refl, sym, ap, ◌∙◌, arith, Contains}
+use Rattle.nb_inplace.proofs.Common.{cases_eq, cases_lt, get_or-append_right, get_or-set_same, Page, Image, Numbered, page_at, written_at, overwritten, main_page, main_here, other_page, written-behind, written-inside, written-past, written-zero, length-written}
 
 -- the page that is written
 behind_zeros : (k : ℕ) (z page : Page) → page_at (replicate k z ++ page ∷ []) k ≡ page
@@ -31,3 +31,16 @@ over_alike size (r ∷ rs) a b p either = over_alike size rs (written_at size r 
     by (inl is) here = inl (ap (main_page size (written_at size r b)) is ∙ written_page size r b ∙ sym (ap (main_page size (written_at size r a)) is ∙ written_page size r a))
     by (inr other) (inl same) = inl (other_page size r.0 r.1 b p other ∙ same ∙ sym (other_page size r.0 r.1 a p other))
     by (inr other) (inr (page, there)) = inr (page, further page other there)
+
+-- Where page 0 is a record's, what stands there before is the same to all.
+pub over_first : (size : ℕ) (rs : List Numbered) (p q : Page) (ps : List Page) → (page : Page) × Contains rs (0, page) → overwritten size rs (p ∷ ps) ≡ overwritten size rs (q ∷ ps)
+unfolding overwritten
+over_first size [] p q ps (page, (k, low, is)) = absurd (omega (arith, low))
+over_first size ((zero, x) ∷ rs) p q ps has = ap (overwritten size rs) (written-zero size x p ps ∙ sym (written-zero size x q ps))
+over_first size ((suc n, x) ∷ rs) p q ps (page, there) =
+    let more : List Page = drop 1 (written_at size (suc n, x) (q ∷ ps)) in
+    ap (overwritten size rs) (written-behind size n x p q ps) ∙ over_first size rs p q more (page, further there) ∙ ap (overwritten size rs) (sym (written-behind size n x q q ps))
+  where
+    further : Contains ((suc n, x) ∷ rs) (0, page) → Contains rs (0, page)
+    further (zero, low, is) = absurd (let same : suc n ≡ 0 = ap (λ (r : Numbered). r.0) is in omega (arith, same))
+    further (suc k, low, is) = (k, omega (arith, low), is)

@@ -5,10 +5,9 @@ use Rattle.nb_host.specs.Files.{File, with_page}
 use Rattle.nb_host.specs.World.{World}
 use Rattle.nb_model.specs.Image.{Page, Image, Numbered, trimmed, overwritten}
 use Rattle.nb_model.specs.Levels.{joined}
-use Rattle.nb_model.specs.Main.{HoldsMain}
 use Rattle.nb_model.specs.Sound.{IsOfSize}
 use Rattle.nb_model.specs.Strokes.{as_standby}
-use Rattle.nb_restore.specs.Target.{KeepsImage}
+use Rattle.nb_restore.specs.Target.{IsWhole, KeepsWhole}
 use Rattle.nb_inplace.specs.Half.{IsBetween}
 
 -- In the place of page 0 stands `first`, and after it each page as it was in `before`, or the record's of that number.
@@ -28,13 +27,17 @@ KeepsHalf size records before after = (image : Image) (first : Page) → IsHalfF
 abbrev pub merged_pages : (size : ℕ) (records : List Numbered) → List Page → Image
 merged_pages size records pages = as_standby (trimmed (overwritten size records pages))
 
--- the file is half merged, or holds that image
-abbrev pub IsHalfOr : (size : ℕ) (records : List Numbered) (before : List Page) (first : Page) → File → Type 0
-IsHalfOr size records before first file = IsHalfFile size records before first file ⊎ HoldsMain (merged_pages size records before) file
+-- the file is these pages with the records written over, in the normal state, read-only and with nothing pending, and nothing stands past them
+abbrev pub IsMergedFile : (size : ℕ) (records : List Numbered) (before : List Page) → File → Type 0
+IsMergedFile size records before = IsWhole as_standby (overwritten size records before)
 
--- it holds that image for good, of so many pages
+-- the file is half merged, or merged
+abbrev pub IsHalfOr : (size : ℕ) (records : List Numbered) (before : List Page) (first : Page) → File → Type 0
+IsHalfOr size records before first file = IsHalfFile size records before first file ⊎ IsMergedFile size records before file
+
+-- it is merged for good, and its image has so many pages
 abbrev pub KeepsMerged : World → (standby : List ℕ) (size : ℕ) (records : List Numbered) (before : List Page) (count : ℕ) → Type 0
-KeepsMerged w standby size records before count = KeepsImage w standby (merged_pages size records before) × (count ≡ length (merged_pages size records before))
+KeepsMerged w standby size records before count = KeepsWhole w standby (IsMergedFile size records before) × (count ≡ length (merged_pages size records before))
 
 -- what stands in the file once a merge was begun: where it was before, nothing is written
 abbrev pub begun_file : (is_begun : Bool) → File → (first : Page) → File

@@ -18,3 +18,4 @@ mod stamps;
 mod standby;
 
 pub use merging::apply;
+pub use standby::{Standby, read_standby};

@@ -84,8 +84,9 @@ fn merge<H: Host>(
 ///
 /// The standby is a database that was restored from the backup which the level file goes on from, was made read-only, and has not been
 /// written since. It then is what a restore with the level file at the end of the chain would give: its image with the pages of the level
-/// file written over, zeros between where a page lies past the end, and no pages of zeros at the end. It is in the normal state, read-only,
-/// and with no merge pending. It is kept for good before the call answers.
+/// file written over, zeros between where a page lies past the end, and no pages of zeros at the end. Its file is as long as it
+/// was, or as the last page of the level file reaches. It is in the normal state, read-only, and with no merge pending. It is kept for good
+/// before the call answers.
 ///
 /// A crash, and an answer of `Device`, leave the standby as it was, or half merged, or merged. Half merged it is in the applying state, with
 /// the level file's GUID pending, and can't be opened. The same call then finishes the merge, in as many turns as it takes, and the

@@ -1,5 +1,5 @@
 // What a standby is, by its first bytes and its length.
-ghost use Rattle.std.specs.Prelude.{◌≡◌, ◌*◌, ◌≤◌, ℕ, List, true, Some, IfOk, IsTrue, length, take};
+ghost use Rattle.std.specs.Prelude.{◌≡◌, ◌+◌, ◌*◌, ◌≤◌, ℕ, List, true, Some, IfOk, IsTrue, length, take};
 ghost use Rattle.nb_host.specs.Causes.{CountsDevice};
 ghost use Rattle.nb_fields.specs.Header.{is_header, size_of};
 ghost use Rattle.nb_fields.specs.Places.{is_page_size, most_pages};
@@ -23,14 +23,14 @@ const LEAST_PAGES: u64 = 5;
 
 /// A standby, as a merge finds it.
 #[derive(Clone, Copy)]
-pub(crate) struct Standby {
-    pub(crate) header: Header,
+pub struct Standby {
+    pub header: Header,
     /// No statement may change a page of it.
-    pub(crate) is_read_only: bool,
+    pub is_read_only: bool,
     /// A merge into it was stopped.
-    pub(crate) is_begun: bool,
+    pub is_begun: bool,
     /// How many pages its file has, pages of zeros at the end among them.
-    pub(crate) pages: u32,
+    pub pages: u32,
 }
 
 /// The refusal of a file that is no database, by that page.
@@ -85,14 +85,15 @@ fn standby_in(first: &[u8], len: u64) -> Result<Standby, Fault>
     })
 }
 
-/// Reads what a standby is. It changes nothing.
+/// Reads what a standby is. It changes nothing, and takes no memory.
 ///
 /// The refusals are `NoFile`, `NotDatabase` and `WrongState`, in this order.
-pub(crate) fn read_standby<H: Host>(host: &mut H, name: &Name) -> Result<Standby, Fault>
+pub fn read_standby<H: Host>(host: &mut H, name: &Name) -> Result<Standby, Fault>
     ensures test { IsTrue H.tells → TestedByReads result (not_standby name.now ((H.world host.old).files name.now)) }
     ensures value { IsTrue H.tells → (bytes : List ℕ) → (H.world host.old).files name.now ≡ Some bytes → IfOk result (IsStandby bytes) }
     ensures whole { IfOk result IsWholeStandby }
     ensures quiet { Quiet (H.world host.old) (H.world host.new) }
+    ensures reads { IsTrue H.tells → (H.world host.new).reads ≤ (H.world host.old).reads + 1 }
     ensures cause { CountsDevice result (H.faults host.old) (H.faults host.new) }
 {
     let Some(len) = host.size(name)? else {

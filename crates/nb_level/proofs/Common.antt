@@ -9,7 +9,7 @@ unfoldable pub use Rattle.nb_host.specs.Files.{with_file}
 pub use Rattle.nb_host.specs.Files.{File, Files, bytes_of, with_bytes}
 pub use Rattle.nb_level.specs.Heads.{head_of}
 unfoldable pub use Rattle.nb_level.specs.Reading.{end_step, head_fault, read_rest, run_step, single_step, still_to_come}
-pub use Rattle.nb_level.specs.Reading.{IsBegun, Reading, Step}
+pub use Rattle.nb_level.specs.Reading.{IsBegun, Reading, StandsFirst, Step}
 pub use Rattle.nb_model.proofs.LevelWalk.{FirstIsZero, good, none_clear, not_long, not_same, runs_are, singles_are, zero_tells}
 pub use Rattle.nb_model.proofs.ReadLaws.{AreClear, end_tests, lt_no, lt_yes, run_tests, single_tests}
 pub use Rattle.nb_model.proofs.SpelledLaws.{rise_lower}

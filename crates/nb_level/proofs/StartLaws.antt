@@ -1,6 +1,6 @@
 -- A head that was read from the front of a file.
 use Rattle.std.proofs.Common.{◌≡◌, inl, inr, ℕ, ◌+◌, ◌<◌, ◌≤◌, nat_eq, List, [], ◌∷◌, length, take, drop, refl, sym, ap, ◌∙◌, arith, Option, Some, None, Result, Err, Bool, true, false, not, ◌&&◌, ◌||◌, ◌==◌, nat_lt, nat_le}
-use Rattle.nb_level.proofs.Common.{pointwise, cases_lt, take_all, take-take, length-take-le, part, number_in, is_page_size, part-take, number_in-take, Numbered, Head, Contents, first_fault, read_level, read_pages, read_singles, read_runs, with_head, head_in, begins_level, level_signature, end_mark, lt_no, head_of, Reading, head_fault, read_rest, still_to_come, IsBegun, and_right}
+use Rattle.nb_level.proofs.Common.{pointwise, cases_lt, take_all, take-take, length-take-le, part, number_in, is_page_size, part-take, number_in-take, Numbered, Head, Contents, first_fault, read_level, read_pages, read_singles, read_runs, with_head, head_in, begins_level, level_signature, end_mark, lt_no, head_of, Reading, head_fault, read_rest, still_to_come, IsBegun, StandsFirst, and_right}
 use Rattle.nb_level.specs.declared.place.Place.{Place}
 use Rattle.nb_level.proofs.ReadingLaws.{rest-none}
 
@@ -109,6 +109,14 @@ start-begun bytes seen first name r same whole fault begun =
     ∙ ap (λ (x : ℕ). with_head x (head_in bytes) (read_pages x (head_in bytes) bytes)) v
     ∙ ap (λ (x : Head). with_head r.version x (read_pages r.version x bytes)) h
     ∙ ap (with_head r.version (head_of r.head)) (sym (begun-pages bytes r begun.place))
+
+-- where the reader stands then, and what size its pages have
+pub start-first : (bytes first name : List ℕ) (r : Reading) → first ≡ take 52 bytes → IsBegun name first r → StandsFirst bytes r
+unfolding head_in
+start-first bytes first name r whole begun = record {
+  place = ap (λ (p : Place). p.at) begun.place;
+  size = ap (λ (h : Head). h.size) begun.head ∙ ap (number_in 40 4) whole ∙ number_in-take 52 40 4 bytes (omega arith);
+}
 
 -- too few bytes to begin as a level file does
 pub begins-short : (bytes : List ℕ) → length bytes < 4 → begins_level bytes ≡ false

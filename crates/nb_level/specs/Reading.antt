@@ -114,3 +114,8 @@ pub record IsBegun (name first : List ℕ) (r : Reading) : Type 0 where
   pub version : r.version ≡ number_in 4 2 first
   pub head : head_of r.head ≡ head_in first
   pub place : r.place ≡ record { at = 52; count = 0; least = 0; barred = end_mark; left = 0 }
+
+-- a reader stands after the head that these bytes begin with, and its pages have the size that stands there
+pub record StandsFirst (bytes : List ℕ) (r : Reading) : Type 0 where
+  pub place : r.place.at ≡ 52
+  pub size : r.head.page_size ≡ number_in 40 4 bytes

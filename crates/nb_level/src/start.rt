@@ -1,13 +1,14 @@
-ghost use Rattle.std.specs.Prelude.{◌≡◌, ◌⊎◌, ◌≤◌, ◌+◌, length, IsTrue, MatchOption};
+ghost use Rattle.std.specs.Prelude.{◌≡◌, ◌⊎◌, ◌≤◌, ◌+◌, length, IfOk, IsTrue, MatchOption};
 ghost use Rattle.nb_fields.specs.Bytes.{number_in};
 ghost use Rattle.nb_fields.specs.Places.{is_page_size};
 ghost use Rattle.nb_host.specs.Calls.{IsStill};
+ghost use Rattle.nb_host.specs.Files.{bytes_of};
 ghost use Rattle.nb_host.specs.Moments.{Passes};
 ghost use Rattle.nb_model.specs.Levels.{begins_level};
 ghost use Rattle.nb_page.specs.Quiet.{Quiet};
 ghost use Rattle.nb_host.specs.Causes.{CountsDevice};
 ghost use Rattle.nb_level.specs.Answers.{StartSays, OpenSays, ReadsOnce};
-ghost use Rattle.nb_level.specs.Reading.{head_fault};
+ghost use Rattle.nb_level.specs.Reading.{StandsFirst, head_fault};
 
 use crate::LevelReader;
 use nb_fields::layouts::level;
@@ -58,6 +59,7 @@ fn head_fault(bytes: &[u8]) -> Option<u64>
 /// Begins to read a file that is there.
 fn open<H: Host>(alloc: Global, host: &mut H, name: &Name) -> Result<LevelReader, Fault>
     ensures answer { OpenSays H.tells ((H.world host.old).files name.now) name.now result }
+    ensures first { IsTrue H.tells → IfOk result (StandsFirst (bytes_of ((H.world host.old).files name.now))) }
     ensures files { IsStill (H.world host.old) (H.world host.new) }
     ensures log { ReadsOnce H.tells (H.world host.old) (H.world host.new) }
     ensures time { Passes (H.world host.old) (H.world host.new) }
@@ -84,6 +86,7 @@ impl LevelReader {
     /// stands in the head.
     pub fn start<H: Host>(alloc: Global, host: &mut H, name: &Name) -> Result<LevelReader, Fault>
         ensures answer { StartSays H.tells ((H.world host.old).files name.now) name.now result }
+        ensures first { IsTrue H.tells → IfOk result (StandsFirst (bytes_of ((H.world host.old).files name.now))) }
         ensures quiet { Quiet (H.world host.old) (H.world host.new) }
         ensures reads { IsTrue H.tells → (H.world host.new).reads ≤ (H.world host.old).reads + 1 }
         ensures cause { CountsDevice result (H.faults host.old) (H.faults host.new) }

@@ -75,9 +75,9 @@ pub use Rattle.nb_page.specs.declared.header.Header.{Header}
 pub use Rattle.nb_restore.specs.Copied.{BeginsWith, Holds, IsDone, KeepsFront, Overwrites, OverwritesAll}
 pub use Rattle.nb_restore.specs.Kept.{AreKept, AreLinksOf, GiveLast, GivesKept, HoldChain, HoldLevels, HoldsCopy, HoldsLevel, IsLinkOf, last_guid}
 pub use Rattle.nb_restore.specs.Plan.{IsAccepted, IsPrepared, PlanSays}
-pub use Rattle.nb_restore.specs.Restore.{RestoreAnswers, RestoreLeft, Restores, base_from}
+pub use Rattle.nb_restore.specs.Restore.{IsRestoredTo, RestoreAnswers, RestoreLeft, Restores, base_from}
 pub use Rattle.nb_restore.specs.Sources.{AreHeaded, AreOfPages, AreReady, AreSources, IsHeaded, IsLevel0, IsReady, IsSource}
-pub use Rattle.nb_restore.specs.Target.{IsFree, IsFreeOr, IsKept, IsPlan, IsUnfinishedPage, KeepsImage, ReadsOr, restored}
+pub use Rattle.nb_restore.specs.Target.{IsFree, IsFreeOr, IsKept, IsPlan, IsUnfinishedPage, IsWhole, KeepsWhole, ReadsOr, restored}
 pub use Rattle.std.proofs.Math.Seq.{drop-cons, take-add}
 pub use Rattle.std.proofs.lemmas.Bool.{and_from, and_parts, cases_eq, cases_lt, eqb-true, or_left, or_parts, or_right, true≢false}
 pub use Rattle.std.proofs.lemmas.List.{append-nil, drop-drop, drop_all, drop_at, length-replicate, length-take-le, nil_from_length, set_split, take-append-le, take-take, take_all, take_at, with_items_is}

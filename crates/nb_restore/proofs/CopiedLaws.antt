@@ -70,7 +70,7 @@ written-sizes size r ps sizes long = elim (cases_lt r.0 (length ps)) [
     P x = length x ≡ size
 
 -- page 0 is another's where a page after it is written
-written-behind : (size n : ℕ) (page p q : Page) (ps : List Page) → written_at size (suc n, page) (p ∷ ps) ≡ p ∷ drop 1 (written_at size (suc n, page) (q ∷ ps))
+pub written-behind : (size n : ℕ) (page p q : Page) (ps : List Page) → written_at size (suc n, page) (p ∷ ps) ≡ p ∷ drop 1 (written_at size (suc n, page) (q ∷ ps))
 written-behind size n page p q ps = elim (cases_lt (suc n) (length (p ∷ ps))) [
   | inl w ↦ written-inside size (suc n, page) (p ∷ ps) w ∙ ap (λ (x : Image). p ∷ drop 1 x) (sym (written-inside size (suc n, page) (q ∷ ps) (omega (arith, w))))
   | inr w ↦ written-past size (suc n, page) (p ∷ ps) w ∙ ap (λ (x : Image). p ∷ drop 1 x) (sym (written-past size (suc n, page) (q ∷ ps) (omega (arith, w))))
@@ -79,7 +79,7 @@ written-behind size n page p q ps = elim (cases_lt (suc n) (length (p ∷ ps))) 
 written-first : (size n : ℕ) (page p : Page) (ps : List Page) → first_page (written_at size (suc n, page) (p ∷ ps)) ≡ p
 written-first size n page p ps = ap first_page (written-behind size n page p p ps)
 
-written-zero : (size : ℕ) (page p : Page) (ps : List Page) → written_at size (0, page) (p ∷ ps) ≡ page ∷ ps
+pub written-zero : (size : ℕ) (page p : Page) (ps : List Page) → written_at size (0, page) (p ∷ ps) ≡ page ∷ ps
 written-zero size page p ps = written-inside size (0, page) (p ∷ ps) (omega arith)
 
 -- and it is that page where page 0 is

@@ -1,6 +1,6 @@
 -- Page 0 in the normal state makes the target the database that the chain gives.
 use Rattle.std.proofs.Common.{◌≡◌, inl, inr, ℕ, ◌+◌, ◌*◌, ◌≤◌, [], ◌∷◌, ◌++◌, length, take, drop, replicate, refl, sym, ap, subst, ◌∙◌, arith, length-append, true, false, IsTrue, Some}
-use Rattle.nb_restore.proofs.Common.{and_parts, and_from, take-append-le, with_part, number_in, is_zeros, is_header, is_marked, is_sound, state_of, size_of, scn_of, guid_of, pending_of, is_page_size, most_pages, is_header-long, length-with_part, number_in-with_part, number_in-with_part_other, size_facts, normal_state, File, put_at, with_page, PageLeft, Header, Page, Image, trimmed, joined, HoldsMain, IsOfSize, fixed, header-long, form, header-size, header-scn, header-other, Trimming, trimming, trimmed-other, trimmed-before, main_laid, put-first, BeginsWith, Holds, IsFree, IsFreeOr, IsUnfinishedPage}
+use Rattle.nb_restore.proofs.Common.{and_parts, and_from, take-append-le, with_part, number_in, is_zeros, is_header, is_marked, is_sound, state_of, size_of, scn_of, guid_of, pending_of, is_page_size, most_pages, is_header-long, length-with_part, number_in-with_part, number_in-with_part_other, size_facts, normal_state, File, put_at, with_page, PageLeft, Header, Page, Image, trimmed, joined, HoldsMain, IsOfSize, fixed, header-long, form, header-size, header-scn, header-other, Trimming, trimming, trimmed-other, trimmed-before, main_laid, put-first, BeginsWith, Holds, IsFree, IsFreeOr, IsUnfinishedPage, IsWhole}
 use Rattle.nb_fields.specs.Bytes.{bytes_of}
 use Rattle.nb_host.specs.Files.{bytes_of as file_bytes}
 use Rattle.nb_page.proofs.HeaderLaws.{is_sound-form}
@@ -83,18 +83,29 @@ whole size p ps is sizes header same least most =
     }) (normal-state p header))
 
 module _ (size : ℕ) (start first : Page) (image : Image) (file : File) (is : IsTrue (is_page_size size)) (holds : Holds size start first image file) (head : HasHead size 5 image) where
-  pub written_whole : (last : Page) → last ≡ normal_page first → HoldsMain (fixed (trimmed image)) (with_page file (0 * length last) last)
-  written_whole last last_is = by image holds head
+  -- page 0 over the page in its place: these are all pages, and nothing stands past them
+  written_exact : (last : Page) → last ≡ normal_page first → with_page file (0 * length last) last ≡ Some (joined (fixed image))
+  written_exact last last_is = by image holds head
     where
-      by : (i : Image) → Holds size start first i file → HasHead size 5 i → HoldsMain (fixed (trimmed i)) (with_page file (0 * length last) last)
+      by : (i : Image) → Holds size start first i file → HasHead size 5 i → with_page file (0 * length last) last ≡ Some (joined (fixed i))
       by [] h k = absurd (let few : 1 ≤ 0 = h.some in omega (arith, few))
       by (p ∷ ps) h k =
           let page : last ≡ normal_page p = last_is ∙ ap normal_page h.page_0 in
           let long : length last ≡ size = ap length page ∙ normal-length p k.header ∙ h.sizes.0 in
-          let put : with_page file (0 * length last) last ≡ Some (joined (normal_page p ∷ ps)) =
           ap (λ (f : File). with_page f (0 * length last) last) h.reads ∙ ap (λ x. Some (put_at (joined (start ∷ ps)) x last)) (let e : 0 * length last ≡ 0 = omega arith in e)
-          ∙ ap Some (put-first size start last ps (h.long, h.sizes.1) long) ∙ ap (λ (x : Page). Some (joined (x ∷ ps))) page in
-          subst (λ (f : File). HoldsMain (fixed (trimmed (p ∷ ps))) f) (sym put) (whole size p ps is h.sizes k.header k.same k.long h.most)
+          ∙ ap Some (put-first size start last ps (h.long, h.sizes.1) long) ∙ ap (λ (x : Page). Some (joined (x ∷ ps))) page
+          ∙ ap (λ (x : Image). Some (joined x)) (sym (fixed-first p ps))
+
+  -- which hold the image
+  pub written_whole : (last : Page) → last ≡ normal_page first → HoldsMain (fixed (trimmed image)) (with_page file (0 * length last) last)
+  written_whole last last_is = subst (λ (f : File). HoldsMain (fixed (trimmed image)) f) (sym (written_exact last last_is)) (by image holds head)
+    where
+      by : (i : Image) → Holds size start first i file → HasHead size 5 i → HoldsMain (fixed (trimmed i)) (Some (joined (fixed i)))
+      by [] h k = absurd (let few : 1 ≤ 0 = h.some in omega (arith, few))
+      by (p ∷ ps) h k = subst (λ (x : Image). HoldsMain (fixed (trimmed (p ∷ ps))) (Some (joined x))) (sym (fixed-first p ps)) (whole size p ps is h.sizes k.header k.same k.long h.most)
+
+  pub written_all : (last : Page) → last ≡ normal_page first → IsWhole fixed image (with_page file (0 * length last) last)
+  written_all last last_is = record { exact = written_exact last last_is; holds = written_whole last last_is }
 
   -- the file begins with the page that says that a restore goes on
   began : BeginsWith (take 64 start) file
@@ -107,9 +118,9 @@ module _ (size : ℕ) (start first : Page) (image : Image) (file : File) (is : I
       }
 
   -- whatever a crash leaves of the write of page 0
-  pub last_left : (last : Page) (c : File) → IsUnfinishedPage start → last ≡ normal_page first → PageLeft (0 * length last) last file c → IsFreeOr (fixed (trimmed image)) c
+  pub last_left : (last : Page) (c : File) → IsUnfinishedPage start → last ≡ normal_page first → PageLeft (0 * length last) last file c → IsFreeOr (IsWhole fixed image) c
   last_left last c stands last_is (inl same) = inl (subst IsFree (sym same) (free_front start file stands began))
-  last_left last c stands last_is (inr (inl put)) = inr (subst (λ (f : File). HoldsMain (fixed (trimmed image)) f) (sym put) (written_whole last last_is))
+  last_left last c stands last_is (inr (inl put)) = inr (subst (λ (f : File). IsWhole fixed image f) (sym put) (written_all last last_is))
   last_left last c stands last_is (inr (inr (k, fits, grown))) =
       inl (free_front start c stands (record {
         long = omega (arith, ap (λ (f : File). length (file_bytes f)) grown, length-append (file_bytes file) (replicate (k * length last) 0), began.long);

@@ -12,6 +12,7 @@ pub mod SourceLaws
 pub mod PlanLaws
 pub mod ChainLaws
 pub mod PreparedLaws
+pub mod RefusedLaws
 pub mod RestoreLaws
 pub mod AskLaws
 pub mod ParentLaws

@@ -1,6 +1,6 @@
 -- An accepted chain is read again as what it was, and gives a plan.
 use Rattle.std.proofs.Common.{◌≡◌, ◌≢◌, ℕ, ◌*◌, ◌≤◌, List, [], ◌∷◌, length, sym, ap, subst, ◌∙◌, arith, true, Some, Ok, Err, Contains}
-use Rattle.nb_restore.proofs.Common.{and_parts, is_free_file, is_header, size_of, size_facts, most_pages, Files, Fault, Refused, Device, Memory, HasForm, Page, first_page, cut, trimmed, joined, Link, whole_link, first_link, verdict, all_over, applied, IsOfSize, Pages, pages_of, cut-joined, Reading, over, IsDone, IsAccepted, IsPrepared, PlanSays, IsLevel0, AreSources, AreReady, IsGiven, IsPlan, IsUnfinishedPage, some_same, ok_same}
+use Rattle.nb_restore.proofs.Common.{and_parts, is_free_file, is_header, size_of, size_facts, most_pages, Files, Fault, Refused, Device, Memory, HasForm, Page, first_page, cut, joined, Link, whole_link, first_link, verdict, all_over, IsOfSize, Pages, pages_of, cut-joined, Reading, over, IsDone, IsAccepted, IsPrepared, PlanSays, IsLevel0, AreSources, AreReady, IsGiven, IsPlan, IsUnfinishedPage, some_same, ok_same}
 use Rattle.std.specs.Global.{Vec}
 use Rattle.nb_page.specs.Free.{is_free_name}
 use Rattle.nb_chain.specs.declared.first_file.First.{First}
@@ -81,15 +81,14 @@ module _ (files : Files) (target : List ℕ) (names : List (List ℕ)) (count : 
     pub behind_now : (later : Files) (names_left : List (List ℕ)) → later ≡ files → names_left ≡ others → AreSources later target names_left size split.rest
     behind_now later names_left same left = subst (λ (f : Files). AreSources f target names_left size split.rest) (sym same) (subst (λ (ns : List (List ℕ)). AreSources files target ns size split.rest) (sym left) behind)
 
-    -- the image of the chain is that of level 0, written over
-    gives : applied accepted.links ≡ trimmed (all_over split.rest whole.pages)
-    unfolding applied
+    -- the pages of the chain are those of level 0, written over
+    gives : all_over accepted.links [] ≡ all_over split.rest whole.pages
     gives =
         let long : length bytes ≡ first.pages * size_of bytes = says.2.pages ∙ ap (λ k. first.pages * k) same_size in
         let cut_is : cut (size_of bytes) first.pages bytes ≡ whole.pages =
         ap (λ k. cut k first.pages bytes) (sym same_size) ∙ ap (cut size first.pages) whole.is ∙ cut-joined size first.pages whole.pages whole.sizes (omega (arith, wide)) (omega (arith, whole.count)) in
-        ap (λ (ls : List Link). trimmed (all_over ls [])) (split.all ∙ ap (λ (l : Link). l ∷ split.rest) first_is)
-        ∙ ap trimmed (over bytes first.pages split.rest (omega (arith, wide, same_size)) long ∙ ap (all_over split.rest) cut_is)
+        ap (λ (ls : List Link). all_over ls []) (split.all ∙ ap (λ (l : Link). l ∷ split.rest) first_is)
+        ∙ over bytes first.pages split.rest (omega (arith, wide, same_size)) long ∙ ap (all_over split.rest) cut_is
 
     apart : (n : List ℕ) → Contains names n → n ≢ target
     apart n among = all_apart files target size name others split.rest level_0.apart behind n (subst (λ (ns : List (List ℕ)). Contains ns n) named among)

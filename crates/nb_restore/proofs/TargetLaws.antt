@@ -1,6 +1,6 @@
 -- The target is made, so that a crash leaves its name free, and made whole by its page 0.
 use Rattle.std.proofs.Common.{◌≡◌, inl, inr, ⊎_elim, ℕ, ◌+◌, ◌-◌, ◌*◌, ◌≤◌, List, [], ◌++◌, length, take, drop, replicate, refl, sym, ap, subst, ◌∙◌, arith, Bool, ◌&&◌, ◌==◌, IsTrue, None, Some, Result, Ok, Err, OnOk}
-use Rattle.nb_restore.proofs.Common.{or_left, or_right, and_from, append-nil, drop_all, is_zeros, is_free_file, is_unfinished, is_header, state_of, pending_of, is_free_file-take, applying_state, File, Files, bytes_of, padded, put_at, with_page, World, Leaves, PageLeft, IsDurable, Remakes, WritesPage, Syncs, IsTimely, Passes, Changes, Only, Moved, Remade, still_more, weaker_has, remade_on, page_others, remade_alone, remade_step, moved_from, remade_begun, on_ok_then, synced, Page, Image, BeginsWith, KeepsFront, IsFree, IsFreeOr, IsKept, IsUnfinishedPage, ReadsOr, zeros-take, with_file-named}
+use Rattle.nb_restore.proofs.Common.{or_left, or_right, and_from, append-nil, drop_all, is_zeros, is_free_file, is_unfinished, is_header, state_of, pending_of, is_free_file-take, applying_state, File, Files, bytes_of, padded, put_at, with_page, World, Leaves, PageLeft, IsDurable, Remakes, WritesPage, Syncs, IsTimely, Passes, Changes, Only, Moved, Remade, still_more, weaker_has, remade_on, page_others, remade_alone, remade_step, moved_from, remade_begun, on_ok_then, synced, Page, BeginsWith, KeepsFront, IsFree, IsFreeOr, IsKept, IsUnfinishedPage, ReadsOr, zeros-take, with_file-named}
 use Rattle.nb_restore.proofs.FrontLaws.{page_read}
 
 free_zeros : (n : ℕ) → IsFree (Some (replicate n 0))
@@ -89,7 +89,7 @@ module _ (target : List ℕ) where
       (λ files moved. free_front page (files target) is (moved_from mid target (Some page) KeepsFront files kept.durable moved (take 64 page) (record { long = long; is = refl })))
 
   -- Then page 0 is written over it: a crash leaves the name free, or the whole.
-  pub then_done : (old mid new : World) (image : Image) (made : File → Type 0) (there : File) → Changes old mid (Only target) (λ files. IsFree (files target)) → Leaves mid target there → Changes mid new (Only target) (Remade mid target made)
-      → ((c : File) → made c → IsFreeOr image c) → Changes old new (Only target) (λ files. IsFreeOr image (files target))
-  then_done old mid new image made there first was second by =
-      remade_on old mid new (Only target) (λ files. IsFree (files target)) (λ files. IsFreeOr image (files target)) target made there first second refl was (λ files free. inl free) (λ before files left has is done others. by (files target) done)
+  pub then_done : (old mid new : World) (whole : File → Type 0) (made : File → Type 0) (there : File) → Changes old mid (Only target) (λ files. IsFree (files target)) → Leaves mid target there → Changes mid new (Only target) (Remade mid target made)
+      → ((c : File) → made c → IsFreeOr whole c) → Changes old new (Only target) (λ files. IsFreeOr whole (files target))
+  then_done old mid new whole made there first was second by =
+      remade_on old mid new (Only target) (λ files. IsFree (files target)) (λ files. IsFreeOr whole (files target)) target made there first second refl was (λ files free. inl free) (λ before files left has is done others. by (files target) done)

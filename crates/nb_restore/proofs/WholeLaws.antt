@@ -1,15 +1,15 @@
 -- The target from its making to its page 0 in the normal state.
 use Rattle.std.proofs.Common.{◌≡◌, ◌≢◌, inl, inr, ⊎_elim, ℕ, ◌*◌, ◌≤◌, List, ◌++◌, length, drop, refl, sym, subst, ◌∙◌, arith, IsTrue, Some}
-use Rattle.nb_restore.proofs.Common.{is_page_size, size_facts, with_page, World, Leaves, PageLeft, Changes, Only, Moved, Remade, composed, weaker_has, Page, Image, trimmed, joined, Link, all_over, IsOfSize, fixed, Reading, Holds, KeepsFront, OverwritesAll, AreReady, IsFree, IsFreeOr, IsKept, IsPlan, IsUnfinishedPage, KeepsImage, restored}
-use Rattle.nb_restore.proofs.FinishLaws.{normal_page, written_whole, last_left}
+use Rattle.nb_restore.proofs.Common.{is_page_size, size_facts, with_page, File, World, Leaves, PageLeft, Changes, Only, Moved, Remade, composed, weaker_has, Page, Image, joined, Link, all_over, IsOfSize, fixed, Reading, Holds, KeepsFront, OverwritesAll, AreReady, IsFree, IsFreeOr, IsKept, IsPlan, IsUnfinishedPage, IsWhole, KeepsWhole, restored}
+use Rattle.nb_restore.proofs.FinishLaws.{normal_page, written_all, last_left}
 use Rattle.nb_restore.proofs.FrontLaws.{front_joined}
 use Rattle.nb_restore.proofs.HeadLaws.{HasHead, head_all}
 use Rattle.nb_restore.proofs.ReadyLaws.{level_0_holds, level_0_head, ready_headed, ready_still}
 use Rattle.nb_restore.proofs.TargetLaws.{begun_then, then_done}
 
--- since the target was begun a crash leaves its name free, or this image
-abbrev pub Since : (mid new : World) (target : List ℕ) (image : Image) → Type 0
-Since mid new target image = Changes mid new (Only target) (λ files. IsFreeOr image (files target))
+-- since the target was begun a crash leaves its name free, or the whole
+abbrev pub Since : (mid new : World) (target : List ℕ) (whole : File → Type 0) → Type 0
+Since mid new target whole = Changes mid new (Only target) (λ files. IsFreeOr whole (files target))
 
 -- All pages but page 0 are written since the target was begun. In its place that page still stands.
 pub record IsWritten (mid now : World) (target : List ℕ) (size : ℕ) (start first : Page) (image : Image) : Type 0 where
@@ -20,9 +20,9 @@ pub record IsWritten (mid now : World) (target : List ℕ) (size : ℕ) (start f
   pub head : HasHead size 5 image
 
 -- with its making before
-pub since_left : (old mid new : World) (target : List ℕ) (image : Image) → Changes old mid (Only target) (Remade old target IsFree) → Since mid new target image → Changes old new (Only target) (Remade old target (IsFreeOr image))
-since_left old mid new target image made since =
-    composed old mid new (Only target) (Remade old target IsFree) (λ files. IsFreeOr image (files target)) (Remade old target (IsFreeOr image)) made since
+pub since_left : (old mid new : World) (target : List ℕ) (whole : File → Type 0) → Changes old mid (Only target) (Remade old target IsFree) → Since mid new target whole → Changes old new (Only target) (Remade old target (IsFreeOr whole))
+since_left old mid new target whole made since =
+    composed old mid new (Only target) (Remade old target IsFree) (λ files. IsFreeOr whole (files target)) (Remade old target (IsFreeOr whole)) made since
     (λ files. ⊎_elim inl (λ free. inr (inl free))) (λ files has. inr has)
 
 -- The target is made for this plan, and holds the page that says that a restore goes on.
@@ -69,15 +69,15 @@ module _ (old mid : World) (target level_0 : List ℕ) (count : ℕ) (readers : 
 
 module _ (old mid new : World) (target : List ℕ) (size : ℕ) (start first : Page) (image : Image) (written : IsWritten old mid target size start first image) (last : Page) (last_is : last ≡ normal_page first) where
   -- page 0 is written: a crash leaves the name free, or the whole
-  pub all_since : Leaves mid target (mid.files target) → Changes mid new (Only target) (Remade mid target (PageLeft (0 * length last) last (mid.files target))) → Since old new target (fixed (trimmed image))
+  pub all_since : Leaves mid target (mid.files target) → Changes mid new (Only target) (Remade mid target (PageLeft (0 * length last) last (mid.files target))) → Since old new target (IsWhole fixed image)
   all_since was more =
-      then_done target old mid new (fixed (trimmed image)) (PageLeft (0 * length last) last (mid.files target)) (mid.files target) written.free was more
+      then_done target old mid new (IsWhole fixed image) (PageLeft (0 * length last) last (mid.files target)) (mid.files target) written.free was more
       (λ c. last_left size start first image (mid.files target) written.size_is written.holds written.head last c written.stands last_is)
 
   -- and is kept: the target is the whole
-  pub all_kept : IsKept new target (with_page (mid.files target) (0 * length last) last) → KeepsImage new target (fixed (trimmed image))
+  pub all_kept : IsKept new target (with_page (mid.files target) (0 * length last) last) → KeepsWhole new target (IsWhole fixed image)
   all_kept kept = record {
     file = with_page (mid.files target) (0 * length last) last;
     kept = kept;
-    holds = written_whole size start first image (mid.files target) written.size_is written.holds written.head last last_is;
+    is = written_all size start first image (mid.files target) written.size_is written.holds written.head last last_is;
   }

@@ -1,10 +1,10 @@
 -- What is known of a chain before its restore makes the target.
-use Rattle.std.specs.Prelude.{◌≡◌, ◌≢◌, ℕ, true, List, ◌∷◌, length, Contains, Result, Ok, Err}
+use Rattle.std.specs.Prelude.{◌≡◌, ◌≢◌, ℕ, true, List, [], ◌∷◌, length, Contains, Result, Ok, Err}
 use Rattle.nb_host.specs.Files.{Files}
 use Rattle.nb_host.specs.declared.faults.Fault.{Fault}
 use Rattle.nb_host.specs.declared.faults.Fault.TheVariants.{Refused, Device, Memory}
 use Rattle.nb_page.specs.Free.{is_free_name}
-use Rattle.nb_model.specs.Image.{Page, trimmed}
+use Rattle.nb_model.specs.Image.{Page}
 use Rattle.nb_model.specs.Restoring.{Link, verdict, all_over, applied}
 use Rattle.nb_chain.specs.declared.checking.Chain.{Chain}
 use Rattle.nb_restore.specs.Restore.{IsRefused}
@@ -33,7 +33,7 @@ pub record IsPrepared (files : Files) (target : List ℕ) (names : List (List �
   pub named : names ≡ level_0 ∷ others
   pub pages : List Page
   pub links : List Link
-  pub gives : applied chain.links ≡ trimmed (all_over links pages)
+  pub gives : all_over chain.links [] ≡ all_over links pages
   pub plan_is : IsPlan files target level_0 (length plan.page.items) plan.pages plan.readers.items plan.first.items plan.page.items pages links
 
 abbrev pub PlanSays : Files → (target : List ℕ) (names : List (List ℕ)) → Result Plan Fault → Type 0

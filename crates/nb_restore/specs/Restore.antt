@@ -1,5 +1,5 @@
 -- A chain of backup files is restored.
-use Rattle.std.specs.Prelude.{◌≡◌, ◌≢◌, ◌⊎◌, ℕ, true, false, List, length, Contains, Result, Ok, Err}
+use Rattle.std.specs.Prelude.{◌≡◌, ◌≢◌, ◌⊎◌, ℕ, true, false, List, [], length, Some, Contains, Result, Ok, Err}
 use Rattle.nb_fields.specs.Free.{is_free_file}
 use Rattle.nb_host.specs.Files.{File, Files}
 use Rattle.nb_host.specs.World.{World}
@@ -13,7 +13,8 @@ use Rattle.nb_change.specs.Gave.{GaveNothing}
 use Rattle.nb_page.specs.Free.{is_free_name}
 use Rattle.nb_page.specs.Quiet.{Quiet}
 use Rattle.nb_model.specs.Account.{Base, base_of}
-use Rattle.nb_model.specs.Restoring.{Link, verdict, applied}
+use Rattle.nb_model.specs.Levels.{joined}
+use Rattle.nb_model.specs.Restoring.{Link, verdict, all_over, applied}
 use Rattle.nb_model.specs.Strokes.{fixed}
 use Rattle.nb_model.specs.Trail.{ShowsIn}
 
@@ -21,13 +22,19 @@ use Rattle.nb_model.specs.Trail.{ShowsIn}
 abbrev pub base_from : List Link → Base
 base_from links = base_of (fixed (applied links))
 
+-- The database that the files of a chain give stands under that name. Its file is their pages in the normal state, as far as level 0 or
+-- the last page of a level reaches, and nothing stands past them.
+pub record IsRestoredTo (name : List ℕ) (links : List Link) (files : Files) : Type 0 where
+  pub exact : files name ≡ Some (joined (fixed (all_over links [])))
+  pub shows : ShowsIn name (base_from links) files
+
 -- What is left of the target while these files are restored: it is as it `was`, or its name is free for another restore, or it is the
 -- database that they give.
 abbrev pub RestoreLeft : (was : File → Type 0) (old : World) (target : List ℕ) (names : List (List ℕ)) → Files → Type 0
 RestoreLeft was old target names files =
     was (files target)
     ⊎ (is_free_file (files target) ≡ true)
-    ⊎ ((links : List Link) × (verdict old.files names ≡ Ok links) × ShowsIn target (base_from links) files)
+    ⊎ ((links : List Link) × (verdict old.files names ≡ Ok links) × IsRestoredTo target links files)
 
 -- The files are a chain, and the target is the database that they give, as it reads and whatever a crash leaves of it. None of the files is
 -- the target, so all of them are as they were.
@@ -35,8 +42,8 @@ pub record IsRestored (old new : World) (target : List ℕ) (names : List (List 
   pub links : List Link
   pub accepted : verdict old.files names ≡ Ok links
   pub counted : count ≡ length (applied links)
-  pub left : (files : Files) → LeavesAll new files → ShowsIn target (base_from links) files
-  pub shows : ShowsIn target (base_from links) new.files
+  pub left : (files : Files) → LeavesAll new files → IsRestoredTo target links files
+  pub now : IsRestoredTo target links new.files
   pub apart : (name : List ℕ) → Contains names name → name ≢ target
 
 -- the target's name isn't free, or it is and the files are no chain

@@ -1,5 +1,5 @@
 -- The target of a restore, while it is made.
-use Rattle.std.specs.Prelude.{◌≡◌, ◌⊎◌, ℕ, List, true}
+use Rattle.std.specs.Prelude.{◌≡◌, ◌⊎◌, ℕ, List, Some, true}
 use Rattle.nb_fields.specs.Bytes.{is_zeros}
 use Rattle.nb_fields.specs.Free.{is_free_file}
 use Rattle.nb_fields.specs.Header.{is_header, state_of, pending_of}
@@ -8,6 +8,7 @@ use Rattle.nb_host.specs.Files.{File, Files}
 use Rattle.nb_host.specs.World.{World}
 use Rattle.nb_host.specs.Crash.{IsDurable}
 use Rattle.nb_model.specs.Image.{Page, Image, first_page, trimmed}
+use Rattle.nb_model.specs.Levels.{joined}
 use Rattle.nb_model.specs.Main.{HoldsMain}
 use Rattle.nb_model.specs.Restoring.{Link, all_over}
 use Rattle.nb_model.specs.Strokes.{fixed}
@@ -18,20 +19,25 @@ use Rattle.nb_restore.specs.Sources.{IsLevel0, AreReady}
 abbrev pub IsFree : File → Type 0
 IsFree file = is_free_file file ≡ true
 
--- it may be made anew, or holds this image in the normal state
-abbrev pub IsFreeOr : Image → File → Type 0
-IsFreeOr image file = IsFree file ⊎ HoldsMain image file
+-- The file is these pages with their page 0 done with, and nothing stands past them. It holds their image.
+pub record IsWhole (done : Image → Image) (pages : Image) (file : File) : Type 0 where
+  pub exact : file ≡ Some (joined (done pages))
+  pub holds : HoldsMain (done (trimmed pages)) file
+
+-- it may be made anew, or is whole
+abbrev pub IsFreeOr : (whole : File → Type 0) → File → Type 0
+IsFreeOr whole file = IsFree file ⊎ whole file
 
 -- a crash leaves this of the file and nothing else, and so it reads
 pub record IsKept (w : World) (name : List ℕ) (file : File) : Type 0 where
   pub durable : IsDurable w name file
   pub reads : w.files name ≡ file
 
--- and it holds this image
-pub record KeepsImage (w : World) (name : List ℕ) (image : Image) : Type 0 where
+-- and it is whole
+pub record KeepsWhole (w : World) (name : List ℕ) (whole : File → Type 0) : Type 0 where
   pub file : File
   pub kept : IsKept w name file
-  pub holds : HoldsMain image file
+  pub is : whole file
 
 -- it reads as it did, or as such a file
 abbrev pub ReadsOr : (old new : World) (name : List ℕ) (made : File → Type 0) → Type 0
@@ -50,6 +56,6 @@ pub record IsPlan (files : Files) (target level_0 : List ℕ) (size count : ℕ)
   pub page_0 : first ≡ first_page pages
   pub stands : IsUnfinishedPage page
 
--- the database that level 0 and the files after it give
-abbrev pub restored : List Page → List Link → Image
-restored pages links = fixed (trimmed (all_over links pages))
+-- the file is level 0 with the pages of the files after it written over, in the normal state
+abbrev pub restored : List Page → List Link → File → Type 0
+restored pages links = IsWhole fixed (all_over links pages)

@@ -1,4 +1,4 @@
-ghost use Rattle.std.specs.Prelude.{◌≡◌, ◌≤◌, IsTrue, IfOk, List, Some, length, true};
+ghost use Rattle.std.specs.Prelude.{◌≡◌, ◌+◌, ◌≤◌, IsTrue, IfOk, List, Some, length, true};
 ghost use Rattle.nb_host.specs.Causes.{CountsDevice};
 ghost use Rattle.nb_fields.specs.Header.{is_header};
 ghost use Rattle.nb_fields.specs.Places.{is_page_size, most_pages};
@@ -8,6 +8,7 @@ ghost use Rattle.nb_model.specs.Sound.{IsOfSize};
 ghost use Rattle.nb_page.specs.Header.{HasForm};
 ghost use Rattle.nb_page.specs.Quiet.{Quiet};
 ghost use Rattle.nb_chain.specs.Chain.{IsFirstOf};
+ghost use Rattle.nb_chain.specs.Most.{RefusedReads, chain_most};
 ghost use Rattle.nb_restore.specs.Copied.{IsDone};
 ghost use Rattle.nb_restore.specs.Plan.{AcceptSays, PlanSays};
 ghost use Rattle.nb_restore.specs.Sources.{AreOfPages};
@@ -45,6 +46,7 @@ fn accept<H: Host>(
     requires some { 1 ≤ length files.now }
     requires few { length files.now ≤ 10 }
     ensures answer { IsTrue H.tells → AcceptSays (H.world host.old).files target.now files.now result }
+    ensures refused { IsTrue H.tells → RefusedReads result (H.world host.old).reads (1 + chain_most (H.world host.old).files files.now) (H.world host.new).reads }
     ensures first { IsTrue H.tells → IfOk result (λ chain. IsFirstOf (H.world host.old).files files.now chain.first) }
     ensures form { IfOk result (λ chain. HasForm chain.first.header) }
     ensures least { IfOk result (λ chain. 5 ≤ chain.first.pages) }
@@ -100,6 +102,7 @@ pub(crate) fn prepare<H: Host>(
     requires some { 1 ≤ length files.now }
     requires few { length files.now ≤ 10 }
     ensures answer { IsTrue H.tells → PlanSays (H.world host.old).files target.now files.now result }
+    ensures refused { IsTrue H.tells → RefusedReads result (H.world host.old).reads (1 + chain_most (H.world host.old).files files.now) (H.world host.new).reads }
     ensures size { IfOk result (λ plan. IsTrue (is_page_size (length plan.page.items))) }
     ensures first { IfOk result (λ plan. length plan.first.items ≡ length plan.page.items) }
     ensures most { IfOk result (λ plan. plan.pages ≤ most_pages) }

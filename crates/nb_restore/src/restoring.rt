@@ -1,4 +1,5 @@
-ghost use Rattle.std.specs.Prelude.{◌≤◌, length, IsTrue};
+ghost use Rattle.std.specs.Prelude.{◌+◌, ◌≤◌, length, IsTrue};
+ghost use Rattle.nb_chain.specs.Most.{RefusedReads, chain_most};
 ghost use Rattle.nb_host.specs.Causes.{CountsDevice};
 ghost use Rattle.nb_restore.specs.Restore.{Restores};
 
@@ -13,11 +14,12 @@ const PIECE: usize = 262_144;
 /// Restores a chain of 1 to 10 backup files into a new database, and answers how many pages that has.
 ///
 /// The database is the image of the chain in the normal state: the pages of level 0, with the pages of each further level
-/// written over in their order, zeros between where a page lies past the end, and no pages of zeros at the end. It is kept
-/// for good before the call answers.
+/// written over in their order, zeros between where a page lies past the end, and no pages of zeros at the end. Its file is
+/// as long as level 0, or as the last page of a level reaches, pages of zeros among them. It is kept for good before the call
+/// answers.
 ///
 /// The refusals are `FileExists`, where the target's name isn't free, and then those of `nb_chain::check`, in its order. A
-/// refused call changes nothing. Neither does one that answers `Memory`: all memory is taken before the target is made.
+/// refused call changes nothing, and reads no file more often than `nb_chain::check` does. Neither does one that answers `Memory`: all memory is taken before the target is made.
 ///
 /// A crash, and an answer of `Device`, leave the target as it was, or such that its name is free for another restore, or
 /// whole. Until then it can't be opened.
@@ -30,6 +32,7 @@ pub fn restore<H: Host>(
     requires some { 1 ≤ length files.now }
     requires few { length files.now ≤ 10 }
     ensures restores { IsTrue H.tells → Restores result (H.world host.old) (H.world host.new) target.now files.now }
+    ensures refused { IsTrue H.tells → RefusedReads result (H.world host.old).reads (1 + chain_most (H.world host.old).files files.now) (H.world host.new).reads }
     ensures cause { CountsDevice result (H.faults host.old) (H.faults host.new) }
 {
     let mut piece = vec![in alloc; 0; PIECE]?;

@@ -7,7 +7,7 @@ ghost use Rattle.nb_model.specs.Image.{Page};
 ghost use Rattle.nb_model.specs.Restoring.{Link};
 ghost use Rattle.nb_restore.specs.Copied.{IsDone};
 ghost use Rattle.nb_restore.specs.Sources.{AreOfPages};
-ghost use Rattle.nb_restore.specs.Target.{IsFree, IsFreeOr, IsKept, IsPlan, IsUnfinishedPage, KeepsImage, ReadsOr, restored};
+ghost use Rattle.nb_restore.specs.Target.{IsFree, IsFreeOr, IsKept, IsPlan, IsUnfinishedPage, KeepsWhole, ReadsOr, restored};
 
 use crate::first::write_first;
 use crate::records::{copy_pages, write_levels};
@@ -50,7 +50,7 @@ pub(crate) fn write_target<H: Host>(
     ensures reads { IsTrue H.tells → (ps : List Page) (links : List Link) → IsPlan (H.world host.old).files target.now file.now (length page.old) pages readers.items first.old page.old ps links
         → ReadsOr (H.world host.old) (H.world host.new) target.now (IsFreeOr (restored ps links)) }
     ensures done { IsTrue H.tells → (ps : List Page) (links : List Link) → IsPlan (H.world host.old).files target.now file.now (length page.old) pages readers.items first.old page.old ps links
-        → IsDone result (KeepsImage (H.world host.new) target.now (restored ps links)) }
+        → IsDone result (KeepsWhole (H.world host.new) target.now (restored ps links)) }
     ensures gave { GaveNothing (H.world host.old) (H.world host.new) }
     ensures cause { CountsDevice result (H.faults host.old) (H.faults host.new) }
 {

@@ -1,7 +1,8 @@
 use Rattle.std.proofs.Common.{◌≡◌, ℕ, ◌*◌, List, length, drop, sym, ap, subst, ◌∙◌, arith, Err, max}
-use Rattle.nb_chain.proofs.Common.{Fault, Files, Chain, is_blank, without_blank, CheckSays, IsChain, IsFirstOf, LevelsSay, AreNext, passed}
+use Rattle.nb_chain.proofs.Common.{Fault, Files, Chain, RefusedReads, chain_most, is_blank, without_blank, CheckSays, IsChain, IsFirstOf, LevelsSay, AreNext, passed}
 use Rattle.nb_chain.proofs.LinkLaws.{split}
 use Rattle.nb_chain.proofs.CheckLaws.{check_first, check_others, check_all}
+use Rattle.nb_chain.proofs.MostLaws.{chain_first, chain_levels, refused_within}
 use Rattle.nb_chain.proofs.checking.check.Goals as goal
 
 pub returns-in_err-first-clause-answer : goal.returns-in_err-first-clause-answer
@@ -55,3 +56,20 @@ pub returns-clause-first : goal.returns-clause-first
 returns-clause-first g c tells =
     let name : List ℕ = c.index-files-0.result in
     subst (λ (l : List (List ℕ)). IsFirstOf (g.H.Host.world c.args.host.now).files l c.in_ok-first.first) (sym (split c.args.files.now name c.requires.some c.index-files-0.is)) (c.in_ok-first.ensures.answer tells)
+
+pub returns-in_err-first-clause-refused : goal.returns-in_err-first-clause-refused
+returns-in_err-first-clause-refused g c tells =
+    let files : Files = (g.H.Host.world c.args.host.now).files in
+    let before : ℕ = (g.H.Host.world c.args.host.now).reads in
+    let after : ℕ = (g.H.Host.world c.read_first.new.host).reads in
+    passed Chain (λ r. RefusedReads r before (chain_most files c.args.files.now) after) c.from_residual.result c.in_err-first.field-0.0 c.from_residual.ensures
+    (refused_within Chain _ _ _ _ (chain_first files c.args.files.now c.index-files-0.result (drop 1 c.args.files.now) before after (split c.args.files.now c.index-files-0.result c.requires.some c.index-files-0.is) (c.read_first.ensures.within tells)))
+
+pub returns-in_err-last-clause-refused : goal.returns-in_err-last-clause-refused
+returns-in_err-last-clause-refused g c tells =
+    let files : Files = (g.H.Host.world c.args.host.now).files in
+    let before : ℕ = (g.H.Host.world c.args.host.now).reads in
+    let after : ℕ = (g.H.Host.world c.read_levels.new.host).reads in
+    passed Chain (λ r. RefusedReads r before (chain_most files c.args.files.now) after) c.from_residual-in_err-last.result c.in_err-last.field-0.0 c.from_residual-in_err-last.ensures
+    (refused_within Chain _ _ _ _ (chain_levels files _ c.args.files.now c.index-files-0.result (drop 1 c.args.files.now) before _ after (split c.args.files.now c.index-files-0.result c.requires.some c.index-files-0.is) c.read_first.ensures.quiet.still.files
+    (c.in_ok-first.ensures.reads tells) (c.read_levels.ensures.within tells)))

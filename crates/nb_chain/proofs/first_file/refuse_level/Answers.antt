@@ -12,3 +12,9 @@ pub returns-clause-answer : goal.returns-clause-answer
 returns-clause-answer g c tells bytes there begins =
     level_first _ _ bytes _ _ _ there begins (c.in_ok-head.ensures.answer tells)
     ∙ ap (λ (m : List ℕ). Err (ChainLevel m c.in_ok-head.head.level 0)) (sym c.copied.ensures) ∙ ap (λ (n : ℕ). Err (ChainLevel c.copied.result n 0)) (sym c.from.ensures)
+
+pub returns-in_err-head-clause-within : goal.returns-in_err-head-clause-within
+returns-in_err-head-clause-within g c tells = c.whole.ensures.within tells
+
+pub returns-clause-within : goal.returns-clause-within
+returns-clause-within g c tells = c.whole.ensures.within tells

@@ -1,5 +1,6 @@
 use Rattle.std.proofs.Common.{◌≡◌, refl, ap, ◌∙◌}
 use Rattle.nb_chain.proofs.Common.{Files, Reading, quiet_begun, quiet_call, quiet_joined}
+use Rattle.nb_chain.proofs.MostLaws.{ahead_none, ahead_more, ahead_ends, there_is}
 use Rattle.nb_chain.proofs.PageLaws.{so_far_none, so_far_more, gives_there}
 use Rattle.nb_chain.proofs.level_file.read_pages.Goals as goal
 
@@ -9,6 +10,7 @@ loop-number-init g c = record {
   quiet = quiet_begun (g.H.Host.world c.args.host.now) (g.met.H.Host.timely _);
   cause = refl;
   so_far = λ tells. so_far_none _ _ _ _;
+  ahead = λ tells. ahead_none _ _ _;
 }
 
 pub loop-number-preserved : goal.loop-number-preserved
@@ -27,4 +29,17 @@ loop-number-preserved g c =
           so_far_more _ _ _ _ _ _ _ (loop.so_far tells) c.next.new.self c.in-PageAt.number c.next.new.into _ _
           (gives_there _ _ c.loop-number.reader c.next.new.self c.in_ok-number.field-0 c.next.new.into c.in-PageAt.number g.H.Host.tells c.in-PageAt.is tells c.in_ok-number.ensures.answer there)
           c.in_ok-note.ensures (log.reads tells);
+      ahead = λ tells.
+          ahead_more _ _ _ _ _ (loop.ahead tells) c.next.new.self c.in-PageAt.number c.next.new.into _ _ _
+          (there_is _ _ c.loop-number.reader c.next.new.self c.in_ok-number.field-0 _ _ c.in-PageAt.number c.next.new.into g.H.Host.tells c.in-PageAt.is tells c.in_ok-number.ensures.there there)
+          (c.next.auto.into ∙ c.loop-number.auto.page ∙ c.requires) (ap (λ (r : Reading). r.head.page_size) loop.same) (log.reads tells);
     }
+
+pub returns-in_err-number-clause-within : goal.returns-in_err-number-clause-within
+returns-in_err-number-clause-within g c tells = ahead_ends _ _ _ _ _ (c.loop-number.invariant.ahead tells) _ (c.next.ensures.log.reads tells)
+
+pub returns-in_err-note-clause-within : goal.returns-in_err-note-clause-within
+returns-in_err-note-clause-within g c tells = ahead_ends _ _ _ _ _ (c.loop-number.invariant.ahead tells) _ (c.next.ensures.log.reads tells)
+
+pub returns-clause-within : goal.returns-clause-within
+returns-clause-within g c tells = ahead_ends _ _ _ _ _ (c.loop-number.invariant.ahead tells) _ (c.next.ensures.log.reads tells)

@@ -1,5 +1,6 @@
 use Rattle.std.proofs.Common.{◌≡◌, ◌-◌, IsTrue}
-use Rattle.nb_chain.proofs.Common.{most_pages, Quiet}
+use Rattle.nb_chain.proofs.Common.{most_pages, bytes_of, Quiet}
+use Rattle.nb_chain.proofs.MostLaws.{IsAhead}
 use Rattle.nb_chain.proofs.PageLaws.{SoFar}
 use Rattle.nb_chain.proofs.level_file.read_pages.Given as goal
 
@@ -10,6 +11,7 @@ invariant-loop-number g l = record {
   quiet : Quiet (g.H.Host.world l.fn.host) (g.H.Host.world l.host);
   cause : g.H.Host.faults l.host ≡ g.H.Host.faults l.fn.host;
   so_far : IsTrue g.H.Host.tells → SoFar ((g.H.Host.world l.fn.host).files l.fn.reader.name) l.fn.reader l.reader l.fn.overlay l.overlay (g.H.Host.world l.fn.host).reads (g.H.Host.world l.host).reads;
+  ahead : IsTrue g.H.Host.tells → IsAhead (bytes_of ((g.H.Host.world l.fn.host).files l.fn.reader.name)) l.fn.reader l.reader (g.H.Host.world l.fn.host).reads (g.H.Host.world l.host).reads;
 }
 
 -- numbers rise up to the most that a page may have

@@ -1,7 +1,18 @@
-use Rattle.std.proofs.Common.{◌≡◌, [], ◌∷◌, ◌++◌, ap, ◌∙◌, arith, length-append}
-use Rattle.nb_chain.proofs.Common.{Files, Numbered, Reading, quiet_call, quiet_joined}
+use Rattle.std.proofs.Common.{◌≡◌, [], ◌∷◌, ◌++◌, refl, sym, ap, ◌∙◌, arith, length-append}
+use Rattle.nb_chain.proofs.Common.{Files, Numbered, Reading, quiet_begun, quiet_call, quiet_joined}
+use Rattle.nb_level.proofs.ReadingLaws.{behind-none}
+use Rattle.nb_chain.proofs.MostLaws.{ahead_none, ahead_more, ahead_ends, there_is}
 use Rattle.nb_chain.proofs.PageLaws.{pages_more, gives_there}
 use Rattle.nb_chain.proofs.level_file.read_to_end.Goals as goal
+
+pub loop-init : goal.loop-init
+loop-init g c = record {
+  same = refl;
+  quiet = quiet_begun (g.H.Host.world c.args.host.now) (g.met.H.Host.timely _);
+  cause = refl;
+  so_far = λ tells. ([], sym (behind-none _), omega arith);
+  ahead = λ tells. ahead_none _ _ _;
+}
 
 pub loop-preserved : goal.loop-preserved
 loop-preserved g c =
@@ -22,4 +33,14 @@ loop-preserved g c =
                 (gives_there _ _ c.loop.reader c.next.new.self c.in_ok-next.field-0 c.next.new.into c.in-PageAt.field-0 g.H.Host.tells c.in-PageAt.is tells c.in_ok-next.ensures.answer (same ∙ named)),
             omega (arith, done.2, log.reads tells, length-append done.0 (page ∷ [])),
           );
+      ahead = λ tells.
+          ahead_more _ _ _ _ _ (loop.ahead tells) c.next.new.self c.in-PageAt.field-0 c.next.new.into _ _ _
+          (there_is _ _ c.loop.reader c.next.new.self c.in_ok-next.field-0 _ _ c.in-PageAt.field-0 c.next.new.into g.H.Host.tells c.in-PageAt.is tells c.in_ok-next.ensures.there (same ∙ named))
+          (c.next.auto.into ∙ c.loop.auto.page ∙ c.requires) (ap (λ (r : Reading). r.head.page_size) loop.same) (log.reads tells);
     }
+
+pub returns-in_err-next-clause-within : goal.returns-in_err-next-clause-within
+returns-in_err-next-clause-within g c tells = ahead_ends _ _ _ _ _ (c.loop.invariant.ahead tells) _ (c.next.ensures.log.reads tells)
+
+pub returns-clause-within : goal.returns-clause-within
+returns-clause-within g c tells = ahead_ends _ _ _ _ _ (c.loop.invariant.ahead tells) _ (c.next.ensures.log.reads tells)

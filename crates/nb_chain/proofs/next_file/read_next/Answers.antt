@@ -2,6 +2,7 @@ use Rattle.std.proofs.Common.{ℕ, List, take, ap, ◌∙◌, sym, subst, arith,
 use Rattle.nb_chain.proofs.Common.{Fault, File, Files, Tip, LevelSays, IsRead, NextSays, passed}
 use Rattle.nb_chain.proofs.StartLaws.{first_begins, first_number}
 use Rattle.nb_chain.proofs.AnswerLaws.{next_unmarked, next_unread_there, next_apart, next_is}
+use Rattle.nb_chain.proofs.MostLaws.{next_within}
 use Rattle.nb_chain.proofs.next_file.read_next.Goals as goal
 
 pub returns-then-not-begins_level-clause-answer : goal.returns-then-not-begins_level-clause-answer
@@ -48,3 +49,18 @@ returns-clause-answer g c tells =
     let is = subst (λ (f : File). IsRead f c.args.overlay.now c.read_level.new.overlay middle after c.in_ok-head.head) (ap (λ (f : Files). f c.args.name.now) c.read_start.ensures.quiet.still.files) (c.in_ok-head.ensures.answer tells) in
     next_is c.args.place c.args.last.now c.args.name.now c.args.overlay.now before file start.0 c.read_level.new.overlay middle after c.in_ok-head.head start.1 begins is
     c.of.result (c.in_ok-goes_on.ensures.test is.contents (sym is.named)) c.of.ensures.guid c.of.ensures.scn c.of.ensures.size (c.read_start.ensures.reads tells)
+
+pub returns-in_err-start-clause-within : goal.returns-in_err-start-clause-within
+returns-in_err-start-clause-within g c tells = omega (arith, c.in_err-start.ensures.reads tells)
+
+pub returns-then-not-begins_level-clause-within : goal.returns-then-not-begins_level-clause-within
+returns-then-not-begins_level-clause-within g c tells = omega (arith, c.read_start.ensures.reads tells)
+
+pub returns-in_err-head-clause-within : goal.returns-in_err-head-clause-within
+returns-in_err-head-clause-within g c tells = next_within _ _ _ _ _ _ c.read_start.ensures.quiet.still.files (c.read_start.ensures.reads tells) (c.read_level.ensures.within tells)
+
+pub returns-in_err-goes_on-clause-within : goal.returns-in_err-goes_on-clause-within
+returns-in_err-goes_on-clause-within g c tells = next_within _ _ _ _ _ _ c.read_start.ensures.quiet.still.files (c.read_start.ensures.reads tells) (c.read_level.ensures.within tells)
+
+pub returns-clause-within : goal.returns-clause-within
+returns-clause-within g c tells = next_within _ _ _ _ _ _ c.read_start.ensures.quiet.still.files (c.read_start.ensures.reads tells) (c.read_level.ensures.within tells)

@@ -1,6 +1,6 @@
 use Rattle.std.proofs.Common.{ℕ, List, take, arith, sym, ◌∙◌}
 use Rattle.nb_level.proofs.Common.{bytes_of}
-use Rattle.nb_level.proofs.StartLaws.{start-broken, start-begun, front_whole}
+use Rattle.nb_level.proofs.StartLaws.{start-broken, start-begun, start-first, front_whole}
 use Rattle.nb_level.proofs.start.open.Goals as goal
 
 pub returns-in-Some-clause-answer : goal.returns-in-Some-clause-answer
@@ -19,3 +19,8 @@ returns-in_ok-reader-in-None-clause-answer g c =
           let whole = front_whole c.in_ok-got.got 52 c.read_at.new.into (omega arith) c.in-None.ensures.form.0 in
           start-begun bytes seen c.read_at.new.into c.args.name.now c.in_ok-reader-in-None.reader read (sym whole ∙ read) c.in-None.ensures.place begun,
     )
+
+pub returns-in_ok-reader-in-None-clause-first : goal.returns-in_ok-reader-in-None-clause-first
+returns-in_ok-reader-in-None-clause-first g c told =
+    let whole = front_whole c.in_ok-got.got 52 c.read_at.new.into (omega arith) c.in-None.ensures.form.0 in
+    start-first _ c.read_at.new.into c.args.name.now c.in_ok-reader-in-None.reader (sym whole ∙ (c.in_ok-got.ensures.answer told).bytes) c.in_ok-reader-in-None.ensures

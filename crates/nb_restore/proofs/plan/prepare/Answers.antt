@@ -1,7 +1,12 @@
-use Rattle.std.proofs.Common.{◌≡◌, length, refl, sym, ap, subst, ◌∙◌, arith, Err}
+use Rattle.std.proofs.Common.{◌≡◌, ◌+◌, length, refl, sym, ap, subst, ◌∙◌, arith, Err}
 use Rattle.nb_restore.proofs.Common.{with_items_is, split, first_page, IsDone, PlanSays, IsUnfinishedPage, passed}
 use Rattle.std.specs.Vec.{with_items}
 use Rattle.nb_restore.proofs.PreparedLaws.{given_fails, done_fails, behind_now, page_0_of, prepared}
+use Rattle.nb_chain.specs.Most.{RefusedReads, chain_most}
+use Rattle.nb_chain.specs.declared.checking.Chain.{Chain}
+use Rattle.nb_restore.specs.declared.plan.Plan.{Plan}
+use Rattle.nb_chain.proofs.MostLaws.{refused_as}
+use Rattle.nb_restore.proofs.RefusedLaws.{done_refuses, given_refuses}
 use Rattle.nb_restore.proofs.plan.prepare.Goals as goal
 
 pub returns-in_err-readers-clause-answer : goal.returns-in_err-readers-clause-answer
@@ -33,3 +38,23 @@ returns-clause-answer g c tells =
     _ _ c.in_ok-readers.readers _ (ap length page ∙ omega (arith, c.read_page_0.auto.page, ap length c.deref_mut-2.ensures.value, c.in_ok-page.ensures.len, c.in_ok-page.page.ok.0)) chain.quiet.still.files
     (c.in_ok-readers.ensures.ready tells c.args.target.now _ (behind_now _ _ _ _ (chain.answer tells) c.index-files-0.result _ named c.in_ok-chain.chain.first (chain.first tells) chain.form chain.least chain.pages _ _ chain.quiet.still.files refl))
     (start ∙ read.0, subst IsUnfinishedPage (sym page) read.1)
+
+pub returns-in_err-chain-clause-refused : goal.returns-in_err-chain-clause-refused
+returns-in_err-chain-clause-refused g c tells =
+    passed _ (λ r. RefusedReads r (g.H.Host.world c.args.host.now).reads (1 + chain_most (g.H.Host.world c.args.host.now).files c.args.files.now) (g.H.Host.world c.accept.new.host).reads) c.from_residual.result c.in_err-chain.field-0.0 c.from_residual.ensures
+    (refused_as Chain Plan _ _ _ _ (c.in_err-chain.ensures.refused tells))
+
+pub returns-in_err-readers-clause-refused : goal.returns-in_err-readers-clause-refused
+returns-in_err-readers-clause-refused g c tells =
+    let chain = c.in_ok-chain.ensures in
+    passed _ (λ r. RefusedReads r (g.H.Host.world c.args.host.now).reads (1 + chain_most (g.H.Host.world c.args.host.now).files c.args.files.now) (g.H.Host.world c.start_readers.new.host).reads) c.from_residual-in_err-readers.result c.in_err-readers.field-0.0 c.from_residual-in_err-readers.ensures
+    (given_refuses _ Plan _ c.in_err-readers.field-0.0 _ _ _ (c.in_err-readers.ensures.ready tells c.args.target.now _
+    (behind_now _ _ _ _ (chain.answer tells) c.index-files-0.result _ (split c.args.files.now c.index-files-0.result c.requires.some c.index-files-0.is) c.in_ok-chain.chain.first (chain.first tells) chain.form chain.least chain.pages _ _ chain.quiet.still.files refl)))
+
+pub returns-in_err-read_page_0-clause-refused : goal.returns-in_err-read_page_0-clause-refused
+returns-in_err-read_page_0-clause-refused g c tells =
+    let chain = c.in_ok-chain.ensures in
+    passed _ (λ r. RefusedReads r (g.H.Host.world c.args.host.now).reads (1 + chain_most (g.H.Host.world c.args.host.now).files c.args.files.now) (g.H.Host.world c.read_page_0.new.host).reads) c.from_residual-in_err-read_page_0.result c.in_err-read_page_0.field-0.0 c.from_residual-in_err-read_page_0.ensures
+    (done_refuses (Unit {0}) Plan _ c.in_err-read_page_0.field-0.0 _ _ _
+    (page_0_of _ _ _ _ (chain.answer tells) c.index-files-0.result _ (split c.args.files.now c.index-files-0.result c.requires.some c.index-files-0.is) c.in_ok-chain.chain.first (chain.first tells) chain.form chain.least chain.pages
+    (λ ps. IsDone {T = Unit {0}} (Err c.in_err-read_page_0.field-0.0) ((c.read_page_0.new.first ≡ first_page ps) × IsUnfinishedPage c.read_page_0.new.page)) _ _ _ (c.in_ok-readers.ensures.quiet.still.files ∙ chain.quiet.still.files) refl (omega (arith, ap length c.deref_mut.ensures.value, c.in_ok-first.ensures.len, c.in_ok-first.first.ok.0)) (c.in_err-read_page_0.ensures.answer tells)))

@@ -1,5 +1,10 @@
 use Rattle.nb_restore.proofs.Common.{Restores, passed}
 use Rattle.nb_restore.proofs.RestoreLaws.{not_prepared, plan_for, restore_fails, restore_done}
+use Rattle.std.proofs.Common.{ℕ, ◌+◌}
+use Rattle.nb_chain.specs.Most.{RefusedReads, chain_most}
+use Rattle.nb_restore.specs.declared.plan.Plan.{Plan}
+use Rattle.nb_chain.proofs.MostLaws.{refused_as}
+use Rattle.nb_restore.proofs.RefusedLaws.{done_refuses}
 use Rattle.nb_restore.proofs.restoring.restore.Goals as goal
 
 pub returns-in_err-count-clause-restores : goal.returns-in_err-count-clause-restores
@@ -22,3 +27,15 @@ returns-clause-restores g c tells =
     let write = c.in_ok-write_target.ensures in
     let plan = plan_for _ _ (g.H.Host.world c.write_target.new.host) _ _ c.in_ok-count.field-0 prepare.quiet (prepare.answer tells) c.index-files-0.result c.deref_mut.result.now c.deref_mut-2.result.now c.index-files-0.is c.deref_mut.ensures.value c.deref_mut-2.ensures.value in
     restore_done _ _ _ _ _ c.in_ok-count.field-0 prepare.quiet (prepare.answer tells) (write.done tells _ _ plan) (write.left tells _ _ plan) (write.reads tells _ _ plan) write.gave
+
+pub returns-in_err-count-clause-refused : goal.returns-in_err-count-clause-refused
+returns-in_err-count-clause-refused g c tells =
+    passed _ (λ r. RefusedReads r (g.H.Host.world c.args.host.now).reads (1 + chain_most (g.H.Host.world c.args.host.now).files c.args.files.now) (g.H.Host.world c.prepare.new.host).reads) c.from_residual-in_err-count.result c.in_err-count.field-0.0 c.from_residual-in_err-count.ensures
+    (refused_as Plan ℕ _ _ _ _ (c.in_err-count.ensures.refused tells))
+
+pub returns-in_err-write_target-clause-refused : goal.returns-in_err-write_target-clause-refused
+returns-in_err-write_target-clause-refused g c tells =
+    let prepare = c.in_ok-count.ensures in
+    let plan = plan_for _ _ (g.H.Host.world c.write_target.new.host) _ _ c.in_ok-count.field-0 prepare.quiet (prepare.answer tells) c.index-files-0.result c.deref_mut.result.now c.deref_mut-2.result.now c.index-files-0.is c.deref_mut.ensures.value c.deref_mut-2.ensures.value in
+    passed _ (λ r. RefusedReads r (g.H.Host.world c.args.host.now).reads (1 + chain_most (g.H.Host.world c.args.host.now).files c.args.files.now) (g.H.Host.world c.write_target.new.host).reads) c.from_residual-in_err-write_target.result c.in_err-write_target.field-0.0 c.from_residual-in_err-write_target.ensures
+    (done_refuses (Unit {0}) ℕ _ c.in_err-write_target.field-0.0 _ _ _ (c.in_err-write_target.ensures.done tells _ _ plan))

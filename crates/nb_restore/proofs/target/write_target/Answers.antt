@@ -1,5 +1,5 @@
 use Rattle.std.proofs.Common.{inl, inr, ⊎_elim, length, refl}
-use Rattle.nb_restore.proofs.Common.{reads_has, IsDone, OverwritesAll, KeepsImage, restored, passed}
+use Rattle.nb_restore.proofs.Common.{reads_has, IsDone, OverwritesAll, KeepsWhole, restored, passed}
 use Rattle.nb_restore.proofs.FrontLaws.{front_joined}
 use Rattle.nb_restore.proofs.LevelLaws.{fails_alike}
 use Rattle.nb_restore.proofs.WholeLaws.{part_since, since_left, level_0_there, readers_ready, written_by, all_since, all_kept}
@@ -20,7 +20,7 @@ returns-in_err-copy_pages-clause-reads g c tells ps links plan =
 pub returns-in_err-copy_pages-clause-done : goal.returns-in_err-copy_pages-clause-done
 returns-in_err-copy_pages-clause-done g c tells ps links plan =
     let begin = c.in_ok-begin.ensures in
-    passed _ (λ r. IsDone r (KeepsImage (g.H.Host.world c.copy_pages.new.host) c.args.target.now (restored ps links))) c.from_residual-in_err-copy_pages.result c.in_err-copy_pages.field-0.0 c.from_residual-in_err-copy_pages.ensures
+    passed _ (λ r. IsDone r (KeepsWhole (g.H.Host.world c.copy_pages.new.host) c.args.target.now (restored ps links))) c.from_residual-in_err-copy_pages.result c.in_err-copy_pages.field-0.0 c.from_residual-in_err-copy_pages.ensures
     (fails_alike (Unit {0}) (Unit {0}) c.in_err-copy_pages.field-0.0 _ _
     (c.in_err-copy_pages.ensures.pages tells ps c.args.page.now plan.whole.apart
     (level_0_there _ _ _ _ _ _ _ _ ps links plan c.requires.size (begin.left tells) (begin.begun tells)) plan.whole.sizes plan.whole.long (begin.begun tells).reads))
@@ -36,7 +36,7 @@ returns-in_err-write_levels-clause-reads g c tells ps links plan =
 
 pub returns-in_err-write_levels-clause-done : goal.returns-in_err-write_levels-clause-done
 returns-in_err-write_levels-clause-done g c tells ps links plan =
-    passed _ (λ r. IsDone r (KeepsImage (g.H.Host.world c.write_levels.new.host) c.args.target.now (restored ps links))) c.from_residual-in_err-write_levels.result c.in_err-write_levels.field-0.0 c.from_residual-in_err-write_levels.ensures
+    passed _ (λ r. IsDone r (KeepsWhole (g.H.Host.world c.write_levels.new.host) c.args.target.now (restored ps links))) c.from_residual-in_err-write_levels.result c.in_err-write_levels.field-0.0 c.from_residual-in_err-write_levels.ensures
     (fails_alike (Unit {0}) (Unit {0}) c.in_err-write_levels.field-0.0
     (OverwritesAll (length c.args.page.now) links ((g.H.Host.world c.copy_pages.new.host).files c.args.target.now) ((g.H.Host.world c.write_levels.new.host).files c.args.target.now) c.args.first.now c.write_levels.new.first) _
     (c.in_err-write_levels.ensures.pages tells links
