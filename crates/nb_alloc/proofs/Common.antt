@@ -6,7 +6,7 @@ pub use Rattle.nb_alloc.specs.Make.{GoesOn, IsOnward, IsSupplied, IsWell, behind
 pub use Rattle.nb_alloc.specs.Mark.{bit_for, bit_stroke, mark_cause, mark_stroke, mark_strokes}
 pub use Rattle.nb_alloc.specs.Put.{Reads, entry_cause, must_raise, not_taken, put_stroke, raise_stroke, raise_strokes}
 pub use Rattle.nb_alloc.specs.Search.{AtKnown, AtPlace, EndsBy, Finds, GoesTo, IsSearchable, IsShort, Refuses, Searches}
-pub use Rattle.nb_alloc.specs.Tries.{StopsBehind, Tries}
+pub use Rattle.nb_alloc.specs.Tries.{StopsBehind, StopsShort, Tries, WhereMemory}
 pub use Rattle.nb_alloc.specs.Way.{way_cause}
 pub use Rattle.nb_alloc.specs.declared.behind.Behind.{Behind}
 pub use Rattle.nb_base.proofs.AttachLaws.{applies, first_here, first_next}

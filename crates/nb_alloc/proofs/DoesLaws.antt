@@ -1,9 +1,10 @@
 -- What a call does that may be refused before its strokes, and what it does of its turn.
-use Rattle.std.proofs.Common.{◌≡◌, List, [], ◌++◌, refl, sym, ap, subst, ◌∙◌, false, Some, None, Result, Ok, Err, OnOk, IfOk, IfErr, IsErr, IsErrAnd}
-use Rattle.nb_alloc.proofs.Common.{World, Fault, Device, Memory, Refusal, Quiet, quiet_joined, Reply, Base, Stroke, Trail, Cause, Seen, Outcome, says, unless, after_strokes, IsNoRefusal, Held, IsOpen, but_pages, Tested, Answers, WhereEnded, only_tells, unless_by, Makes, Does, passed_on, makes_none, makes_not, makes_then, makes_front, makes_before, makes_after, Tries, none_there, unless_none}
+use Rattle.std.proofs.Common.{◌≡◌, List, [], ◌++◌, refl, sym, ap, subst, ◌∙◌, false, Some, None, Result, Ok, Err, OnOk, IfOk, IfErr, IsErr, IsErrAnd, ◌≢◌}
+use Rattle.nb_alloc.proofs.Common.{World, Fault, Device, Memory, Refusal, Quiet, quiet_joined, Reply, Base, Stroke, Trail, Cause, Seen, Outcome, says, unless, after_strokes, IsNoRefusal, Held, IsOpen, but_pages, Tested, Answers, WhereEnded, only_tells, unless_by, Makes, Does, passed_on, makes_none, makes_not, makes_then, makes_front, makes_before, makes_after, Tries, StopsShort, WhereMemory, none_there, unless_none}
 use Rattle.nb_host.specs.declared.faults.Fault.TheVariants.{Refused as RefusedFault}
 use Rattle.nb_model.specs.declared.reply.Reply.TheVariants.{Refused}
 use Rattle.nb_alloc.proofs.CauseLaws.{told_some}
+use Rattle.nb_alloc.proofs.WantLaws.{not_wanted, wanted_so, wanted_as, short_front, short_then, short_after}
 
 pub unless_some : (cause : Cause) (xs : List Stroke) (r : Refusal) → cause ≡ Some r → unless_by cause xs ≡ []
 unless_some cause xs r some = ap (λ (c : Cause). unless_by c xs) some
@@ -70,6 +71,7 @@ tries_other S T fault old new a b t cause xs tries = record {
   test = tested_as S T fault cause cause (λ r e. e) tries.test;
   makes = makes_as S T fault old new a b t (unless_by cause xs) tries.makes;
   idle = tries.idle;
+  stops = wanted_as S T fault (StopsShort old new a b t (unless_by cause xs)) tries.stops;
 }
 
 -- and so is a call that answers by what another has answered
@@ -77,35 +79,37 @@ pub makes_valued : {S T : Type 0} (v : S) (w : T) (old new : World) (a b : Held)
 makes_valued v w old new a b t xs makes = record { left = makes.left; opened = makes.opened; goes = makes.goes; gave = makes.gave }
 
 pub tries_valued : {S T : Type 0} (v : S) (w : T) (old new : World) (a b : Held) (t : Trail) (cause : Cause) (xs : List Stroke) → Tries (Ok v) old new a b t cause xs → Tries (Ok w) old new a b t cause xs
-tries_valued v w old new a b t cause xs tries = record { test = tries.test; makes = makes_valued v w old new a b t (unless_by cause xs) tries.makes; idle = tries.idle }
+tries_valued v w old new a b t cause xs tries = record { test = tries.test; makes = makes_valued v w old new a b t (unless_by cause xs) tries.makes; idle = tries.idle; stops = tt }
 
--- a test ended the call before any stroke
-pub tries_failed : (T : Type 0) (fault : Fault) (old new : World) (a b : Held) (t : Trail) (cause : Cause) (xs : List Stroke) → Tested {T = T} (Err fault) cause → but_pages b ≡ but_pages a → Quiet old new → IsOpen old a t → IsOpen new b t
+-- a test that wants no memory ended the call before any stroke
+pub tries_failed : (T : Type 0) (fault : Fault) (old new : World) (a b : Held) (t : Trail) (cause : Cause) (xs : List Stroke) → fault ≢ Memory → Tested {T = T} (Err fault) cause → but_pages b ≡ but_pages a → Quiet old new → IsOpen old a t → IsOpen new b t
     → Tries {T = T} (Err fault) old new a b t cause xs
-tries_failed T (RefusedFault r) old new a b t cause xs tested same quiet is opened = record {
+tries_failed T (RefusedFault r) old new a b t cause xs none tested same quiet is opened = record {
   test = tested;
   makes = subst (λ (ss : List Stroke). Makes {T = T} (Err (RefusedFault r)) old new a b t ss) (sym (unless_some cause xs r tested)) (makes_none (Err (RefusedFault r)) old new a b t same quiet is opened);
   idle = λ q some. quiet;
+  stops = tt;
 }
-tries_failed T Device old new a b t cause xs tested same quiet is opened = record { test = tt; makes = makes_not T Device old new a b t (unless_by cause xs) tt same quiet is; idle = λ q some. quiet }
-tries_failed T Memory old new a b t cause xs tested same quiet is opened = record { test = tt; makes = makes_not T Memory old new a b t (unless_by cause xs) tt same quiet is; idle = λ q some. quiet }
+tries_failed T Device old new a b t cause xs none tested same quiet is opened = record { test = tt; makes = makes_not T Device old new a b t (unless_by cause xs) tt same quiet is; idle = λ q some. quiet; stops = tt }
+tries_failed T Memory old new a b t cause xs none tested same quiet is opened = absurd (none refl)
 
 -- the same where `?` passes the fault on
 pub tries_passed : {T : Type 0} (result : Result T Fault) (fault : Fault) (P : Result T Fault → Type 0) → IsErr result × IsErrAnd result (λ f. f ≡ fault) → P (Err fault) → P result
 tries_passed result fault P passed is = subst P (sym (passed_on result fault passed)) is
 
-pub tries_early : (S T : Type 0) (result : Result T Fault) (fault : Fault) (old new : World) (a b : Held) (t : Trail) (found cause : Cause) (xs : List Stroke) → IsErr result × IsErrAnd result (λ f. f ≡ fault)
+pub tries_early : (S T : Type 0) (result : Result T Fault) (fault : Fault) (old new : World) (a b : Held) (t : Trail) (found cause : Cause) (xs : List Stroke) → IsErr result × IsErrAnd result (λ f. f ≡ fault) → fault ≢ Memory
     → ((r : Refusal) → found ≡ Some r → cause ≡ Some r) → Tested {T = S} (Err fault) found → but_pages b ≡ but_pages a → Quiet old new → IsOpen old a t → IsOpen new b t → Tries result old new a b t cause xs
-tries_early S T result fault old new a b t found cause xs passed are tested same quiet is opened =
-    tries_passed result fault (λ r. Tries r old new a b t cause xs) passed (tries_failed T fault old new a b t cause xs (tested_as S T fault found cause are tested) same quiet is opened)
+tries_early S T result fault old new a b t found cause xs passed none are tested same quiet is opened =
+    tries_passed result fault (λ r. Tries r old new a b t cause xs) passed (tries_failed T fault old new a b t cause xs none (tested_as S T fault found cause are tested) same quiet is opened)
 
 -- no cause applies, and the strokes are made
 pub tries_made : {T : Type 0} (result : Result T Fault) (old new : World) (a b : Held) (t : Trail) (cause : Cause) (xs : List Stroke) → cause ≡ None → IfErr result IsNoRefusal → Makes result old new a b t xs
-    → Tries result old new a b t cause xs
-tries_made result old new a b t cause xs none never makes = record {
+    → WhereMemory result (StopsShort old new a b t xs) → Tries result old new a b t cause xs
+tries_made result old new a b t cause xs none never makes stops = record {
   test = tested_none result cause none never;
   makes = subst (λ (ss : List Stroke). Makes result old new a b t ss) (sym (unless_none cause xs none)) makes;
   idle = λ r some. absurd (none_there (sym none ∙ some));
+  stops = subst (λ (ss : List Stroke). WhereMemory result (StopsShort old new a b t ss)) (sym (unless_none cause xs none)) stops;
 }
 
 -- what is open after the strokes
@@ -114,10 +118,11 @@ tries_opened value old new a b t cause xs tries = subst (λ (ss : List Stroke). 
 
 -- more strokes follow
 pub tries_then : {S T : Type 0} (value : S) (result : Result T Fault) (old mid new : World) (a b c : Held) (t : Trail) (cause : Cause) (xs ys : List Stroke) → Tries (Ok value) old mid a b t cause xs
-    → IfErr result IsNoRefusal → Makes result mid new b c (after_strokes t xs) ys → Tries result old new a c t cause (xs ++ ys)
-tries_then value result old mid new a b c t cause xs ys first never second =
-    tries_made result old new a c t cause (xs ++ ys) first.test never
-    (makes_then value result old mid new a b c t xs ys (subst (λ (ss : List Stroke). Makes (Ok value) old mid a b t ss) (unless_none cause xs first.test) first.makes) second)
+    → IfErr result IsNoRefusal → Makes result mid new b c (after_strokes t xs) ys → WhereMemory result (StopsShort mid new b c (after_strokes t xs) ys) → Tries result old new a c t cause (xs ++ ys)
+tries_then value result old mid new a b c t cause xs ys first never second stops =
+    let made = subst (λ (ss : List Stroke). Makes (Ok value) old mid a b t ss) (unless_none cause xs first.test) first.makes in
+    tries_made result old new a c t cause (xs ++ ys) first.test never (makes_then value result old mid new a b c t xs ys made second)
+    (wanted_so result (StopsShort mid new b c (after_strokes t xs) ys) (StopsShort old new a c t (xs ++ ys)) (short_then value old mid new a b c t xs ys made) stops)
 
 -- or would have followed, but the first ended the call
 pub tries_front : (S T : Type 0) (fault : Fault) (old new : World) (a b : Held) (t : Trail) (cause : Cause) (xs ys : List Stroke) → Tries {T = S} (Err fault) old new a b t cause xs
@@ -128,6 +133,10 @@ tries_front S T fault old new a b t cause xs ys first = by fault first
     failed f None fails makes = makes_front S T f old new a b t xs ys fails makes
     failed f (Some r) fails makes = makes_front S T f old new a b t [] [] fails makes
 
+    stopped : (c : Cause) → StopsShort old new a b t (unless_by c xs) → StopsShort old new a b t (unless_by c (xs ++ ys))
+    stopped None stops = short_front old new a b t xs ys stops
+    stopped (Some r) stops = stops
+
     by : (f : Fault) → Tries {T = S} (Err f) old new a b t cause xs → Tries {T = T} (Err f) old new a b t cause (xs ++ ys)
     by (RefusedFault r) first =
         let none : unless_by cause xs ≡ unless_by cause (xs ++ ys) = unless_some cause xs r first.test ∙ sym (unless_some cause (xs ++ ys) r first.test) in
@@ -136,9 +145,10 @@ tries_front S T fault old new a b t cause xs ys first = by fault first
           makes = subst (λ (ss : List Stroke). Makes {T = T} (Err (RefusedFault r)) old new a b t ss) none
               (record { left = first.makes.left; opened = first.makes.opened; goes = first.makes.goes; gave = first.makes.gave });
           idle = first.idle;
+          stops = tt;
         }
-    by Device first = record { test = tt; makes = failed Device cause tt first.makes; idle = first.idle }
-    by Memory first = record { test = tt; makes = failed Memory cause tt first.makes; idle = first.idle }
+    by Device first = record { test = tt; makes = failed Device cause tt first.makes; idle = first.idle; stops = tt }
+    by Memory first = record { test = tt; makes = failed Memory cause tt first.makes; idle = first.idle; stops = stopped cause first.stops }
 
 -- the same where `?` passes the fault of the last call on
 pub tries_on : (S T : Type 0) (result : Result T Fault) (fault : Fault) (old new : World) (a b : Held) (t : Trail) (cause : Cause) (xs : List Stroke) → IsErr result × IsErrAnd result (λ f. f ≡ fault)
@@ -148,13 +158,13 @@ tries_on S T result fault old new a b t cause xs passed tries = tries_passed res
 -- Another call follows, and no cause applies to either.
 pub tries_next : {S T : Type 0} (value : S) (result : Result T Fault) (old mid new : World) (a b c : Held) (t : Trail) (xs ys : List Stroke) → Tries (Ok value) old mid a b t None xs
     → Tries result mid new b c (after_strokes t xs) None ys → Tries result old new a c t None (xs ++ ys)
-tries_next value result old mid new a b c t xs ys first second = tries_then value result old mid new a b c t None xs ys first (sure_of result None refl second.test) second.makes
+tries_next value result old mid new a b c t xs ys first second = tries_then value result old mid new a b c t None xs ys first (sure_of result None refl second.test) second.makes second.stops
 
--- or calls that change nothing, and aren't refused
+-- or calls that change nothing, aren't refused and want no memory
 pub tries_before : {S T : Type 0} (value : S) (result : Result T Fault) (old mid new : World) (a b c : Held) (t : Trail) (xs : List Stroke) → Tries (Ok value) old mid a b t None xs
-    → but_pages c ≡ but_pages b → Quiet mid new → ((u : Trail) → IsOpen mid b u → IsOpen new c u) → IfErr result IsNoRefusal → Tries result old new a c t None xs
-tries_before value result old mid new a b c t xs first still quiet opens sure =
-    tries_made result old new a c t None xs refl sure (makes_before value result old mid new a b c t xs first.makes still quiet opens)
+    → but_pages c ≡ but_pages b → Quiet mid new → ((u : Trail) → IsOpen mid b u → IsOpen new c u) → IfErr result IsNoRefusal → IfErr result (λ f. f ≢ Memory) → Tries result old new a c t None xs
+tries_before value result old mid new a b c t xs first still quiet opens sure none =
+    tries_made result old new a c t None xs refl sure (makes_before value result old mid new a b c t xs first.makes still quiet opens) (not_wanted result (StopsShort old new a c t xs) none)
 
 -- calls that change nothing before it
 pub tries_after : {T : Type 0} (result : Result T Fault) (old mid new : World) (a b c : Held) (t : Trail) (cause : Cause) (xs : List Stroke) → but_pages b ≡ but_pages a → Quiet old mid → IsOpen old a t → Tries result mid new b c t cause xs
@@ -163,6 +173,7 @@ tries_after result old mid new a b c t cause xs same quiet is tries = record {
   test = tries.test;
   makes = makes_after result old mid new a b c t (unless_by cause xs) same quiet is tries.makes;
   idle = λ r some. quiet_joined old mid new quiet (tries.idle r some);
+  stops = wanted_so result (StopsShort mid new b c t (unless_by cause xs)) (StopsShort old new a c t (unless_by cause xs)) (short_after old mid new a b c t (unless_by cause xs) same quiet is) tries.stops;
 }
 
 -- the same strokes, where no cause applies
@@ -172,6 +183,7 @@ tries_these result old new a b t cause xs ys same tries = record {
   test = tries.test;
   makes = subst (λ (ss : List Stroke). Makes result old new a b t ss) (unless_same cause xs ys same) tries.makes;
   idle = tries.idle;
+  stops = subst (λ (ss : List Stroke). WhereMemory result (StopsShort old new a b t ss)) (unless_same cause xs ys same) tries.stops;
 }
 
 -- the strokes and the reply of a turn that is refused where there is a cause
@@ -197,6 +209,13 @@ tries_does reply result old new a b t s turn cause said not_told xs same e is tr
       makes = subst (λ (ss : List Stroke). Makes result old new a b t ss) (strokes_are (seeing s t.base) cause said xs) tries.makes;
       idle = λ told. let some = told_some (seeing s t.base) cause (says (seeing s t.base) said xs) not_told told in tries.idle some.0 some.1;
     }))
+
+-- and where it answers Memory, it has stopped before the last stroke of the turn
+pub tries_stops : {T : Type 0} (result : Result T Fault) (old new : World) (a b : Held) (t : Trail) (s : Seen) (turn : Seen → Outcome) (cause : Cause) (said : Reply) (xs : List Stroke)
+    → t.base ≡ s.base → turn (seeing s t.base) ≡ unless (seeing s t.base) cause (says (seeing s t.base) said xs) → Tries result old new a b t cause xs → WhereMemory result (StopsShort old new a b t (turn s).strokes)
+tries_stops result old new a b t s turn cause said xs same e tries =
+    subst (λ (x : Base). WhereMemory result (StopsShort old new a b t (turn (seeing s x)).strokes)) same
+    (subst (λ (ss : List Stroke). WhereMemory result (StopsShort old new a b t ss)) (strokes_are (seeing s t.base) cause said xs ∙ ap (λ (o : Outcome). o.strokes) (sym e)) tries.stops)
 
 -- calls that change nothing do a turn that says this and has no stroke
 pub valued_does : {T : Type 0} (reply : T → Reply) (value : T) (old new : World) (a b : Held) (t : Trail) (s : Seen) (turn : Seen → Outcome) → t.base ≡ s.base → but_pages b ≡ but_pages a → Quiet old new → IsOpen old a t → IsOpen new b t

@@ -1,6 +1,6 @@
 -- Making a page: its strokes and what they leave, and what is never refused where the inventories agree with the pages.
 use Rattle.std.proofs.Common.{◌≡◌, ◌≢◌, ℕ, ◌+◌, ◌-◌, ◌/◌, ◌<◌, ◌≤◌, List, [], ◌∷◌, ◌++◌, length, take, drop, replicate, refl, sym, ap, subst, ◌∙◌, arith, Bool, true, false, not, IsTrue, None, Result, Ok, IsErr, IsErrAnd, IfErr, max}
-use Rattle.nb_alloc.proofs.Common.{inventory_kind, size_of, is_page_size, bits_in, entries_in, inventory_place, is_inventory_place, is_scn_place, inventory_payload, scn_payload, SizeFacts, size_facts, padded_whole, kind_of, stamped, with_payload, World, Fault, Device, NotDatabase, Quiet, stamped-with_payload, Page, Image, page_at, image_size, image_scn, Base, Stroke, page, on_base, base_after, merged_page, Trail, Draft, drafted, old_page, put, inventory_of, has_entry, scn_page_of, is_kind, system_kind, system_payload, system_page, Cause, when, not_kind, base_after-append, stroke_page, stroke_other, with_page_length, inventory_there, inventory_place_some, scn_page_there, inventory_before, places_apart, lt_no, kind_parts, after_strokes, IsNoRefusal, Held, IsOpen, but_pages, Makes, unless_by, makes_not, Tries, entry_cause, must_raise, raise_strokes, mark_cause, IsMap, IsWell, page_strokes, system_strokes, system_cause, first_next, scn_place-some, is_so, no_cause}
+use Rattle.nb_alloc.proofs.Common.{inventory_kind, size_of, is_page_size, bits_in, entries_in, inventory_place, is_inventory_place, is_scn_place, inventory_payload, scn_payload, SizeFacts, size_facts, padded_whole, kind_of, stamped, with_payload, World, Fault, Device, NotDatabase, Quiet, stamped-with_payload, Page, Image, page_at, image_size, image_scn, Base, Stroke, page, on_base, base_after, merged_page, Trail, Draft, drafted, old_page, put, inventory_of, has_entry, scn_page_of, is_kind, system_kind, system_payload, system_page, Cause, when, not_kind, base_after-append, stroke_page, stroke_other, with_page_length, inventory_there, inventory_place_some, scn_page_there, inventory_before, places_apart, lt_no, kind_parts, after_strokes, IsNoRefusal, Held, IsOpen, but_pages, Makes, unless_by, makes_not, StopsShort, Tries, WhereMemory, entry_cause, must_raise, raise_strokes, mark_cause, IsMap, IsWell, page_strokes, system_strokes, system_cause, first_next, scn_place-some, is_so, no_cause}
 use Rattle.nb_model.proofs.PutSound.{IsPlace}
 use Rattle.nb_model.proofs.FreshSound.{inventory_length, scn_length}
 use Rattle.nb_model.proofs.FitLaws.{IsWhole}
@@ -8,6 +8,7 @@ use Rattle.nb_model.proofs.RoundLaws as rounds
 use Rattle.nb_alloc.proofs.DoesLaws.{tries_opened, tries_passed, tries_then}
 use Rattle.nb_alloc.proofs.PutLaws.{stroke_long, may_raise, raised_once, raised_not, no_entry_cause, entry_cause-is}
 use Rattle.nb_alloc.proofs.PageLaws.{makes_one}
+use Rattle.nb_alloc.proofs.WantLaws.{Stays, short_first, wanted_so}
 use Rattle.nb_alloc.proofs.TestLaws.{kind_is}
 
 -- its image as the model's laws see it
@@ -39,7 +40,7 @@ map_apart x p q size at e = places_apart (image_size x) q size at (ap (is_scn_pl
 -- a read failed before any stroke, and `?` passed it on
 pub tries_fault : {T : Type 0} (result : Result T Fault) (old new : World) (a b : Held) (t : Trail) (cause : Cause) (xs : List Stroke) → IsErr result × IsErrAnd result (λ f. f ≡ Device) → but_pages b ≡ but_pages a → Quiet old new → IsOpen old a t
     → Tries result old new a b t cause xs
-tries_fault {T} result old new a b t cause xs passed same quiet is = tries_passed result Device (λ r. Tries r old new a b t cause xs) passed (record { test = tt; makes = makes_not T Device old new a b t (unless_by cause xs) tt same quiet is; idle = λ r some. quiet })
+tries_fault {T} result old new a b t cause xs passed same quiet is = tries_passed result Device (λ r. Tries r old new a b t cause xs) passed (record { test = tt; makes = makes_not T Device old new a b t (unless_by cause xs) tt same quiet is; idle = λ r some. quiet; stops = tt })
 
 -- cause and strokes by other names
 pub tries_named : {T : Type 0} (result : Result T Fault) (old new : World) (a b : Held) (t : Trail) (cause other : Cause) (xs ys : List Stroke) → cause ≡ other → xs ≡ ys → Tries result old new a b t cause xs
@@ -69,12 +70,15 @@ raise_alone b p none = by (must_raise b.image p) refl
 pub put_then : {T : Type 0} (result : Result T Fault) (old mid new : World) (a b c : Held) (t : Trail) (p : ℕ) (written bytes : Page)
     → Tries {T = Unit {0}} (Ok tt) old mid a b t (entry_cause t.base.image p) (raise_strokes t.base.image p) → written ≡ bytes → IfErr result IsNoRefusal
     → ((u : Trail) → IsOpen mid b u → Makes result mid new b c u (page p written ∷ []))
+    → ((u : Trail) → IsOpen mid b u → WhereMemory result (Stays mid new b c u))
     → Tries result old new a c t (entry_cause t.base.image p) (raise_strokes t.base.image p ++ page p bytes ∷ [])
-put_then result old mid new a b c t p written bytes first same never writes =
+put_then result old mid new a b c t p written bytes first same never writes stays =
     let image : Image = t.base.image in
     let u : Trail = after_strokes t (raise_strokes image p) in
+    let opened = tries_opened tt old mid a b t (entry_cause image p) (raise_strokes image p) first in
     tries_then tt result old mid new a b c t (entry_cause image p) (raise_strokes image p) (page p bytes ∷ []) first never
-    (makes_one result mid new b c u (page p written) (page p bytes) (ap (λ (x : Page). page p x) same) (writes u (tries_opened tt old mid a b t (entry_cause image p) (raise_strokes image p) first)))
+    (makes_one result mid new b c u (page p written) (page p bytes) (ap (λ (x : Page). page p x) same) (writes u opened))
+    (wanted_so result (Stays mid new b c u) (StopsShort mid new b c u (page p bytes ∷ [])) (short_first mid new b c u (page p bytes) []) (stays u opened))
 
 -- A page was written or added.
 module _ (b : Base) (p kind : ℕ) (payload : List ℕ) (none : entry_cause b.image p ≡ None) (low : p ≤ length b.image) where

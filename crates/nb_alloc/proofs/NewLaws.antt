@@ -75,7 +75,7 @@ module _ (kind : ℕ) (payload : ℕ → List ℕ) (old mid : World) (a b : Held
   x = u.base.image
 
   so_tries : Tries {T = Unit {0}} (Ok tt) old mid a b t None so.done
-  so_tries = tries_made {T = Unit {0}} (Ok tt) old mid a b t None so.done refl tt so.makes
+  so_tries = tries_made {T = Unit {0}} (Ok tt) old mid a b t None so.done refl tt so.makes tt
 
   pub supplied : IsSupplied x place
   supplied = let rest = so.rest in record { shaped = rest.shaped; ready = (here kind payload x place so.rest_strokes number rest).ready }

@@ -1,7 +1,8 @@
 -- A page stroke of a page after the first: what is known after it.
 use Rattle.std.proofs.Common.{◌∙◌, ◌≡◌, ◌≢◌, ℕ, ◌<◌, List, [], ◌∷◌, ◌++◌, sym, ap, subst, None, Result, Ok, IfErr}
-use Rattle.nb_alloc.proofs.Common.{entries_in, kind_of, inventory_kind, scn_kind, World, Fault, Page, Image, page_at, image_size, Base, Stroke, base_after, inventory_of, Cause, not_kind, Trail, after_strokes, IsNoRefusal, Held, IsOpen, Makes, after_base, Tries, entry_cause, raise_strokes, bit_stroke, mark_cause, mark_stroke, mark_strokes}
+use Rattle.nb_alloc.proofs.Common.{entries_in, kind_of, inventory_kind, scn_kind, World, Fault, Page, Image, page_at, image_size, Base, Stroke, base_after, inventory_of, Cause, not_kind, Trail, after_strokes, IsNoRefusal, Held, IsOpen, Makes, after_base, StopsShort, Tries, WhereMemory, entry_cause, raise_strokes, bit_stroke, mark_cause, mark_stroke, mark_strokes}
 use Rattle.nb_alloc.proofs.DoesLaws.{tries_these, tries_then, tries_opened}
+use Rattle.nb_alloc.proofs.WantLaws.{Stays, short_first, wanted_so}
 use Rattle.nb_alloc.proofs.PutLaws.{Keeps, raise_keeps}
 use Rattle.nb_alloc.proofs.MarkLaws.{mark_cause-is, marked-is}
 
@@ -29,11 +30,14 @@ module _ (old mid : World) (a b : Held) (t : Trail) (p : ℕ) (plain : kind_of (
   pub then_page : {T : Type 0} (result : Result T Fault) (new : World) (c : Held) (read : Page) (stroke : Image → Stroke) → read ≡ page_at image p → (Keeps image p raised.base.image → stroke raised.base.image ≡ stroke image)
       → IfErr result IsNoRefusal
       → ((u : Trail) → IsOpen mid b u → read ≡ page_at u.base.image p → Makes result mid new b c u (stroke u.base.image ∷ []))
+      → ((u : Trail) → IsOpen mid b u → WhereMemory result (Stays mid new b c u))
       → Tries result old new a c t (entry_cause image p) (raise_strokes image p ++ stroke image ∷ [])
-  then_page result new c read stroke is by never writes =
+  then_page result new c read stroke is by never writes stays =
+      let opened = tries_opened tt old mid a b t (entry_cause image p) (raise_strokes image p) first in
       tries_then tt result old mid new a b c t (entry_cause image p) (raise_strokes image p) (stroke image ∷ []) first never
       (makes_one result mid new b c raised (stroke raised.base.image) (stroke image) (by keeps)
-      (writes raised (tries_opened tt old mid a b t (entry_cause image p) (raise_strokes image p) first) (is ∙ sym keeps.same)))
+      (writes raised opened (is ∙ sym keeps.same)))
+      (wanted_so result (Stays mid new b c raised) (StopsShort mid new b c raised (stroke image ∷ [])) (short_first mid new b c raised (stroke image) []) (stays raised opened))
 
 -- the write of a bit, where its place and its number are known by other names
 pub bit_at : {T : Type 0} (result : Result T Fault) (mid new : World) (b c : Held) (read : Page) (place at index number bit : ℕ) → place ≡ at → index ≡ number

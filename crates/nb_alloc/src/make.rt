@@ -102,7 +102,7 @@ fn has_page<H: Host>(
 
 /// Writes page `number`, below the length or at it, as a page of that kind, its SCN entry first. `page` has the head of the page as it stands, or
 /// zeros where it is added, and after the head what shall stand there; the head is written with the generation raised and the current SCN. It
-/// takes one read at most, and wants memory in the stalled state alone.
+/// takes one read at most, and wants memory in the stalled state alone, where it has raised the entry at most then.
 ///
 /// The refusal is `NotDatabase` of its SCN page; nothing has changed then.
 pub fn put_page<H: Host>(
@@ -336,7 +336,7 @@ fn pass_place<H: Host>(
 /// Makes a new page of that kind with that payload and answers its number, which is also its owner in the payload where it owns itself. The
 /// search for its place comes to `first` at first, and the system places on its way get their pages and are taken. Where no system page stands
 /// at `first`, its inventory page is in `map`, and isn't read again. It takes three reads at most for the page, and six for each page between
-/// that the search went past; it wants memory in the stalled state alone.
+/// that the search went past; it wants memory in the stalled state alone, where it has not made its last write then.
 ///
 /// It is for a database on which `check_new`, or `check_rooms` for one page, has answered `first` and to which nothing was written since: then it
 /// isn't refused, and contracts say what it makes of such a database alone. Else the refusals are `NotDatabase` of a page that isn't of its kind,

@@ -2,7 +2,7 @@
 pub use Rattle.nb_alloc.proofs.BehindLaws.{entry_by, lacking_cause, other_by, other_none, other_page, page_alone}
 pub use Rattle.nb_alloc.proofs.CauseLaws.{judged_by, refused_by, told_some, unless_allowed, unless_refused, unless_these}
 pub use Rattle.nb_alloc.proofs.ContentLaws.{data_short, new_named, payload_filled}
-pub use Rattle.nb_alloc.proofs.DoesLaws.{if_err, if_ok, refused_does, seeing, tested_by_name, tested_does, tested_on, tries_after, tries_does, tries_early, tries_failed, tries_front, tries_made, tries_next, tries_opened, tries_other, tries_passed, tries_these, tries_valued, valued_does}
+pub use Rattle.nb_alloc.proofs.DoesLaws.{if_err, if_ok, refused_does, seeing, tested_by_name, tested_does, tested_on, tries_after, tries_does, tries_early, tries_failed, tries_front, tries_made, tries_next, tries_opened, tries_other, tries_passed, tries_stops, tries_these, tries_valued, valued_does}
 pub use Rattle.nb_alloc.proofs.MakeLaws.{tries_fault, tries_named}
 pub use Rattle.nb_alloc.proofs.MarkLaws.{entries_some, mark_form, mark_room}
 pub use Rattle.nb_alloc.proofs.NewLaws.{image_is, told}
@@ -11,14 +11,14 @@ pub use Rattle.nb_alloc.proofs.ReadyLaws.{page_strokes_are}
 pub use Rattle.nb_alloc.proofs.RoomsLaws.{IsFreeBehind, behind_long, behind_short, free_behind, grown_judged, grown_unmade, needs_broken, no_entry_broken, unmade_long, unmade_short}
 pub use Rattle.nb_alloc.proofs.SearchReads.{inventory_most}
 pub use Rattle.nb_alloc.proofs.TestLaws.{at_ok, inventory_place_is, le_from, lt_from, read_broken, read_refused, read_says, text_short, vec_whole, write_closed, write_fits, write_long}
-pub use Rattle.nb_alloc.proofs.WantLaws.{stops_after, stops_first, stops_then, strikes_after}
+pub use Rattle.nb_alloc.proofs.WantLaws.{Stays, not_passed, refused_memory, short_first, wanted_by, stops_after, stops_first, stops_then, strikes_after}
 pub use Rattle.nb_alloc.specs.Behind.{behind_cause, entry_broken, give_broken, page_in}
 pub use Rattle.nb_alloc.specs.Data.{data_cause, new_behind, new_data, owner_by, put_data, second_data, unmade}
 pub use Rattle.nb_alloc.specs.Make.{new_of, new_raw, page_strokes}
 pub use Rattle.nb_alloc.specs.Mark.{mark_cause, mark_strokes}
 pub use Rattle.nb_alloc.specs.Put.{Reads, entry_cause, raise_strokes, raw_stroke}
 pub use Rattle.nb_alloc.specs.Search.{IsSearchable, IsShort}
-pub use Rattle.nb_alloc.specs.Tries.{Tries}
+pub use Rattle.nb_alloc.specs.Tries.{StopsShort, Tries, WhereMemory}
 pub use Rattle.nb_base.proofs.AttachLaws.{applies, first_here, first_next}
 pub use Rattle.nb_base.specs.Takes.{IsNoRefusal, Strikes, after_strokes}
 pub use Rattle.nb_change.proofs.FaultLaws.{counts_passed, memory_wanted, none_wanted}

@@ -1,6 +1,6 @@
 -- What making a new page does of its turn.
 use Rattle.std.proofs.Common.{◌≡◌, ◌<◌, ◌≤◌, ℕ, List, [], ◌∷◌, length, refl, sym, ap, subst, ◌∙◌, arith, true, false, IsTrue, Some, None, Result, IfOk}
-use Rattle.nb_engine.proofs.Common.{IfOk-weaker, bytes_of, is_page_size, text_payload, World, Fault, Refusal, Access, NotDatabase, Refused, PageMade, Image, image_scn, is_read_only, Stroke, Trail, Draft, first_cause, read_only, too_short, Seen, says, new_turn, lt_no, lt_yes, draft_cause, IsShaped, Held, IsOpen, Does, new_raw, page_made, IsSearchable, Tries, unless_refused, unless_allowed, refused_by, judged_by, seeing, tries_does, applies, first_here, first_next, no_cause, when_false}
+use Rattle.nb_engine.proofs.Common.{IfOk-weaker, bytes_of, is_page_size, text_payload, World, Fault, Refusal, Access, NotDatabase, Refused, PageMade, Image, image_scn, is_read_only, Stroke, Trail, Draft, first_cause, read_only, too_short, Seen, says, new_turn, lt_no, lt_yes, draft_cause, IsShaped, Held, IsOpen, Does, new_raw, page_made, IsSearchable, StopsShort, Tries, WhereMemory, unless_refused, unless_allowed, refused_by, judged_by, seeing, tries_does, tries_stops, applies, first_here, first_next, no_cause, when_false}
 use Rattle.nb_model.specs.declared.reply.Reply.{Reply}
 use Rattle.nb_model.specs.Sound.{HasHeader}
 use Rattle.nb_state.proofs.SizeLaws.{open_sized}
@@ -71,3 +71,9 @@ pub made_does : (result : Result ℕ Fault) (old new : World) (a b : Held) (t : 
 made_does result old new a b t s n strokes same turn number tries =
     tries_does page_made result old new a b t s new_turn None (PageMade n) refl strokes same
     (turn ∙ sym (unless_allowed (seeing s t.base) None (says (seeing s t.base) (PageMade n) strokes) refl)) (IfOk-weaker result _ _ (λ value is. ap PageMade is) number) tries
+
+-- and where it answers Memory it stopped before the last of them
+pub made_stops : (result : Result ℕ Fault) (old new : World) (a b : Held) (t : Trail) (s : Seen) (n : ℕ) (strokes : List Stroke) → t.base ≡ s.base
+    → new_turn (seeing s t.base) ≡ says (seeing s t.base) (PageMade n) strokes → Tries result old new a b t None strokes → WhereMemory result (StopsShort old new a b t (new_turn s).strokes)
+made_stops result old new a b t s n strokes same turn tries =
+    tries_stops result old new a b t s new_turn None (PageMade n) strokes same (turn ∙ sym (unless_allowed (seeing s t.base) None (says (seeing s t.base) (PageMade n) strokes) refl)) tries

@@ -163,7 +163,7 @@ impl Engine {
 
     /// Writes page `number`, a data page. Of the bytes that are given those after the head count: the next page, the owner and the slots.
     /// The head is that of the page as it stands, with its generation raised and the current SCN. The SCN entry of the page is raised before,
-    /// where that is below the current SCN. It wants memory in the stalled state alone.
+    /// where that is below the current SCN. It wants memory in the stalled state alone, and has raised the entry at most then.
     ///
     /// The refusals are `NotDatabase` of the page, where it is past the end or no data page, and of its SCN page, in this order. A refused
     /// call changes nothing.
@@ -194,7 +194,7 @@ impl Engine {
     /// Writes these bytes into page `number`, a data page, from place `at` on, which is after the head: so a slot is changed. The rest of the page
     /// is as it stands, but for the generation, which is raised, and the SCN, which is the current one. The SCN entry of the page is raised
     /// before, where that is below the current SCN. It takes two reads at most, one of them of the page, and wants memory in the stalled state
-    /// alone.
+    /// alone, and has raised the entry at most then.
     ///
     /// The refusals are `NotDatabase` of the page, where it is past the end or no data page, and of its SCN page, in this order. A refused
     /// call changes nothing.
@@ -228,7 +228,7 @@ impl Engine {
 
     /// Gives page `number` back: its inventory page says from then on that it is free. The page itself stays as it is. The SCN entry of the
     /// inventory page is raised before, where that is below the current SCN. It takes two reads at most, and wants memory in the stalled
-    /// state alone.
+    /// state alone, and has raised the entry at most then.
     ///
     /// The refusals are `NotDatabase` of the inventory page and of the SCN page of that, in this order. A refused call changes nothing.
     pub fn data_free<H: Host>(&mut self, host: &mut H, number: u32) -> Result<(), Fault>

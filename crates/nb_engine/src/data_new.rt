@@ -46,7 +46,7 @@ fn fill_payload(into: &mut [u8], owner: u32, slots: &[u8])
 impl Engine {
     /// Makes a data page with these slots, and answers its number, which is found as that of a new raw page. It leads to no other page. Its
     /// owner is the one that is named, or, where none is, the page itself: so begins the chain of a table. It wants memory in the stalled
-    /// state alone.
+    /// state alone, and has not made its last write then: no bit says that the page is taken.
     ///
     /// The refusals are `NotDatabase` of a database of fewer than five pages, by its length, or of the lowest page that the new page needs and
     /// that isn't of its kind, and `Full`, where no page is left, in this order. All that the new page changes is tested before the first
@@ -89,7 +89,8 @@ impl Engine {
     }
 
     /// Makes a data page with these slots after `last`, the last page of a chain of that owner, which is linked to it once it stands. It
-    /// answers the number of the new page. It wants memory in the stalled state alone.
+    /// answers the number of the new page. It wants memory in the stalled state alone, and has not made its last write then: the chain ends
+    /// where it did.
     ///
     /// The refusals are `NotDatabase` of a database of fewer than five pages, by its length, or of the lowest page that isn't of its kind: one
     /// that the new page needs, the SCN page of the last page, or the last page itself, where the search for the new page makes a system page

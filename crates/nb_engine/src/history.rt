@@ -66,7 +66,7 @@ impl Engine {
     }
 
     /// Makes sure that the history has a free slot, and answers the first. Where there is none a new page is made, and the last page of the
-    /// history is linked to it after that. It wants memory in the stalled state alone.
+    /// history is linked to it after that. It wants memory in the stalled state alone, and has not linked it then.
     ///
     /// The refusals are `NotDatabase` of the first page of the history that breaks the form, `NotDatabase` of the lowest page that isn't of its
     /// kind, `Full` and `ScnExhausted`, in this order. For a free slot these pages are the inventory page and the SCN page of its page, and that
@@ -114,7 +114,7 @@ impl Engine {
     }
 
     /// Writes a row into a slot that was kept for it. The SCN entry of its page is raised before, where that is below the current SCN. It wants
-    /// memory in the stalled state alone.
+    /// memory in the stalled state alone, and has raised the entry at most then.
     ///
     /// The refusals are `NotDatabase` of that page, where it is past the end, and of its SCN page, in this order. A refused call changes
     /// nothing.

@@ -10,6 +10,7 @@ ghost use Rattle.nb_state.specs.Open.{IsOpen};
 ghost use Rattle.nb_state.specs.Does.{Goes, Does};
 ghost use Rattle.nb_engine.specs.Replies.{page_made};
 ghost use Rattle.nb_alloc.specs.Make.{new_reads};
+ghost use Rattle.nb_alloc.specs.Tries.{StopsShort, WhereMemory};
 
 use crate::Engine;
 use nb_alloc::{FIRST_TO_GIVE, check_new, make_new};
@@ -24,7 +25,7 @@ impl Engine {
     /// the search for it comes to the place of a system page, that page is made, is taken, and the search goes on after it. Each page is
     /// written before it is taken, and its SCN entry is raised before, where that is below the current SCN. It reads each inventory page up
     /// to that of the lowest free page once, and few pages more for each page that the search went on. It wants memory in the stalled state
-    /// alone.
+    /// alone, and has not made its last write then.
     ///
     /// The refusals are `Access`, `NotDatabase` of a database of fewer than five pages, by its length, or of the lowest page that the new page
     /// needs and that isn't of its kind, and `Full`, where no page is left, in this order. All that the new page changes is tested before the
@@ -37,6 +38,8 @@ impl Engine {
             → IfOk result (λ page. (H.world host.new).reads ≤ (H.world host.old).reads + new_reads t.base.image page) }
         ensures cause { CountsDevice result (H.faults host.old) (H.faults host.new) }
         ensures takes_none { self.old.files.state ≢ stalled_state → IfErr result (λ fault. fault ≢ Memory) }
+        ensures on_memory { (s : Seen) (t : Trail) → IsTrue H.tells → t.base ≡ s.base → IsOpen (H.world host.old) self.old t
+            → WhereMemory result (StopsShort (H.world host.old) (H.world host.new) self.old self.new t (new_turn s).strokes) }
     {
         // Contracts ask for its range, which is known of what was read.
         let _scn = self.store.scn();

@@ -1,6 +1,6 @@
 -- What a row's turn does, once its table's rows are come by.
 use Rattle.std.proofs.Common.{◌≡◌, ℕ, List, [], ◌∷◌, refl, sym, ap, ◌∙◌, true, false, Option, Some, None, Result, Ok, Err, IfOk, is_some}
-use Rattle.nb_table.proofs.Common.{data_kind, World, Fault, Refusal, KeyExists, NoKey, Refused, Done, Image, Trail, Draft, drafted, Cause, when, read_only, too_long, not_kind, not_of_form, no_room, broken_at, short_for, Chain, RowsFrom, Slot, Spot, pages_of, found_pages, spots, table_spot, row_spot, free_spot, first_in, row_slot, free_slot, put_slot, place_slot, Seen, Outcome, says, unless, changes, with_spot, in_row, insert_turn, update_turn, delete_turn, Held, Does, entry_cause, done, Tries, refused_by, judged_by, seeing, tries_does, slot_alone, Found, Row, Walked, rows_cause, place_cause, gathered, found_at, place_at, row_kind, applies, first_here, first_next, no_cause, when_false}
+use Rattle.nb_table.proofs.Common.{data_kind, World, Fault, Refusal, KeyExists, NoKey, Refused, Done, Image, Trail, Draft, drafted, Cause, when, read_only, too_long, not_kind, not_of_form, no_room, broken_at, short_for, Chain, RowsFrom, Slot, Spot, pages_of, found_pages, spots, table_spot, row_spot, free_spot, first_in, row_slot, free_slot, put_slot, place_slot, Seen, Outcome, says, unless, changes, with_spot, in_row, insert_turn, update_turn, delete_turn, Held, Does, entry_cause, done, StopsShort, Tries, WhereMemory, refused_by, judged_by, seeing, tries_does, tries_stops, slot_alone, Found, Row, Walked, rows_cause, place_cause, gathered, found_at, place_at, row_kind, applies, first_here, first_next, no_cause, when_false}
 use Rattle.nb_table.proofs.InTableLaws.{table_refused, table_goes_from}
 use Rattle.nb_table.proofs.PlaceLaws.{IsPlaceOf, found_some, found_there}
 
@@ -35,14 +35,16 @@ found_kind image chain formed key row found =
     let at = found_some (row_spot key (spots chain image)) row found in
     ap (λ (n : ℕ). not_kind image data_kind n) at.page ∙ row_kind chain image formed key at.spot at.is
 
--- so a call that writes it does that
-pub row_does : (result : Result (Unit {0}) Fault) (old new : World) (a b : Held) (t : Trail) (s : Seen) (chain : Chain) (key : ℕ) (bytes : Slot) (row : Found) → t.base ≡ s.base → Some row ≡ found_at (row_spot key (spots chain t.base.image))
-    → Tries result old new a b t (entry_cause t.base.image row.place.page) (put_slot row.place.page row.place.slot bytes (drafted t.base.image)).strokes → Does done result old new a b t (in_row s chain key bytes)
-row_does result old new a b t s chain key bytes row same found tries =
-    tries_does done result old new a b t s (λ (x : Seen). in_row x chain key bytes) (entry_cause image row.place.page) Done refl (put_slot row.place.page row.place.slot bytes (drafted image)).strokes same turn (said result) tries
+-- the turn that writes its slot, by the place that was found
+row_turn : (s : Seen) (chain : Chain) (key : ℕ) (bytes : Slot) (row : Found) → Some row ≡ found_at (row_spot key (spots chain s.base.image))
+    → in_row s chain key bytes ≡ unless s (entry_cause s.base.image row.place.page) (says s Done (put_slot row.place.page row.place.slot bytes (drafted s.base.image)).strokes)
+row_turn s chain key bytes row found =
+    row_written s chain key bytes at.spot at.is
+    ∙ ap (λ (n : ℕ). unless s (entry_cause image n) (says s Done (put_slot at.spot.page at.spot.slot bytes (drafted image)).strokes)) (sym at.page)
+    ∙ ap (λ (d : Draft). unless s (entry_cause image row.place.page) (says s Done d.strokes)) (sym are)
   where
     image : Image
-    image = t.base.image
+    image = s.base.image
 
     at : IsPlaceOf (row_spot key (spots chain image)) row.place
     at = found_some (row_spot key (spots chain image)) row found
@@ -50,11 +52,18 @@ row_does result old new a b t s chain key bytes row same found tries =
     are : put_slot row.place.page row.place.slot bytes (drafted image) ≡ put_slot at.spot.page at.spot.slot bytes (drafted image)
     are = ap (λ (n : ℕ). put_slot n row.place.slot bytes (drafted image)) at.page ∙ ap (λ (n : ℕ). put_slot at.spot.page n bytes (drafted image)) at.slot
 
-    turn : in_row (seeing s t.base) chain key bytes ≡ unless (seeing s t.base) (entry_cause image row.place.page) (says (seeing s t.base) Done (put_slot row.place.page row.place.slot bytes (drafted image)).strokes)
-    turn =
-        row_written (seeing s t.base) chain key bytes at.spot at.is
-        ∙ ap (λ (n : ℕ). unless (seeing s t.base) (entry_cause image n) (says (seeing s t.base) Done (put_slot at.spot.page at.spot.slot bytes (drafted image)).strokes)) (sym at.page)
-        ∙ ap (λ (d : Draft). unless (seeing s t.base) (entry_cause image row.place.page) (says (seeing s t.base) Done d.strokes)) (sym are)
+-- so a call that writes it does that, and where memory runs out it stops before the last of its strokes
+module _ (result : Result (Unit {0}) Fault) (old new : World) (a b : Held) (t : Trail) (s : Seen) (chain : Chain) (key : ℕ) (bytes : Slot) (row : Found) (same : t.base ≡ s.base) (found : Some row ≡ found_at (row_spot key (spots chain t.base.image)))
+    (tries : Tries result old new a b t (entry_cause t.base.image row.place.page) (put_slot row.place.page row.place.slot bytes (drafted t.base.image)).strokes) where
+  pub row_does : Does done result old new a b t (in_row s chain key bytes)
+  row_does =
+      tries_does done result old new a b t s (λ (x : Seen). in_row x chain key bytes) (entry_cause t.base.image row.place.page) Done refl (put_slot row.place.page row.place.slot bytes (drafted t.base.image)).strokes same
+      (row_turn (seeing s t.base) chain key bytes row found) (said result) tries
+
+  pub row_stops : WhereMemory result (StopsShort old new a b t (in_row s chain key bytes).strokes)
+  row_stops =
+      tries_stops result old new a b t s (λ (x : Seen). in_row x chain key bytes) (entry_cause t.base.image row.place.page) Done (put_slot row.place.page row.place.slot bytes (drafted t.base.image)).strokes same
+      (row_turn (seeing s t.base) chain key bytes row found) tries
 
 -- A row is added.
 module _ (s : Seen) (chain : Chain) (key : ℕ) (bytes : Slot) where

@@ -1,11 +1,12 @@
 -- The definitions that the proofs of this crate speak in, and the laws of other crates that they cite, passed on from one place. Declares nothing.
 pub use Rattle.nb_alloc.proofs.CauseLaws.{first_front, first_rest, judged_by, refused_by, unless_allowed, unless_refused}
 pub use Rattle.nb_alloc.proofs.DataLaws.{owner_is}
-pub use Rattle.nb_alloc.proofs.DoesLaws.{makes_valued, refused_does, seeing, sure_of, tested_does, tested_on, tries_after, tries_does, tries_early, tries_front, tries_made, tries_opened, tries_other, tries_passed, tries_then, tries_valued, valued_does}
+pub use Rattle.nb_alloc.proofs.DoesLaws.{makes_valued, refused_does, seeing, sure_of, tested_does, tested_on, tries_after, tries_does, tries_early, tries_front, tries_made, tries_opened, tries_other, tries_passed, tries_stops, tries_then, tries_valued, valued_does}
 pub use Rattle.nb_alloc.proofs.MakeLaws.{tries_named}
 pub use Rattle.nb_alloc.proofs.NewLaws.{image_is}
 pub use Rattle.nb_alloc.proofs.RoomsLaws.{IsFreeBehind, free_behind, grown_named, joined_clear, lowest_append, no_entry_broken, slot_alone, slot_named, unmade_is}
 pub use Rattle.nb_alloc.proofs.TestLaws.{kind_is}
+pub use Rattle.nb_alloc.proofs.WantLaws.{not_passed, short_after, short_front, short_then, wanted_as, wanted_so}
 pub use Rattle.nb_base.proofs.AttachLaws.{applies, first_here, first_next}
 pub use Rattle.nb_base.specs.Takes.{IsNoRefusal, after_strokes}
 pub use Rattle.nb_engine.proofs.DataLaws.{by_entry, data_there}
@@ -16,7 +17,7 @@ pub use Rattle.nb_engine.specs.Find.{need_cause}
 pub use Rattle.nb_engine.specs.Mark.{mark_cause}
 pub use Rattle.nb_engine.specs.Put.{entry_cause}
 pub use Rattle.nb_engine.specs.Replies.{done, valued}
-pub use Rattle.nb_engine.specs.Tries.{Tries}
+pub use Rattle.nb_engine.specs.Tries.{StopsShort, Tries, WhereMemory}
 pub use Rattle.nb_fields.proofs.PartLaws.{length-with_part, put_mid-with_part}
 unfoldable pub use Rattle.nb_fields.specs.Bytes.{bytes_of, padded}
 pub use Rattle.nb_fields.specs.Bytes.{part, with_part}

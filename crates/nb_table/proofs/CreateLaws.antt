@@ -1,6 +1,6 @@
 -- A table that is made: its first page, and then its slot in the catalogue.
 use Rattle.std.proofs.Common.{◌≡◌, inl, inr, ℕ, suc, ◌+◌, ◌*◌, ◌≤◌, List, [], ◌∷◌, ◌++◌, length, drop, refl, sym, ap, subst, ◌∙◌, arith, Bool, true, not, None, Result, Ok, Err}
-use Rattle.nb_table.proofs.Common.{leb_tells, with_part, data_kind, World, Fault, NotDatabase, not_kind, not_of_form, no_room, too_short, when, Catalogue, Slot, found_pages, last_of, put_slot, grown, table_slot, Draft, drafted, is_kind, Image, page_at, Stroke, Trail, IsOf, drafted_is, drafts_are, new_keeps, no_first, draft_cause, after_strokes, Held, IsOpen, Makes, behind_cause, second_data, unmade, unmade_behind, entry_cause, Tries, tries_front, tries_then, sure_of, tries_opened, tries_named, image_is, IsFreeBehind, free_behind, grown_named, slot_named, unmade_is, joined_clear, lt_no, Place, first_made, created_in, created_behind, table_length, first_next, when_false, unless_none, some_none, one_cause}
+use Rattle.nb_table.proofs.Common.{leb_tells, with_part, data_kind, World, Fault, NotDatabase, not_kind, not_of_form, no_room, too_short, when, Catalogue, Slot, found_pages, last_of, put_slot, grown, table_slot, Draft, drafted, is_kind, Image, page_at, Stroke, Trail, IsOf, drafted_is, drafts_are, new_keeps, no_first, draft_cause, after_strokes, Held, IsOpen, Makes, behind_cause, second_data, unmade, unmade_behind, entry_cause, StopsShort, Tries, WhereMemory, tries_front, tries_then, sure_of, tries_opened, tries_named, image_is, IsFreeBehind, free_behind, grown_named, slot_named, unmade_is, joined_clear, lt_no, Place, first_made, created_in, created_behind, table_length, first_next, when_false, unless_none, some_none, one_cause}
 use Rattle.nb_fields.specs.Payloads.{data_payload}
 use Rattle.nb_model.proofs.DraftJoin.{joined, join_put}
 use Rattle.nb_model.proofs.PlaceTurns.{join_at}
@@ -146,9 +146,11 @@ module _ (t : Trail) (table : List ℕ) where
         subst (λ (bs : Slot). Tries result mid new b c u (entry_cause u.base.image place.page) (ys_with bs)) are (call (tries_opened n old mid a b t (unmade x new_first.0) xs one)) in
         let put_is : xs ++ ys n ≡ (created_in x table place).strokes =
         ap (λ (k : ℕ). xs ++ ys k) same ∙ ap (λ (z : Image). xs ++ (put_slot place.page place.slot (table_slot table new_first.1) (drafted z)).strokes) image_then ∙ sym (in_strokes x table place) in
-        let makes : Makes result mid new b c u (ys n) = subst (λ (ss : List Stroke). Makes result mid new b c u ss) (unless_none (entry_cause u.base.image place.page) (ys n) entry_then) two.makes in
+        let these = unless_none (entry_cause u.base.image place.page) (ys n) entry_then in
+        let makes : Makes result mid new b c u (ys n) = subst (λ (ss : List Stroke). Makes result mid new b c u ss) these two.makes in
         tries_named result old new a c t (unmade x new_first.0) (unmade x (created_in x table place)) (xs ++ ys n) (created_in x table place).strokes (first_none ∙ sym in_none) put_is
-        (tries_then n result old mid new a b c t (unmade x new_first.0) xs (ys n) one (sure_of result (entry_cause u.base.image place.page) entry_then two.test) makes)
+        (tries_then n result old mid new a b c t (unmade x new_first.0) xs (ys n) one (sure_of result (entry_cause u.base.image place.page) entry_then two.test) makes
+        (subst (λ (ss : List Stroke). WhereMemory result (StopsShort mid new b c u ss)) these two.stops))
 
   -- in a new page
   module _ (none : unmade x (created_behind x table) ≡ None) where
@@ -197,8 +199,10 @@ module _ (t : Trail) (table : List ℕ) where
         let tries : Tries result mid new b c u (unmade u.base.image (grows_by n)) (grows_by n).strokes =
         subst (λ (bs : Slot). Tries result mid new b c u (unmade u.base.image (grows_with bs)) (grows_with bs).strokes) are (call (tries_opened n old mid a b t (unmade x new_first.0) xs one)) in
         let two = unnumbered_tries result mid new b c u (unmade u.base.image (grows_by n)) (grows_by n).strokes tries in
+        let these = unless_none (unmade u.base.image (grows_by n)) (grows_by n).strokes (free n same) in
         let makes : Makes (unnumbered result) mid new b c u (grows_by n).strokes =
-        subst (λ (ss : List Stroke). Makes (unnumbered result) mid new b c u ss) (unless_none (unmade u.base.image (grows_by n)) (grows_by n).strokes (free n same)) two.makes in
+        subst (λ (ss : List Stroke). Makes (unnumbered result) mid new b c u ss) these two.makes in
         tries_named (unnumbered result) old new a c t (unmade x new_first.0) (unmade x (created_behind x table)) (xs ++ (grows_by n).strokes) (created_behind x table).strokes (front_none ∙ sym none)
         (ap (λ (d : Draft). xs ++ d.strokes) (grows_are n same) ∙ sym (behind_strokes x table))
-        (tries_then n (unnumbered result) old mid new a b c t (unmade x new_first.0) xs (grows_by n).strokes one (sure_of (unnumbered result) (unmade u.base.image (grows_by n)) (free n same) two.test) makes)
+        (tries_then n (unnumbered result) old mid new a b c t (unmade x new_first.0) xs (grows_by n).strokes one (sure_of (unnumbered result) (unmade u.base.image (grows_by n)) (free n same) two.test) makes
+        (subst (λ (ss : List Stroke). WhereMemory (unnumbered result) (StopsShort mid new b c u ss)) these two.stops))

@@ -212,4 +212,4 @@ module _ (t : Trail) (h : HasHeader t.base.image) (shaped : IsShaped t.base.imag
         → Tries result mid new b c u None given → Tries result old new a c t (not_of_form whole) whole.strokes
     drop_then result old mid new a b c one two =
         tries_named result old new a c t (entry_cause image spot.page) (not_of_form whole) (slot.strokes ++ given) whole.strokes (entry ∙ sym free) both
-        (tries_then {S = Unit {0}} tt result old mid new a b c t (entry_cause image spot.page) slot.strokes given one (sure_of result None refl two.test) two.makes)
+        (tries_then {S = Unit {0}} tt result old mid new a b c t (entry_cause image spot.page) slot.strokes given one (sure_of result None refl two.test) two.makes two.stops)

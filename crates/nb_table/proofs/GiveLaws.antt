@@ -1,6 +1,6 @@
 -- The pages of a chain are given back one after the other, along their links, which stay.
 use Rattle.std.proofs.Common.{◌≡◌, ◌≢◌, ℕ, zero, suc, ◌-◌, ◌<◌, List, [], ◌∷◌, ◌++◌, length, refl, sym, ap, subst, append_assoc, ◌∙◌, arith, true, None, Ok, Err}
-use Rattle.nb_table.proofs.Common.{AllByRecursion, true≢false, append-nil, data_kind, World, Fault, Quiet, Chain, first_of, owner_of, owner_in, next_in, is_in_chain, walk, pages_of, Draft, drafted, give_page, Image, page_at, Stroke, all_given, Trail, after_stroke, IsWalk, walk_cases, walk_zero, IsOf, drafted_is, drafts_are, set_bit_keeps, eq_yes, chain_owner, IsShaped, kind_parts, after_strokes, IsNoRefusal, Held, IsOpen, Makes, makes_none, makes_then, makes_front, not_data, mark_cause, Tries, owner_is, tries_made, sure_of, makes_valued, image_is, IsGivenOn, given_cause, given_on, give_same, kind_is, IsGivable, err_ok, unless_none, given_none, given_first, all_go, all_both}
+use Rattle.nb_table.proofs.Common.{AllByRecursion, true≢false, append-nil, data_kind, World, Fault, Quiet, Chain, first_of, owner_of, owner_in, next_in, is_in_chain, walk, pages_of, Draft, drafted, give_page, Image, page_at, Stroke, all_given, Trail, after_stroke, IsWalk, walk_cases, walk_zero, IsOf, drafted_is, drafts_are, set_bit_keeps, eq_yes, chain_owner, IsShaped, kind_parts, after_strokes, IsNoRefusal, Held, IsOpen, Makes, makes_none, makes_then, makes_front, not_data, mark_cause, StopsShort, Tries, WhereMemory, short_front, short_then, wanted_as, wanted_so, owner_is, tries_made, sure_of, makes_valued, image_is, IsGivenOn, given_cause, given_on, give_same, kind_is, IsGivable, err_ok, unless_none, given_none, given_first, all_go, all_both}
 use Rattle.nb_change.proofs.ReachedLaws.{after_all-joined}
 use Rattle.nb_model.proofs.ChainWalks.{ends as walk_ends, leads as walk_leads, Walks}
 
@@ -104,11 +104,17 @@ module _ (chain : Chain) (pages : List ℕ) (old mid : World) (a b : Held) (t : 
   failed : (fault : Fault) (new : World) (c : Held) → Tries {T = ℕ} (Err fault) mid new b c u (mark_cause z number) d.strokes → Tries {T = Unit {0}} (Err fault) old new a c t None all
   failed fault new c tries =
       let sure : IsNoRefusal fault = sure_of {T = ℕ} (Err fault) (mark_cause z number) free tries.test in
-      let makes : Makes {T = ℕ} (Err fault) mid new b c u d.strokes = subst (λ (ss : List Stroke). Makes {T = ℕ} (Err fault) mid new b c u ss) (unless_none (mark_cause z number) d.strokes free) tries.makes in
+      let these = unless_none (mark_cause z number) d.strokes free in
+      let makes : Makes {T = ℕ} (Err fault) mid new b c u d.strokes = subst (λ (ss : List Stroke). Makes {T = ℕ} (Err fault) mid new b c u ss) these tries.makes in
+      let stops = subst (λ (ss : List Stroke). WhereMemory {T = ℕ} (Err fault) (StopsShort mid new b c u ss)) these tries.stops in
+      let others : List Stroke = (all_given one.then (drafted d.image)).strokes in
       tries_made {T = Unit {0}} (Err fault) old new a c t None all refl sure
       (subst (λ (ss : List Stroke). Makes {T = Unit {0}} (Err fault) old new a c t ss) (sym all_is)
       (makes_then tt (Err fault) old mid new a b c t g.made (d.strokes ++ (all_given one.then (drafted d.image)).strokes) g.makes
       (makes_front ℕ (Unit {0}) fault mid new b c u d.strokes (all_given one.then (drafted d.image)).strokes sure makes)))
+      (wanted_so {T = Unit {0}} (Err fault) (StopsShort mid new b c u d.strokes) (StopsShort old new a c t all)
+      (λ short. subst (λ (ss : List Stroke). StopsShort old new a c t ss) (sym all_is) (short_then tt old mid new a b c t g.made (d.strokes ++ others) g.makes (short_front mid new b c u d.strokes others short)))
+      (wanted_as ℕ (Unit {0}) fault (StopsShort mid new b c u d.strokes) stops))
 
   makes_then_this : (next : ℕ) (new : World) (c : Held) → Tries (Ok next) mid new b c u (mark_cause z number) d.strokes → Makes {T = Unit {0}} (Ok tt) old new a c t (g.made ++ d.strokes)
   makes_then_this next new c tries = makes_then tt (Ok tt) old mid new a b c t g.made d.strokes g.makes (makes_valued {S = ℕ} next tt mid new b c u d.strokes (subst (λ (ss : List Stroke). Makes (Ok next) mid new b c u ss) (unless_none (mark_cause z number) d.strokes free) tries.makes))
@@ -123,7 +129,7 @@ module _ (chain : Chain) (pages : List ℕ) (old mid : World) (a b : Held) (t : 
       let these : all ≡ g.made ++ d.strokes =
       all_is ∙ ap (λ (ps : List ℕ). g.made ++ (d.strokes ++ (all_given ps (drafted d.image)).strokes)) none ∙ ap (λ (ss : List Stroke). g.made ++ (d.strokes ++ ss)) (given_none d.image)
       ∙ ap (λ (ss : List Stroke). g.made ++ ss) (append-nil d.strokes) in
-      tries_made {T = Unit {0}} (Ok tt) old new a c t None all refl tt (subst (λ (ss : List Stroke). Makes {T = Unit {0}} (Ok tt) old new a c t ss) (sym these) (makes_then_this next new c tries))
+      tries_made {T = Unit {0}} (Ok tt) old new a c t None all refl tt (subst (λ (ss : List Stroke). Makes {T = Unit {0}} (Ok tt) old new a c t ss) (sym these) (makes_then_this next new c tries)) tt
 
   -- others are still to come
   abbrev v : Trail

@@ -1,6 +1,6 @@
 -- A statement on a table, test by test: before the table is looked for, that it is there, after that, and that its chain is of the form.
 use Rattle.std.proofs.Common.{◌≡◌, ℕ, List, [], ◌∷◌, refl, sym, ap, subst, ◌∙◌, Option, Some, None, is_none, Result}
-use Rattle.nb_table.proofs.Common.{World, Fault, Refusal, NoTable, Quiet, quiet_joined, Refused, Done, Image, Cause, first_cause, when, broken_at, Chain, Catalogue, RowsFrom, Spot, pages_of, table_spot, first_in, Seen, Outcome, says, unless, with_spot, in_table, Trail, Held, IsOpen, but_pages, Does, makes_after, unless_refused, unless_allowed, seeing, chain_cause, rows_cause, first_here, first_next, no_cause, some_same, one_cause}
+use Rattle.nb_table.proofs.Common.{World, Fault, Refusal, NoTable, Quiet, quiet_joined, Refused, Done, Image, Cause, first_cause, when, broken_at, Chain, Catalogue, RowsFrom, Spot, pages_of, table_spot, first_in, Seen, Outcome, says, unless, with_spot, in_table, Trail, Held, IsOpen, but_pages, Does, makes_after, unless_refused, unless_allowed, seeing, chain_cause, rows_cause, first_here, first_next, no_cause, some_same, one_cause, StopsShort, WhereMemory, short_after, wanted_so}
 use Rattle.nb_model.specs.declared.reply.Reply.{Reply}
 use Rattle.nb_model.specs.Account.{Base}
 
@@ -134,3 +134,10 @@ table_does {T} reply result old mid new a b c t s turn same still quiet is rest 
       makes = makes_after result old mid new a b c t rest.strokes still quiet is does.makes;
       idle = λ told. quiet_joined old mid new quiet (does.idle told);
     }))
+
+-- and where that one stops for want of memory, so does the turn
+pub table_stops : {T : Type 0} (result : Result T Fault) (old mid new : World) (a b c : Held) (t : Trail) (s : Seen) (turn : Seen → Outcome) → t.base ≡ s.base → but_pages b ≡ but_pages a → Quiet old mid → IsOpen old a t
+    → (rest : Outcome) → turn (seeing s t.base) ≡ rest → WhereMemory result (StopsShort mid new b c t rest.strokes) → WhereMemory result (StopsShort old new a c t (turn s).strokes)
+table_stops result old mid new a b c t s turn same still quiet is rest e stops =
+    subst (λ (x : Base). WhereMemory result (StopsShort old new a c t (turn (seeing s x)).strokes)) same (subst (λ (o : Outcome). WhereMemory result (StopsShort old new a c t o.strokes)) (sym e)
+    (wanted_so result (StopsShort mid new b c t rest.strokes) (StopsShort old new a c t rest.strokes) (short_after old mid new a b c t rest.strokes still quiet is) stops))

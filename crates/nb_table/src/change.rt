@@ -1,5 +1,5 @@
 // Rows are inserted, updated and deleted.
-ghost use Rattle.std.specs.Prelude.{◌≡◌, None, IsTrue, IfSome};
+ghost use Rattle.std.specs.Prelude.{◌≡◌, None, IsTrue, IfSome, ◌≢◌, IfErr};
 ghost use Rattle.nb_host.specs.Causes.{CountsDevice};
 ghost use Rattle.nb_model.specs.Causes.{broken_at};
 ghost use Rattle.nb_model.specs.Chains.{Chain, pages_of, spots, row_spot};
@@ -10,6 +10,9 @@ ghost use Rattle.nb_engine.specs.Replies.{done};
 ghost use Rattle.nb_state.specs.Open.{IsOpen};
 ghost use Rattle.nb_state.specs.Does.{Does, Goes};
 ghost use Rattle.nb_table.specs.Walks.{found_at, IsPlaced};
+ghost use Rattle.nb_fields.specs.States.{stalled_state};
+ghost use Rattle.nb_host.specs.declared.faults.Fault.TheVariants.{Memory};
+ghost use Rattle.nb_engine.specs.Tries.{StopsShort, WhereMemory};
 
 use crate::look::{Found, SLOT};
 use crate::put::{add_slot, put_slot};
@@ -36,6 +39,9 @@ fn put_found<H: Host>(
         → Does done result (H.world host.old) (H.world host.new) engine.old engine.new t (in_row s chain key bytes.now) }
     ensures goes { Goes engine.old engine.new }
     ensures cause { CountsDevice result (H.faults host.old) (H.faults host.new) }
+    ensures takes_none { engine.old.files.state ≢ stalled_state → IfErr result (λ fault. fault ≢ Memory) }
+    ensures on_memory { (s : Seen) (t : Trail) (chain : Chain) → IsTrue H.tells → t.base ≡ s.base → IsOpen (H.world host.old) engine.old t → broken_at (pages_of chain t.base.image) ≡ None → found.now ≡ found_at (row_spot key (spots chain t.base.image))
+        → WhereMemory result (StopsShort (H.world host.old) (H.world host.new) engine.old engine.new t (in_row s chain key bytes.now).strokes) }
 {
     let Some(row) = found else {
         return Err(Fault::Refused(Refusal::NoKey { key }));
@@ -44,7 +50,8 @@ fn put_found<H: Host>(
 }
 
 /// Puts a row with that key and a text of at most 200 bytes into the table. It goes into the first free slot in the order of the chain;
-/// where none is free, a new page holds it before the chain leads to that page.
+/// where none is free, a new page holds it before the chain leads to that page. It wants memory in the stalled state alone, and has not made
+/// its last write then: the row isn't there.
 ///
 /// The refusals are `Access`, `NotDatabase` of the catalogue, `NoTable`, `TextLong`, `NotDatabase` of the table's chain, `KeyExists`,
 /// `NotDatabase` of the lowest page that is written and isn't of its kind, or of a database of fewer than five pages, by its length, where a
@@ -60,6 +67,9 @@ pub fn insert<H: Host>(
         → Does done result (H.world host.old) (H.world host.new) engine.old engine.new t (insert_turn s table.now key text.now) }
     ensures goes { Goes engine.old engine.new }
     ensures cause { CountsDevice result (H.faults host.old) (H.faults host.new) }
+    ensures takes_none { engine.old.files.state ≢ stalled_state → IfErr result (λ fault. fault ≢ Memory) }
+    ensures on_memory { (s : Seen) (t : Trail) → IsTrue H.tells → t.base ≡ s.base → IsOpen (H.world host.old) engine.old t
+        → WhereMemory result (StopsShort (H.world host.old) (H.world host.new) engine.old engine.new t (insert_turn s table.now key text.now).strokes) }
 {
     let rows = find_rows(host, engine, table, key, text)?;
     if rows.walked.found.is_some() {
@@ -76,7 +86,7 @@ pub fn insert<H: Host>(
     )
 }
 
-/// Gives the row with that key a text of at most 200 bytes.
+/// Gives the row with that key a text of at most 200 bytes. It wants memory in the stalled state alone, and the row is as it was then.
 ///
 /// The refusals are `Access`, `NotDatabase` of the catalogue, `NoTable`, `TextLong`, `NotDatabase` of the table's chain, `NoKey` and
 /// `NotDatabase` of the SCN page of the row's page, in this order. A refused call changes nothing.
@@ -91,13 +101,17 @@ pub fn update<H: Host>(
         → Does done result (H.world host.old) (H.world host.new) engine.old engine.new t (update_turn s table.now key text.now) }
     ensures goes { Goes engine.old engine.new }
     ensures cause { CountsDevice result (H.faults host.old) (H.faults host.new) }
+    ensures takes_none { engine.old.files.state ≢ stalled_state → IfErr result (λ fault. fault ≢ Memory) }
+    ensures on_memory { (s : Seen) (t : Trail) → IsTrue H.tells → t.base ≡ s.base → IsOpen (H.world host.old) engine.old t
+        → WhereMemory result (StopsShort (H.world host.old) (H.world host.new) engine.old engine.new t (update_turn s table.now key text.now).strokes) }
 {
     let rows = find_rows(host, engine, table, key, text)?;
     let bytes = row_bytes(key, text);
     put_found(host, engine, &rows.walked.found, key, &bytes)
 }
 
-/// Takes the row with that key out of the table: its slot is free again. The chain keeps its pages.
+/// Takes the row with that key out of the table: its slot is free again. The chain keeps its pages. It wants memory in the stalled state
+/// alone, and the row is still there then.
 ///
 /// The refusals are `Access`, `NotDatabase` of the catalogue, `NoTable`, `NotDatabase` of the table's chain, `NoKey` and `NotDatabase` of the
 /// SCN page of the row's page, in this order. A refused call changes nothing.
@@ -111,6 +125,9 @@ pub fn delete<H: Host>(
         → Does done result (H.world host.old) (H.world host.new) engine.old engine.new t (delete_turn s table.now key) }
     ensures goes { Goes engine.old engine.new }
     ensures cause { CountsDevice result (H.faults host.old) (H.faults host.new) }
+    ensures takes_none { engine.old.files.state ≢ stalled_state → IfErr result (λ fault. fault ≢ Memory) }
+    ensures on_memory { (s : Seen) (t : Trail) → IsTrue H.tells → t.base ≡ s.base → IsOpen (H.world host.old) engine.old t
+        → WhereMemory result (StopsShort (H.world host.old) (H.world host.new) engine.old engine.new t (delete_turn s table.now key).strokes) }
 {
     let rows = find_rows(host, engine, table, key, &[])?;
     put_found(host, engine, &rows.walked.found, key, &FREE)

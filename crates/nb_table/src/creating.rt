@@ -1,5 +1,5 @@
 // A table is made.
-ghost use Rattle.std.specs.Prelude.{◌≡◌, ◌<◌, ◌≤◌, true, IsTrue, IfOk, IfSome, length};
+ghost use Rattle.std.specs.Prelude.{◌≡◌, ◌<◌, ◌≤◌, true, IsTrue, IfOk, IfSome, length, ◌≢◌, IfErr};
 ghost use Rattle.nb_fields.specs.Places.{most_pages};
 ghost use Rattle.nb_fields.specs.Kinds.{data_kind};
 ghost use Rattle.nb_host.specs.Causes.{CountsDevice};
@@ -10,13 +10,15 @@ ghost use Rattle.nb_model.specs.Tables.{create_turn};
 ghost use Rattle.nb_model.specs.Trail.{Trail};
 ghost use Rattle.nb_engine.specs.Data.{unmade};
 ghost use Rattle.nb_engine.specs.Replies.{done};
-ghost use Rattle.nb_engine.specs.Tries.{Tries};
+ghost use Rattle.nb_engine.specs.Tries.{StopsShort, Tries, WhereMemory};
 ghost use Rattle.nb_state.specs.Open.{IsOpen};
 ghost use Rattle.nb_state.specs.Looks.{Looks};
 ghost use Rattle.nb_model.specs.Causes.{Tested};
 ghost use Rattle.nb_state.specs.Does.{Does, Goes};
 ghost use Rattle.nb_table.specs.Creates.{IsLastOf, created_in, created_behind, new_cause};
 ghost use Rattle.nb_table.specs.Walks.{IsPlaced, place_at};
+ghost use Rattle.nb_fields.specs.States.{stalled_state};
+ghost use Rattle.nb_host.specs.declared.faults.Fault.TheVariants.{Memory};
 
 use crate::LARGEST_PAGE;
 use crate::look::{MOST_TABLES, Place, Sought};
@@ -48,6 +50,7 @@ fn check_table<H: Host>(
     ensures high { IfOk result (λ (room, last). last < most_pages) }
     ensures looks { Looks H.tells (H.world host.old) (H.world host.new) engine.old engine.new }
     ensures cause { CountsDevice result (H.faults host.old) (H.faults host.new) }
+    ensures takes_none { IfErr result (λ fault. fault ≢ Memory) }
 {
     let (walked, last) = walk(host, engine, &Sought::Table(table.copied()), page)?;
     if walked.found.is_some() {
@@ -74,6 +77,7 @@ fn create_in<H: Host>(
         → Tries result (H.world host.old) (H.world host.new) engine.old engine.new t (unmade t.base.image (created_in t.base.image table.now place)) (created_in t.base.image table.now place).strokes }
     ensures goes { Goes engine.old engine.new }
     ensures cause { CountsDevice result (H.faults host.old) (H.faults host.new) }
+    ensures takes_none { engine.old.files.state ≢ stalled_state → IfErr result (λ fault. fault ≢ Memory) }
 {
     // Nothing is made where the slot isn't to be written after it.
     engine.room_for(host, 1, place.page)?;
@@ -99,6 +103,7 @@ fn create_behind<H: Host>(
         → Tries result (H.world host.old) (H.world host.new) engine.old engine.new t (unmade t.base.image (created_behind t.base.image table.now)) (created_behind t.base.image table.now).strokes }
     ensures goes { Goes engine.old engine.new }
     ensures cause { CountsDevice result (H.faults host.old) (H.faults host.new) }
+    ensures takes_none { engine.old.files.state ≢ stalled_state → IfErr result (λ fault. fault ≢ Memory) }
 {
     // Nothing is made where the second page isn't to be had, or the last one of the catalogue isn't to be linked to it.
     engine.room_for(host, 2, last)?;
@@ -107,7 +112,8 @@ fn create_behind<H: Host>(
     Ok(())
 }
 
-/// Makes a table without rows: its first page, and then its slot in the catalogue, which is the moment at which it is there.
+/// Makes a table without rows: its first page, and then its slot in the catalogue, which is the moment at which it is there. It wants memory
+/// in the stalled state alone, and has not made its last write then: the table isn't there.
 ///
 /// The refusals are `Access`, `NotDatabase` of the catalogue, `TableExists`, `TooManyTables` where there are 12, `NotDatabase` of a database
 /// of fewer than five pages, by its length, or of the lowest page that is written and isn't of its kind, and `Full`, in this order. A refused
@@ -117,6 +123,9 @@ pub fn create<H: Host>(host: &mut H, engine: &mut Engine, table: &TableName) -> 
         → Does done result (H.world host.old) (H.world host.new) engine.old engine.new t (create_turn s table.now) }
     ensures goes { Goes engine.old engine.new }
     ensures cause { CountsDevice result (H.faults host.old) (H.faults host.new) }
+    ensures takes_none { engine.old.files.state ≢ stalled_state → IfErr result (λ fault. fault ≢ Memory) }
+    ensures on_memory { (s : Seen) (t : Trail) → IsTrue H.tells → t.base ≡ s.base → IsOpen (H.world host.old) engine.old t
+        → WhereMemory result (StopsShort (H.world host.old) (H.world host.new) engine.old engine.new t (create_turn s table.now).strokes) }
 {
     // Contracts ask for its length, which is known of a name.
     let _name = table.as_str();

@@ -1,5 +1,5 @@
 // A table is dropped.
-ghost use Rattle.std.specs.Prelude.{◌≡◌, ◌++◌, ℕ, List, IsTrue, IfOk, Ok, Some, None, length};
+ghost use Rattle.std.specs.Prelude.{◌≡◌, ◌++◌, ℕ, List, IsTrue, IfOk, Ok, Some, None, length, ◌≢◌, IfErr};
 ghost use Rattle.std.specs.List.{AllByRecursion};
 ghost use Rattle.nb_fields.specs.Places.{is_page_size};
 ghost use Rattle.nb_host.specs.Causes.{CountsDevice};
@@ -17,12 +17,14 @@ ghost use Rattle.nb_engine.specs.Data.{not_data};
 ghost use Rattle.nb_engine.specs.Find.{need_cause};
 ghost use Rattle.nb_engine.specs.Mark.{mark_cause};
 ghost use Rattle.nb_engine.specs.Replies.{done};
-ghost use Rattle.nb_engine.specs.Tries.{Tries};
+ghost use Rattle.nb_engine.specs.Tries.{StopsShort, Tries, WhereMemory};
 ghost use Rattle.nb_state.specs.Open.{IsOpen};
 ghost use Rattle.nb_state.specs.Looks.{Looks};
 ghost use Rattle.nb_state.specs.Does.{Does, Goes};
 ghost use Rattle.nb_table.specs.Drops.{IsWholeTable, IsGivable, dropped, drop_broken};
 ghost use Rattle.nb_table.specs.Walks.{spot_of, IsPlaced};
+ghost use Rattle.nb_fields.specs.States.{stalled_state};
+ghost use Rattle.nb_host.specs.declared.faults.Fault.TheVariants.{Memory};
 
 use crate::LARGEST_PAGE;
 use crate::change::FREE;
@@ -57,6 +59,7 @@ fn lower(first: Option<u32>, second: Option<u32>) -> Option<u32>
 fn check_none(lacking: Option<u32>) -> Result<(), Fault>
     ensures test { (pages : List ℕ) → need_cause lacking ≡ lowest_broken pages → Tested result (lowest_broken pages) }
     ensures cause { (faults : ℕ) → CountsDevice result faults faults }
+    ensures takes_none { IfErr result (λ fault. fault ≢ Memory) }
 {
     match lacking {
         Some(page) => Err(Fault::Refused(Refusal::NotDatabase { page })),
@@ -81,6 +84,7 @@ fn look_further<H: Host>(
     ensures next { (t : Trail) → IsTrue H.tells → IsOpen (H.world host.old) engine.old t → IfOk result (λ (found, next). next ≡ next_in (page_at t.base.image number)) }
     ensures looks { Looks H.tells (H.world host.old) (H.world host.new) engine.old engine.new }
     ensures cause { CountsDevice result (H.faults host.old) (H.faults host.new) }
+    ensures takes_none { IfErr result (λ fault. fault ≢ Memory) }
 {
     engine.data_read(host, number, owner, page)?;
     let next = data::Next::get(page) as u32;
@@ -103,6 +107,7 @@ fn check_chain<H: Host>(
         → Tested result (lowest_broken (drop_broken t.base.image pages noted)) }
     ensures looks { Looks H.tells (H.world host.old) (H.world host.new) engine.old engine.new }
     ensures cause { CountsDevice result (H.faults host.old) (H.faults host.new) }
+    ensures takes_none { IfErr result (λ fault. fault ≢ Memory) }
 {
     let mut lacking = before;
     let mut number = first;
@@ -134,6 +139,7 @@ fn check_drop<H: Host>(
         → Tested result (lowest_broken (drop_broken t.base.image pages (entry_broken t.base.image rows.now.table.place.page))) }
     ensures looks { Looks H.tells (H.world host.old) (H.world host.new) engine.old engine.new }
     ensures cause { CountsDevice result (H.faults host.old) (H.faults host.new) }
+    ensures takes_none { IfErr result (λ fault. fault ≢ Memory) }
 {
     let lacking = engine.data_ready(host, rows.table.place.page)?;
     check_chain(host, engine, rows.first, lacking, page)
@@ -154,6 +160,7 @@ fn give_back<H: Host>(
     ensures next { (t : Trail) → IsTrue H.tells → IsOpen (H.world host.old) engine.old t → IfOk result (λ next. next ≡ next_in (page_at t.base.image number)) }
     ensures goes { Goes engine.old engine.new }
     ensures cause { CountsDevice result (H.faults host.old) (H.faults host.new) }
+    ensures takes_none { engine.old.files.state ≢ stalled_state → IfErr result (λ fault. fault ≢ Memory) }
 {
     engine.data_read(host, number, owner, page)?;
     let next = data::Next::get(page) as u32;
@@ -174,6 +181,7 @@ fn give_all_back<H: Host>(
         → Tries result (H.world host.old) (H.world host.new) engine.old engine.new t None (all_given pages (drafted t.base.image)).strokes }
     ensures goes { Goes engine.old engine.new }
     ensures cause { CountsDevice result (H.faults host.old) (H.faults host.new) }
+    ensures takes_none { engine.old.files.state ≢ stalled_state → IfErr result (λ fault. fault ≢ Memory) }
 {
     let mut number = first;
     let mut left = engine.count();
@@ -205,13 +213,15 @@ fn drop_rows<H: Host>(
         → Tries result (H.world host.old) (H.world host.new) engine.old engine.new t (not_of_form (dropped t.base.image (spot_of rows.now.table))) (dropped t.base.image (spot_of rows.now.table)).strokes }
     ensures goes { Goes engine.old engine.new }
     ensures cause { CountsDevice result (H.faults host.old) (H.faults host.new) }
+    ensures takes_none { engine.old.files.state ≢ stalled_state → IfErr result (λ fault. fault ≢ Memory) }
 {
     check_drop(host, engine, rows, page)?;
     put_slot(host, engine, rows.table.place, &FREE)?;
     give_all_back(host, engine, rows.first, page)
 }
 
-/// Takes a table out of the catalogue, which is the moment at which it is gone, and then gives its pages back, in the order of the chain.
+/// Takes a table out of the catalogue, which is the moment at which it is gone, and then gives its pages back, in the order of the chain. It
+/// wants memory in the stalled state alone, and has not made its last write then: the last page isn't given back.
 ///
 /// The refusals are `Access`, `NotDatabase` of the catalogue, `NoTable`, `NotDatabase` of the table's chain, and `NotDatabase` of the lowest
 /// page that is written and isn't of its kind, in this order. A refused call changes nothing.
@@ -224,6 +234,9 @@ pub fn drop_table<H: Host>(
         → Does done result (H.world host.old) (H.world host.new) engine.old engine.new t (drop_turn s table.now) }
     ensures goes { Goes engine.old engine.new }
     ensures cause { CountsDevice result (H.faults host.old) (H.faults host.new) }
+    ensures takes_none { engine.old.files.state ≢ stalled_state → IfErr result (λ fault. fault ≢ Memory) }
+    ensures on_memory { (s : Seen) (t : Trail) → IsTrue H.tells → t.base ≡ s.base → IsOpen (H.world host.old) engine.old t
+        → WhereMemory result (StopsShort (H.world host.old) (H.world host.new) engine.old engine.new t (drop_turn s table.now).strokes) }
 {
     // Each page of its chain is tested, whatever key is looked for.
     let rows = find_rows(host, engine, table, 0, &[])?;

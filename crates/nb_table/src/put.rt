@@ -1,5 +1,5 @@
 // Slots are written: one that is there, or one more of a chain.
-ghost use Rattle.std.specs.Prelude.{◌≡◌, ◌<◌, None, IsTrue, IfSome};
+ghost use Rattle.std.specs.Prelude.{◌≡◌, ◌<◌, None, IsTrue, IfSome, ◌≢◌, IfErr};
 ghost use Rattle.nb_fields.specs.Places.{most_pages};
 ghost use Rattle.nb_fields.specs.Kinds.{data_kind};
 ghost use Rattle.nb_host.specs.Causes.{CountsDevice};
@@ -13,6 +13,8 @@ ghost use Rattle.nb_state.specs.Open.{IsOpen};
 ghost use Rattle.nb_state.specs.Does.{Goes};
 ghost use Rattle.nb_table.specs.Rows.{place_cause};
 ghost use Rattle.nb_table.specs.Walks.{place_at, IsPlaced};
+ghost use Rattle.nb_fields.specs.States.{stalled_state};
+ghost use Rattle.nb_host.specs.declared.faults.Fault.TheVariants.{Memory};
 
 use crate::look::{Place, SLOT};
 use nb_engine::Engine;
@@ -31,6 +33,7 @@ pub(crate) fn put_slot<H: Host>(
         → Tries result (H.world host.old) (H.world host.new) engine.old engine.new t (entry_cause t.base.image place.page) (put_slot place.page place.slot bytes.now (drafted t.base.image)).strokes }
     ensures goes { Goes engine.old engine.new }
     ensures cause { CountsDevice result (H.faults host.old) (H.faults host.new) }
+    ensures takes_none { engine.old.files.state ≢ stalled_state → IfErr result (λ fault. fault ≢ Memory) }
 {
     let at = data::SLOTS_AT + data::SLOT * place.slot as usize;
     engine.data_put(host, place.page, at, bytes)
@@ -58,6 +61,7 @@ pub(crate) fn add_slot<H: Host>(
         (place_slot chain (found_pages chain t.base.image) bytes.now (drafted t.base.image)).strokes }
     ensures goes { Goes engine.old engine.new }
     ensures cause { CountsDevice result (H.faults host.old) (H.faults host.new) }
+    ensures takes_none { engine.old.files.state ≢ stalled_state → IfErr result (λ fault. fault ≢ Memory) }
 {
     match room {
         Some(place) => put_slot(host, engine, place, bytes),

@@ -1,5 +1,5 @@
 // The rows of a table that is to be changed.
-ghost use Rattle.std.specs.Prelude.{◌≡◌, ◌<◌, ◌≤◌, ℕ, Some, IsTrue, IfOk, IfSome, OnOk, length};
+ghost use Rattle.std.specs.Prelude.{◌≡◌, ◌<◌, ◌≤◌, ℕ, Some, IsTrue, IfOk, IfSome, OnOk, length, ◌≢◌, IfErr};
 ghost use Rattle.nb_fields.specs.Places.{most_pages};
 ghost use Rattle.nb_host.specs.Causes.{CountsDevice};
 ghost use Rattle.nb_model.specs.Image.{Image, is_read_only};
@@ -11,6 +11,7 @@ ghost use Rattle.nb_state.specs.Looks.{Looks};
 ghost use Rattle.nb_table.specs.declared.look.Sought.TheVariants.{Row};
 ghost use Rattle.nb_table.specs.Rows.{rows_cause};
 ghost use Rattle.nb_table.specs.Walks.{spot_of, gathered, IsPlaced};
+ghost use Rattle.nb_host.specs.declared.faults.Fault.TheVariants.{Memory};
 
 use crate::LARGEST_PAGE;
 use crate::look::{Found, Sought, Walked};
@@ -37,6 +38,7 @@ pub(crate) struct Rows {
 pub(crate) fn check_access(closed: bool) -> Result<(), Fault>
     ensures test { (image : Image) → closed ≡ is_read_only image → Tested result (read_only image) }
     ensures cause { (faults : ℕ) → CountsDevice result faults faults }
+    ensures takes_none { IfErr result (λ fault. fault ≢ Memory) }
 {
     if closed {
         return Err(Fault::Refused(Refusal::Access { found: 1 }));
@@ -49,6 +51,7 @@ fn check_text(text: &[u8]) -> Result<(), Fault>
     ensures test { Tested result (too_long text.now) }
     ensures short { OnOk result (length text.now ≤ 200) }
     ensures cause { (faults : ℕ) → CountsDevice result faults faults }
+    ensures takes_none { IfErr result (λ fault. fault ≢ Memory) }
 {
     if text.len() > MOST_TEXT {
         return Err(Fault::Refused(Refusal::TextLong {
@@ -62,7 +65,7 @@ fn check_text(text: &[u8]) -> Result<(), Fault>
 /// row is deleted.
 ///
 /// The refusals are `Access`, `NotDatabase` of the catalogue, `NoTable`, `TextLong` and `NotDatabase` of the table's chain, in this order.
-/// Nothing changes.
+/// Nothing changes, and no memory is wanted.
 pub(crate) fn find_rows<H: Host>(
     host: &mut H,
     engine: &mut Engine,
@@ -83,6 +86,7 @@ pub(crate) fn find_rows<H: Host>(
     ensures high { IfOk result (λ rows. rows.last < most_pages) }
     ensures looks { Looks H.tells (H.world host.old) (H.world host.new) engine.old engine.new }
     ensures cause { CountsDevice result (H.faults host.old) (H.faults host.new) }
+    ensures takes_none { IfErr result (λ fault. fault ≢ Memory) }
 {
     check_access(engine.store().is_read_only())?;
     let mut buffer = [0; LARGEST_PAGE];

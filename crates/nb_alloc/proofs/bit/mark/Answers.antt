@@ -11,7 +11,7 @@ returns-in_err-read-clause-tries g c t tells is =
     let image = t.base.image in
     let read = c.in_err-read.ensures in
     let at = inventory_place_is image _ c.args.number _ _ c.place_of.ensures c.covers-k.ensures.number (c.page_size-page_size.ensures.value ∙ is.files.agrees.page_size) in
-    tries_early (Unit {0}) (Unit {0}) _ _ _ _ _ _ t (not_kind image inventory_kind c.place_of.result) _ _ c.from_residual.ensures (λ r e. mark_other t.base c.args.number r (ap (λ (q : ℕ). not_kind image inventory_kind q) (sym at) ∙ e))
+    tries_early (Unit {0}) (Unit {0}) _ _ _ _ _ _ t (not_kind image inventory_kind c.place_of.result) _ _ c.from_residual.ensures read.takes_none (λ r e. mark_other t.base c.args.number r (ap (λ (q : ℕ). not_kind image inventory_kind q) (sym at) ∙ e))
     (read.reads t tells is).test read.looks.same read.looks.quiet is (read.looks.opened t tells is)
 
 pub returns-clause-tries : goal.returns-clause-tries

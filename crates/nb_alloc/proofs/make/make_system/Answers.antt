@@ -16,7 +16,7 @@ returns-then-branch-clause-tries g c t tells is =
     let same : code_of c.system_kind-kind.result ≡ system_kind image p = c.system_kind-kind.ensures image (c.page_size.ensures.value ∙ is.files.agrees.page_size) in
     let there : is_kind image (system_kind image p) p ≡ true = ap (λ (k : ℕ). is_kind image k p) (sym same) ∙ sym (has.value t tells is) ∙ c.if-branch.true in
     tries_named {T = Unit {0}} (Ok tt) _ _ _ _ t _ _ _ _ (sym (system_free image p there)) (sym (system_made image p there))
-    (tries_made {T = Unit {0}} (Ok tt) _ _ _ _ t _ [] refl tt (makes_none {T = Unit {0}} (Ok tt) _ _ _ _ t has.looks.same has.looks.quiet is (has.looks.opened t tells is)))
+    (tries_made {T = Unit {0}} (Ok tt) _ _ _ _ t _ [] refl tt (makes_none {T = Unit {0}} (Ok tt) _ _ _ _ t has.looks.same has.looks.quiet is (has.looks.opened t tells is)) tt)
 
 pub returns-clause-tries : goal.returns-clause-tries
 returns-clause-tries g c t tells is =

@@ -3,6 +3,7 @@ use Rattle.nb_alloc.proofs.Common.{as_fault, Fault, is_zeros, code_of, stamped, 
 use Rattle.nb_alloc.proofs.DoesLaws.{tries_passed, tries_front}
 use Rattle.nb_alloc.proofs.RaiseLaws.{stamped-some}
 use Rattle.nb_alloc.proofs.MakeLaws.{stamped_page, put_then}
+use Rattle.nb_alloc.proofs.WantLaws.{wanted_by}
 use Rattle.nb_model.proofs.FreshImageLaws.{code-other}
 use Rattle.nb_alloc.proofs.make.put_page.Goals as goal
 
@@ -29,7 +30,7 @@ returns-clause-tries g c t payload tells is room filled =
     let bytes = stamped_page image p c.code.result kind c.scn.result payload c.args.page.now c.stamp.new.page filled c.stamp.ensures.written c.code.ensures (c.scn.ensures ∙ is.agrees.scn) room in
     let done : Result (Unit {0}) Fault = Ok tt in
     put_then done _ (g.H.Host.world c.raise_entry.new.host) _ _ c.raise_entry.new.store _ t p c.stamp.new.page _ (c.in_ok-raise_entry.ensures.tries t tells is) bytes tt
-    (λ u opened. c.in_ok-write.ensures.makes u tells opened)
+    (λ u opened. c.in_ok-write.ensures.makes u tells opened) (λ u opened. tt)
 
 pub returns-in_err-write-clause-tries : goal.returns-in_err-write-clause-tries
 returns-in_err-write-clause-tries g c t payload tells is room filled =
@@ -41,7 +42,8 @@ returns-in_err-write-clause-tries g c t payload tells is room filled =
     tries_passed c.from_residual-in_err-write.result (as_fault c.in_err-write.field-0.0)
     (λ r. Tries r (g.H.Host.world c.args.host.now) (g.H.Host.world c.write.new.host) c.args.store.now c.write.new.self t (entry_cause image p) (page_strokes image p kind payload)) c.from_residual-in_err-write.ensures
     (put_then failed _ (g.H.Host.world c.raise_entry.new.host) _ _ c.raise_entry.new.store _ t p c.stamp.new.page _ (c.in_ok-raise_entry.ensures.tries t tells is) bytes (none_refused c.in_err-write.field-0.0)
-    (λ u opened. c.in_err-write.ensures.makes u tells opened))
+    (λ u opened. c.in_err-write.ensures.makes u tells opened)
+    (λ u opened. wanted_by (Unit {0}) (Unit {0}) c.in_err-write.field-0.0 _ (λ e. c.in_err-write.ensures.on_memory u tells opened e)))
 
 pub returns-in_err-write-clause-cause : goal.returns-in_err-write-clause-cause
 returns-in_err-write-clause-cause g c =

@@ -1,8 +1,8 @@
 use Rattle.std.proofs.Common.{◌≡◌, ◌/◌, ◌<◌, List, sym, ap, subst, ◌∙◌, [], Bool, true, Ok, Err}
-use Rattle.nb_alloc.proofs.Common.{as_fault, entries_in, scn_place, Stroke, Held, Makes, makes_none, none_refused, Tries, must_raise, raise_strokes, entry_cause, counts_passed, memory_wanted, none_wanted}
+use Rattle.nb_alloc.proofs.Common.{as_fault, entries_in, scn_place, Stroke, Held, Makes, makes_none, none_refused, StopsShort, Tries, WhereMemory, must_raise, raise_stroke, raise_strokes, entry_cause, counts_passed, memory_wanted, none_wanted}
 use Rattle.nb_alloc.proofs.PutLaws.{raised_not, raised_once}
 use Rattle.nb_alloc.proofs.DoesLaws.{tries_early, tries_passed, tries_made, tries_after}
-use Rattle.nb_alloc.proofs.WantLaws.{strikes_after}
+use Rattle.nb_alloc.proofs.WantLaws.{strikes_after, short_first, wanted_by}
 use Rattle.nb_alloc.proofs.put.raise_entry.Goals.{then-branch+in_ok-raise, else-branch}
 use Rattle.nb_alloc.proofs.put.raise_entry.Goals as goal
 
@@ -14,7 +14,7 @@ raise-requires-clause-inside g c =
 pub returns-in_err-must_raise-clause-tries : goal.returns-in_err-must_raise-clause-tries
 returns-in_err-must_raise-clause-tries g c t tells is =
     let asked = c.in_err-must_raise.ensures in
-    tries_early Bool (Unit {0}) _ _ _ _ _ _ t (entry_cause t.base.image c.args.number) _ _ c.from_residual.ensures (λ r e. e) (asked.tells t tells is).test asked.looks.same asked.looks.quiet is (asked.looks.opened t tells is)
+    tries_early Bool (Unit {0}) _ _ _ _ _ _ t (entry_cause t.base.image c.args.number) _ _ c.from_residual.ensures asked.takes_none (λ r e. e) (asked.tells t tells is).test asked.looks.same asked.looks.quiet is (asked.looks.opened t tells is)
 
 pub returns-in_err-raise-clause-tries : goal.returns-in_err-raise-clause-tries
 returns-in_err-raise-clause-tries g c t tells is =
@@ -30,7 +30,9 @@ returns-in_err-raise-clause-tries g c t tells is =
     (λ r. Tries r (g.H.Host.world c.args.host.now) (g.H.Host.world c.raise.new.host) c.args.store.now c.raise.new.store t (entry_cause image p) (raise_strokes image p)) c.from_residual-in_err-raise.ensures
     (tries_after _ _ _ _ _ _ _ t _ _ asked.looks.same asked.looks.quiet is
     (tries_made _ _ _ _ _ t _ _ told.test (none_refused c.in_err-raise.field-0.0)
-    (subst (λ (ss : List Stroke). Makes {T = Unit {0}} (Err fault) (g.H.Host.world c.must_raise.new.host) (g.H.Host.world c.raise.new.host) c.must_raise.new.store c.raise.new.store t ss) (sym (raised_once image p must)) makes)))
+    (subst (λ (ss : List Stroke). Makes {T = Unit {0}} (Err fault) (g.H.Host.world c.must_raise.new.host) (g.H.Host.world c.raise.new.host) c.must_raise.new.store c.raise.new.store t ss) (sym (raised_once image p must)) makes)
+    (subst (λ (ss : List Stroke). WhereMemory {T = Unit {0}} (Err fault) (StopsShort (g.H.Host.world c.must_raise.new.host) (g.H.Host.world c.raise.new.host) c.must_raise.new.store c.raise.new.store t ss)) (sym (raised_once image p must))
+    (wanted_by (Unit {0}) (Unit {0}) c.in_err-raise.field-0.0 _ (λ e. short_first _ _ c.must_raise.new.store c.raise.new.store t (raise_stroke image p) [] (c.in_err-raise.ensures.on_memory t tells still e))))))
 
 pub returns-clause-tries : goal.returns-clause-tries
 returns-clause-tries g c t tells is =
@@ -46,12 +48,12 @@ returns-clause-tries g c t tells is =
           rw (w.host-is, w.store-is)
           (tries_after {T = Unit {0}} (Ok tt) _ _ _ _ _ _ t _ _ asked.looks.same asked.looks.quiet is
           (tries_made {T = Unit {0}} (Ok tt) _ _ _ _ t _ _ told.test tt
-          (subst (λ (ss : List Stroke). Makes {T = Unit {0}} (Ok tt) (g.H.Host.world c.must_raise.new.host) (g.H.Host.world w.raise.new.host) c.must_raise.new.store w.raise.new.store t ss) (sym (raised_once image p must)) makes)))
+          (subst (λ (ss : List Stroke). Makes {T = Unit {0}} (Ok tt) (g.H.Host.world c.must_raise.new.host) (g.H.Host.world w.raise.new.host) c.must_raise.new.store w.raise.new.store t ss) (sym (raised_once image p must)) makes) tt))
       | else-branch w ↦
           rw (w.host-is, w.store-is)
           (tries_made {T = Unit {0}} (Ok tt) _ _ _ _ t _ _ told.test tt
           (subst (λ (ss : List Stroke). Makes {T = Unit {0}} (Ok tt) (g.H.Host.world c.args.host.now) (g.H.Host.world c.must_raise.new.host) c.args.store.now c.must_raise.new.store t ss) (sym (raised_not image p (sym told.value ∙ w.if-branch.false)))
-          (makes_none (Ok tt) _ _ _ _ t asked.looks.same asked.looks.quiet is still)))
+          (makes_none (Ok tt) _ _ _ _ t asked.looks.same asked.looks.quiet is still)) tt)
     ]
 
 pub returns-in_err-raise-clause-on_memory : goal.returns-in_err-raise-clause-on_memory

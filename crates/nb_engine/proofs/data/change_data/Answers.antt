@@ -12,7 +12,7 @@ returns-in_err-read_system-clause-tries g c t tells is =
     let image = t.base.image in
     let p : ℕ = c.args.number in
     let page = c.in_err-read_system.ensures in
-    tries_early (Unit {0}) (Unit {0}) _ _ _ _ _ _ t (not_kind image data_kind p) (data_cause image p) _ c.from_residual.ensures (none_there image p) (page.reads t tells is).test page.looks.same page.looks.quiet is (page.looks.opened t tells is)
+    tries_early (Unit {0}) (Unit {0}) _ _ _ _ _ _ t (not_kind image data_kind p) (data_cause image p) _ c.from_residual.ensures page.takes_none (none_there image p) (page.reads t tells is).test page.looks.same page.looks.quiet is (page.looks.opened t tells is)
 
 pub returns-in_err-read_system-clause-once : goal.returns-in_err-read_system-clause-once
 returns-in_err-read_system-clause-once g c tells = omega (arith, c.in_err-read_system.ensures.once tells c.requires.low)

@@ -13,7 +13,7 @@ returns-in_err-read_system-clause-tries g c t tells is =
     let image = t.base.image in
     let p : ℕ = c.args.number in
     let page = c.in_err-read_system.ensures in
-    tries_early (Unit {0}) (Unit {0}) _ _ _ _ _ _ t (not_kind image data_kind p) (data_cause image p) _ c.from_residual.ensures (none_there image p) (page.reads t tells is).test page.looks.same page.looks.quiet is (page.looks.opened t tells is)
+    tries_early (Unit {0}) (Unit {0}) _ _ _ _ _ _ t (not_kind image data_kind p) (data_cause image p) _ c.from_residual.ensures page.takes_none (none_there image p) (page.reads t tells is).test page.looks.same page.looks.quiet is (page.looks.opened t tells is)
 
 pub returns-clause-tries : goal.returns-clause-tries
 returns-clause-tries g c t tells is =

@@ -1,5 +1,5 @@
 use Rattle.std.proofs.Common.{◌≤◌, List, [], length, take, refl, sym, ap, subst, ◌∙◌, arith, Ok, Err, None}
-use Rattle.nb_engine.proofs.Common.{as_fault, size_facts, flag, Stroke, byte_strokes, Quiet, counts_passed, memory_wanted, none_wanted, Held, but_pages, Makes, none_refused, Tries, tries_early, tries_passed, tries_after, tries_made, strikes_after}
+use Rattle.nb_engine.proofs.Common.{as_fault, size_facts, flag, Stroke, byte_strokes, Quiet, counts_passed, memory_wanted, none_wanted, Held, but_pages, Makes, none_refused, StopsShort, Tries, WhereMemory, tries_early, tries_passed, tries_after, tries_made, strikes_after, short_first, wanted_by}
 use Rattle.nb_engine.proofs.FlagLaws.{byte_is, front_stays, flagged-some, flag_strokes}
 use Rattle.nb_engine.proofs.flags.put_flag.Goals as goal
 
@@ -18,7 +18,7 @@ write-requires-clause-control_block g c first tells t opened =
 pub returns-in_err-read_first-clause-tries : goal.returns-in_err-read_first-clause-tries
 returns-in_err-read_first-clause-tries g c t tells is =
     let read = c.in_err-read_first.ensures in
-    tries_early (Unit {0}) (Unit {0}) _ _ _ _ _ _ t None None _ c.from_residual.ensures (λ r e. e) (read.reads t tells is).test read.looks.same read.looks.quiet is (read.looks.opened t tells is)
+    tries_early (Unit {0}) (Unit {0}) _ _ _ _ _ _ t None None _ c.from_residual.ensures read.takes_none (λ r e. e) (read.reads t tells is).test read.looks.same read.looks.quiet is (read.looks.opened t tells is)
 
 pub returns-in_err-write-clause-tries : goal.returns-in_err-write-clause-tries
 returns-in_err-write-clause-tries g c t tells is =
@@ -33,7 +33,9 @@ returns-in_err-write-clause-tries g c t tells is =
     tries_passed c.from_residual-in_err-write.result fault (λ r. Tries r (g.H.Host.world c.args.host.now) new c.args.store.now c.write.new.self t None (byte_strokes c.args.at (flag c.args.on) image)) c.from_residual-in_err-write.ensures
     (tries_after {T = Unit {0}} (Err fault) _ _ _ _ _ _ t _ _ read.looks.same read.looks.quiet is
     (tries_made {T = Unit {0}} (Err fault) _ _ _ _ t None _ refl (none_refused c.in_err-write.field-0.0)
-    (subst (λ (ss : List Stroke). Makes {T = Unit {0}} (Err fault) (g.H.Host.world c.read_first.new.host) new c.read_first.new.store c.write.new.self t ss) strokes makes)))
+    (subst (λ (ss : List Stroke). Makes {T = Unit {0}} (Err fault) (g.H.Host.world c.read_first.new.host) new c.read_first.new.store c.write.new.self t ss) strokes makes)
+    (subst (λ (ss : List Stroke). WhereMemory {T = Unit {0}} (Err fault) (StopsShort (g.H.Host.world c.read_first.new.host) new c.read_first.new.store c.write.new.self t ss)) strokes
+    (wanted_by (Unit {0}) (Unit {0}) c.in_err-write.field-0.0 _ (λ e. short_first _ _ c.read_first.new.store c.write.new.self t _ [] (c.in_err-write.ensures.on_memory t tells still e))))))
 
 pub returns-clause-tries : goal.returns-clause-tries
 returns-clause-tries g c t tells is =
@@ -45,7 +47,7 @@ returns-clause-tries g c t tells is =
     let makes = c.in_ok-write.ensures.makes t tells still in
     tries_after {T = Unit {0}} (Ok tt) _ _ _ _ _ _ t _ _ read.looks.same read.looks.quiet is
     (tries_made {T = Unit {0}} (Ok tt) _ _ _ _ t None _ refl tt
-    (subst (λ (ss : List Stroke). Makes {T = Unit {0}} (Ok tt) (g.H.Host.world c.read_first.new.host) (g.H.Host.world c.write.new.host) c.read_first.new.store c.write.new.self t ss) strokes makes))
+    (subst (λ (ss : List Stroke). Makes {T = Unit {0}} (Ok tt) (g.H.Host.world c.read_first.new.host) (g.H.Host.world c.write.new.host) c.read_first.new.store c.write.new.self t ss) strokes makes) tt)
 
 pub returns-in_err-write-clause-on_memory : goal.returns-in_err-write-clause-on_memory
 returns-in_err-write-clause-on_memory g c t tells is memory =

@@ -1,12 +1,12 @@
 use Rattle.std.proofs.Common.{◌≡◌, ◌+◌, ◌≤◌, ◌<◌, ℕ, List, length, refl, sym, ap, ◌∙◌, arith}
-use Rattle.nb_engine.proofs.Common.{bytes_of, with_part, with_payload, size_facts, quiet_begun, Page, page_at, old_page, linked_payload, write_cause, tries_failed, tries_after, tries_fault, tries_named, old_below, Held}
+use Rattle.nb_engine.proofs.Common.{bytes_of, with_part, with_payload, size_facts, quiet_begun, Page, page_at, old_page, linked_payload, write_cause, tries_failed, tries_after, refused_memory, tries_fault, tries_named, old_below, Held}
 use Rattle.nb_engine.proofs.LinkLaws.{written_payload, payload_inside, write_low, write_past}
 use Rattle.nb_engine.proofs.grow.link.Goals as goal
 
 pub returns-then-last-count-clause-tries : goal.returns-then-last-count-clause-tries
 returns-then-last-count-clause-tries g c t tells is =
     let w = g.H.Host.world c.args.host.now in
-    tries_failed (Unit {0}) _ w w c.args.store.now c.args.store.now t (write_cause t.base.image c.args.last) _ (write_past t.base.image c.args.last (omega (arith, is.files.agrees.count, c.count.ensures.value, c.if-last-count.true))) refl
+    tries_failed (Unit {0}) _ w w c.args.store.now c.args.store.now t (write_cause t.base.image c.args.last) _ (refused_memory _) (write_past t.base.image c.args.last (omega (arith, is.files.agrees.count, c.count.ensures.value, c.if-last-count.true))) refl
     (quiet_begun w (g.met.H.Host.timely c.args.host.now)) is is
 
 pub returns-in_err-read-clause-tries : goal.returns-in_err-read-clause-tries

@@ -7,7 +7,7 @@ pub returns-in_err-first-clause-makes : goal.returns-in_err-first-clause-makes
 returns-in_err-first-clause-makes g c t pages tells is shaped last is_data =
     let image = t.base.image in
     let tests = c.in_err-first.ensures in
-    tries_early ℕ ℕ _ _ _ _ _ _ t (behind_cause (new_behind History [] image).0 c.args.last) (grow_cause image pages) _ c.from_residual.ensures
+    tries_early ℕ ℕ _ _ _ _ _ _ t (behind_cause (new_behind History [] image).0 c.args.last) (grow_cause image pages) _ c.from_residual.ensures tests.takes_none
     (λ r e. grow_refused image pages r (grown_judged History pages [] (drafted image) ∙ ap (behind_cause (new_behind History [] image).0) (sym last) ∙ e)) (tests.one t (told no_rows) tells is shaped (λ p. no_rows_short) is_data refl) tests.looks.same tests.looks.quiet is (tests.looks.opened t tells is)
 
 pub returns-in_err-check_scn-clause-makes : goal.returns-in_err-check_scn-clause-makes
@@ -16,7 +16,7 @@ returns-in_err-check_scn-clause-makes g c t pages tells is shaped last is_data =
     let tests = c.in_ok-first.ensures in
     let none = tests.one t (told no_rows) tells is shaped (λ p. no_rows_short) is_data refl in
     let room = grown_judged History pages [] (drafted image) ∙ ap (behind_cause (new_behind History [] image).0) (sym last) ∙ none in
-    tries_early (Unit {0}) ℕ _ _ _ _ _ _ t (no_scn image) (grow_cause image pages) _ c.from_residual-in_err-check_scn.ensures (grow_spent image pages room)
+    tries_early (Unit {0}) ℕ _ _ _ _ _ _ t (no_scn image) (grow_cause image pages) _ c.from_residual-in_err-check_scn.ensures c.in_err-check_scn.ensures.takes_none (grow_spent image pages room)
     (c.in_err-check_scn.ensures.test image (c.scn-scn.ensures ∙ is.agrees.scn)) tests.looks.same tests.looks.quiet is (tests.looks.opened t tells is)
 
 pub returns-clause-makes : goal.returns-clause-makes

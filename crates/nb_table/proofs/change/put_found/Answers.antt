@@ -1,6 +1,6 @@
 use Rattle.std.proofs.Common.{refl, sym, ◌∙◌}
 use Rattle.nb_table.proofs.Common.{NoKey, quiet_begun, Seen, row_spot, spots, in_row, done, seeing, refused_does}
-use Rattle.nb_table.proofs.ChangeLaws.{row_missing, row_does, found_kind}
+use Rattle.nb_table.proofs.ChangeLaws.{row_missing, row_does, row_stops, found_kind}
 use Rattle.nb_table.proofs.FindLaws.{found_none}
 use Rattle.nb_table.proofs.change.put_found.Goals as goal
 
@@ -15,3 +15,12 @@ returns-clause-turn g c s t chain tells same is formed found =
     let row = c.in-Some.row in
     let there = sym c.in-Some.is ∙ found in
     row_does c.put_slot.result _ _ _ _ t s chain c.args.key c.args.bytes.now row same there (c.put_slot.ensures.tries t tells is (found_kind t.base.image chain formed c.args.key row there))
+
+pub returns-clause-on_memory : goal.returns-clause-on_memory
+returns-clause-on_memory g c s t chain tells same is formed found =
+    let row = c.in-Some.row in
+    let there = sym c.in-Some.is ∙ found in
+    row_stops c.put_slot.result _ _ _ _ t s chain c.args.key c.args.bytes.now row same there (c.put_slot.ensures.tries t tells is (found_kind t.base.image chain formed c.args.key row there))
+
+pub returns-in_default-clause-on_memory : goal.returns-in_default-clause-on_memory
+returns-in_default-clause-on_memory g c s t chain tells same is formed found = tt

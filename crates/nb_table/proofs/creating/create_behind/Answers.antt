@@ -9,7 +9,7 @@ returns-in_err-room_for-clause-tries g c t tells is last =
     let image = t.base.image in
     let made = created_behind image table in
     let room = c.in_err-room_for.ensures in
-    tries_early (Unit {0}) (Unit {0}) _ _ _ _ _ _ t (unmade_behind image (second_data first (second image table) image).0 c.args.last) (unmade image made) made.strokes c.from_residual.ensures (λ r e. behind_by image table c.args.last last.is ∙ e)
+    tries_early (Unit {0}) (Unit {0}) _ _ _ _ _ _ t (unmade_behind image (second_data first (second image table) image).0 c.args.last) (unmade image made) made.strokes c.from_residual.ensures room.takes_none (λ r e. behind_by image table c.args.last last.is ∙ e)
     (room.two t first (second image table) tells is first_short (second_short image table c.requires.name) last.kind refl) room.looks.same room.looks.quiet is (room.looks.opened t tells is)
 
 pub returns-in_err-first-clause-tries : goal.returns-in_err-first-clause-tries

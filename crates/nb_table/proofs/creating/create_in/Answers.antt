@@ -10,7 +10,7 @@ returns-in_err-room_for-clause-tries g c t tells is kind =
     let image = t.base.image in
     let made = created_in image table place in
     let room = c.in_err-room_for.ensures in
-    tries_early (Unit {0}) (Unit {0}) _ _ _ _ _ _ t (unmade_behind image (first_made image).0 place.page) (unmade image made) made.strokes c.from_residual.ensures (λ r e. in_named image table place ∙ e)
+    tries_early (Unit {0}) (Unit {0}) _ _ _ _ _ _ t (unmade_behind image (first_made image).0 place.page) (unmade image made) made.strokes c.from_residual.ensures room.takes_none (λ r e. in_named image table place ∙ e)
     (room.one t first tells is first_short kind refl) room.looks.same room.looks.quiet is (room.looks.opened t tells is)
 
 pub returns-in_err-first-clause-tries : goal.returns-in_err-first-clause-tries

@@ -14,7 +14,7 @@ returns-in_err-check_drop-clause-tries g c t table tells is has =
     let size : IsTrue (is_page_size c.args.engine.now.files.page_size) = subst (λ (n : ℕ). IsTrue (is_page_size n)) c.requires.room c.requires.size in
     let shaped = shaped_of _ _ t is size (table_least image table spot has) in
     let check = c.in_err-check_drop.ensures in
-    tries_early (Unit {0}) (Unit {0}) _ _ _ _ _ _ t (lowest_broken (drop_broken image pages (entry_broken image spot.page))) (not_of_form (dropped image spot)) (dropped image spot).strokes c.from_residual.ensures
+    tries_early (Unit {0}) (Unit {0}) _ _ _ _ _ _ t (lowest_broken (drop_broken image pages (entry_broken image spot.page))) (not_of_form (dropped image spot)) (dropped image spot).strokes c.from_residual.ensures check.takes_none
     (λ r e. drop_cause image header shaped table spot has ∙ e)
     (check.test t pages tells is (its_chain t header shaped table spot has c.args.rows.now.first c.requires.first)) check.looks.same check.looks.quiet is (check.looks.opened t tells is)
 

@@ -5,7 +5,7 @@ use Rattle.nb_table.proofs.dropping.give_back.Goals as goal
 pub returns-in_err-data_read-clause-tries : goal.returns-in_err-data_read-clause-tries
 returns-in_err-data_read-clause-tries g c t tells is none =
     let read = c.in_err-data_read.ensures in
-    tries_early (Unit {0}) ℕ _ _ _ _ _ _ t (not_data t.base.image c.args.owner c.args.number) (mark_cause t.base.image c.args.number) _ c.from_residual.ensures (λ r e. absurd (none_some r (sym none ∙ e))) (read.reads t tells is).test read.looks.same read.looks.quiet is (read.looks.opened t tells is)
+    tries_early (Unit {0}) ℕ _ _ _ _ _ _ t (not_data t.base.image c.args.owner c.args.number) (mark_cause t.base.image c.args.number) _ c.from_residual.ensures read.takes_none (λ r e. absurd (none_some r (sym none ∙ e))) (read.reads t tells is).test read.looks.same read.looks.quiet is (read.looks.opened t tells is)
 
 pub returns-in_err-data_free-clause-tries : goal.returns-in_err-data_free-clause-tries
 returns-in_err-data_free-clause-tries g c t tells is none =

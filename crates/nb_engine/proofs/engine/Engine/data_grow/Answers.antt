@@ -1,5 +1,5 @@
 use Rattle.std.proofs.Common.{◌≡◌, ℕ, refl, sym, ap, ◌∙◌, arith, Some, None}
-use Rattle.nb_engine.proofs.Common.{IfOk-weaker, data_payload, NotDatabase, quiet_begun, drafted, owner_of, grown, Held, but_pages, behind_cause, new_behind, unmade, IsShort, data_short, tries_early, tries_failed, tries_after, tries_named, IsGrown, unmade_short, grown_unmade}
+use Rattle.nb_engine.proofs.Common.{IfOk-weaker, data_payload, NotDatabase, quiet_begun, drafted, owner_of, grown, Held, but_pages, behind_cause, new_behind, unmade, IsShort, data_short, tries_early, tries_failed, tries_after, refused_memory, tries_named, IsGrown, unmade_short, grown_unmade}
 use Rattle.nb_host.specs.declared.faults.Fault.TheVariants.{Refused}
 use Rattle.nb_engine.proofs.NewTurn.{ready_of, count_of}
 use Rattle.nb_engine.proofs.engine.Engine.data_grow.Goals as goal
@@ -9,7 +9,7 @@ returns-then-count-lt-FIRST_TO_GIVE-clause-makes g c t chain pages tells is owne
     let w = g.H.Host.world c.args.host.now in
     let grows = (grown chain pages c.args.slots.now (drafted t.base.image)).0 in
     let count = count_of _ _ _ t c.count-count.result c.self.view_is is c.count-count.ensures.value in
-    tries_failed ℕ (Refused (NotDatabase c.count-count.result)) w w _ _ t (unmade t.base.image grows) grows.strokes
+    tries_failed ℕ (Refused (NotDatabase c.count-count.result)) w w _ _ t (unmade t.base.image grows) grows.strokes (refused_memory _)
     (unmade_short t.base.image grows (omega (arith, count, c.if-count-lt-FIRST_TO_GIVE.true)) ∙ ap (λ (n : ℕ). Some (NotDatabase n)) (sym count)) refl (quiet_begun w (g.met.H.Host.timely c.args.host.now)) is is
 
 pub returns-in_err-first-clause-makes : goal.returns-in_err-first-clause-makes
@@ -20,7 +20,7 @@ returns-in_err-first-clause-makes g c t chain pages tells is owner last is_data 
     let short : IsShort (λ p. data_payload 0 (owner_of chain) slots) = λ p. data_short (owner_of chain) slots c.requires.short in
     let cause : unmade t.base.image grows ≡ behind_cause (new_behind chain slots t.base.image).0 c.args.last = grown_unmade t.base.image chain pages slots ready.1.long ∙ ap (behind_cause (new_behind chain slots t.base.image).0) (sym last) in
     let tests = c.in_err-first.ensures in
-    tries_early ℕ ℕ _ _ _ _ _ _ t (behind_cause (new_behind chain slots t.base.image).0 c.args.last) (unmade t.base.image grows) _ c.from_residual.ensures (λ r e. cause ∙ e)
+    tries_early ℕ ℕ _ _ _ _ _ _ t (behind_cause (new_behind chain slots t.base.image).0 c.args.last) (unmade t.base.image grows) _ c.from_residual.ensures tests.takes_none (λ r e. cause ∙ e)
     (tests.one t (λ p. data_payload 0 (owner_of chain) slots) tells ready.0 ready.1 short is_data refl) (tests.looks.same ∙ ap but_pages c.self.view_is) tests.looks.quiet is (tests.looks.opened t tells ready.0)
 
 pub returns-clause-makes : goal.returns-clause-makes

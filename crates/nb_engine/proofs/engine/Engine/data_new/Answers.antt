@@ -1,5 +1,5 @@
 use Rattle.std.proofs.Common.{◌≡◌, ℕ, refl, sym, ap, subst, ◌∙◌, arith, Some, None, IfOk}
-use Rattle.nb_engine.proofs.Common.{data_payload, NotDatabase, quiet_begun, Draft, draft_cause, Held, but_pages, Tries, owner_by, new_data, unmade, IsShort, new_named, data_short, tries_early, tries_failed, tries_after, tries_named, unmade_short, unmade_long}
+use Rattle.nb_engine.proofs.Common.{data_payload, NotDatabase, quiet_begun, Draft, draft_cause, Held, but_pages, Tries, owner_by, new_data, unmade, IsShort, new_named, data_short, tries_early, tries_failed, tries_after, refused_memory, tries_named, unmade_short, unmade_long}
 use Rattle.nb_host.specs.declared.faults.Fault.TheVariants.{Refused}
 use Rattle.nb_engine.proofs.NewTurn.{ready_of, count_of}
 use Rattle.nb_engine.proofs.engine.Engine.data_new.Goals as goal
@@ -9,7 +9,7 @@ returns-then-count-lt-FIRST_TO_GIVE-clause-makes g c t tells is =
     let w = g.H.Host.world c.args.host.now in
     let made = new_data c.args.owner c.args.slots.now t.base.image in
     let count = count_of _ _ _ t c.count-count.result c.self.view_is is c.count-count.ensures.value in
-    tries_failed ℕ (Refused (NotDatabase c.count-count.result)) w w _ _ t (unmade t.base.image made.0) made.0.strokes
+    tries_failed ℕ (Refused (NotDatabase c.count-count.result)) w w _ _ t (unmade t.base.image made.0) made.0.strokes (refused_memory _)
     (unmade_short t.base.image made.0 (omega (arith, count, c.if-count-lt-FIRST_TO_GIVE.true)) ∙ ap (λ (n : ℕ). Some (NotDatabase n)) (sym count)) refl (quiet_begun w (g.met.H.Host.timely c.args.host.now)) is is
 
 pub returns-in_err-first-clause-makes : goal.returns-in_err-first-clause-makes
@@ -18,7 +18,7 @@ returns-in_err-first-clause-makes g c t tells is =
     let made = new_data c.args.owner c.args.slots.now t.base.image in
     let short : IsShort (λ p. data_payload 0 (owner_by c.args.owner p) c.args.slots.now) = λ p. data_short (owner_by c.args.owner p) c.args.slots.now c.requires.short in
     let tests = c.in_err-first.ensures in
-    tries_early ℕ ℕ _ _ _ _ _ _ t (draft_cause made.0) (unmade t.base.image made.0) _ c.from_residual.ensures (λ r e. unmade_long t.base.image made.0 ready.1.long ∙ e) (tests.test t 5 _ tells ready.0 ready.1 short) (tests.looks.same ∙ ap but_pages c.self.view_is) tests.looks.quiet is (tests.looks.opened t tells ready.0)
+    tries_early ℕ ℕ _ _ _ _ _ _ t (draft_cause made.0) (unmade t.base.image made.0) _ c.from_residual.ensures tests.takes_none (λ r e. unmade_long t.base.image made.0 ready.1.long ∙ e) (tests.test t 5 _ tells ready.0 ready.1 short) (tests.looks.same ∙ ap but_pages c.self.view_is) tests.looks.quiet is (tests.looks.opened t tells ready.0)
 
 pub returns-clause-makes : goal.returns-clause-makes
 returns-clause-makes g c t tells is =

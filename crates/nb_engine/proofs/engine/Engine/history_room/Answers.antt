@@ -55,7 +55,7 @@ returns-in_err-walked-clause-makes g c t tells is =
     let here = subst (λ (h : Held). IsOpen w h t) (sym c.self.view_is) is in
     let image = t.base.image in
     let walked = c.in_err-walked.ensures in
-    tries_early (Walked × ℕ) Room _ _ _ _ _ _ t (broken_at (pages_of History image)) (room_cause image) (room_in image).draft.strokes c.from_residual.ensures
+    tries_early (Walked × ℕ) Room _ _ _ _ _ _ t (broken_at (pages_of History image)) (room_cause image) (room_in image).draft.strokes c.from_residual.ensures walked.takes_none
     (λ r e. first_here (broken_at (pages_of History image)) (short_for (free_spot (spots History image)) image ∷ not_of_form (room_in image).draft ∷ no_room (room_in image).draft ∷ no_scn image ∷ []) r e) (walked.test t tells here) (walked.looks.same ∙ ap but_pages c.self.view_is) walked.looks.quiet is (walked.looks.opened t tells here)
 
 pub returns-in_err-check_room-in-Some-clause-makes : goal.returns-in_err-check_room-in-Some-clause-makes
@@ -63,7 +63,7 @@ returns-in_err-check_room-in-Some-clause-makes g c t tells is =
     let at = (goal.at.returns-in_err-check_room-in-Some-clause-makes g c).In-Some in
     let walked = c.in_ok-walked.ensures in
     let tests = c.in_err-check_room-in-Some.ensures in
-    tries_early (Unit {0}) Room _ _ _ _ _ _ t _ (room_cause t.base.image) (room_in t.base.image).draft.strokes c.from_residual-in_err-check_room-in-Some.ensures (λ r e. cause_is g at t tells is ∙ e)
+    tries_early (Unit {0}) Room _ _ _ _ _ _ t _ (room_cause t.base.image) (room_in t.base.image).draft.strokes c.from_residual-in_err-check_room-in-Some.ensures tests.takes_none (λ r e. cause_is g at t tells is ∙ e)
     (tests.test t tells (walked_some g at t tells is) (kind g at t tells is)) (tests.looks.same ∙ walked.looks.same ∙ ap but_pages c.self.view_is) (quiet_joined _ _ _ walked.looks.quiet tests.looks.quiet) is (tests.looks.opened t tells (walked_some g at t tells is))
 
 pub returns-in_ok-check_room-in-Some-clause-makes : goal.returns-in_ok-check_room-in-Some-clause-makes
@@ -74,7 +74,7 @@ returns-in_ok-check_room-in-Some-clause-makes g c t tells is =
     let tests = c.in_ok-check_room-in-Some.ensures in
     tries_made (Ok c.in-Some.room) _ _ _ _ t (room_cause t.base.image) (room_in t.base.image).draft.strokes (cause_is g at t tells is ∙ tests.test t tells (walked_some g at t tells is) (kind g at t tells is)) tt
     (subst (λ (ss : List Stroke). Makes (Ok c.in-Some.room) (g.H.Host.world c.args.host.now) (g.H.Host.world c.check_room.new.host) c.args.self.now c.check_room.new.store t ss) (sym (kept_none t.base.image slot.spot slot.is))
-    (makes_none (Ok c.in-Some.room) _ _ _ _ t (tests.looks.same ∙ walked.looks.same ∙ ap but_pages c.self.view_is) (quiet_joined _ _ _ walked.looks.quiet tests.looks.quiet) is (tests.looks.opened t tells (walked_some g at t tells is))))
+    (makes_none (Ok c.in-Some.room) _ _ _ _ t (tests.looks.same ∙ walked.looks.same ∙ ap but_pages c.self.view_is) (quiet_joined _ _ _ walked.looks.quiet tests.looks.quiet) is (tests.looks.opened t tells (walked_some g at t tells is)))) tt
 
 pub returns-in_err-number-in-None-clause-makes : goal.returns-in_err-number-in-None-clause-makes
 returns-in_err-number-in-None-clause-makes g c t tells is =

@@ -1,5 +1,5 @@
 use Rattle.std.proofs.Common.{◌≡◌, ◌<◌, List, [], ◌∷◌, ◌++◌, refl, sym, subst, ◌∙◌, arith, ap, None, Ok, Err, IsTrue}
-use Rattle.nb_engine.proofs.Common.{as_fault, entries_in, Done, page_at, image_size, Stroke, first_cause, read_only, not_raw, too_long, Seen, write_turn, Trail, Held, IsOpen, but_pages, Does, Tries, entry_cause, raise_strokes, raw_stroke, done, vec_whole, entries_some, seeing, tested_does, tries_does, if_err, tries_passed, tries_after, tries_front, tries_opened, counts_passed, memory_wanted, none_wanted, none_refused, after_strokes, stops_first, stops_then, stops_after}
+use Rattle.nb_engine.proofs.Common.{as_fault, entries_in, Done, page_at, image_size, Stroke, first_cause, read_only, not_raw, too_long, Seen, write_turn, Trail, Held, IsOpen, but_pages, Does, Tries, entry_cause, raise_strokes, raw_stroke, done, vec_whole, entries_some, seeing, tested_does, tries_does, if_err, tries_passed, tries_after, tries_front, tries_opened, counts_passed, memory_wanted, none_wanted, none_refused, after_strokes, stops_first, stops_then, stops_after, wanted_by}
 use Rattle.nb_engine.proofs.WriteLaws.{no_header, write_untaken, write_checked, write_is, write_does}
 use Rattle.nb_change.proofs.ResultLaws.{passed_on}
 use Rattle.nb_engine.proofs.engine.Engine.page_write.Goals as goal
@@ -75,7 +75,7 @@ pub returns-clause-turn : goal.returns-clause-turn
 returns-clause-turn g c s t tells same is =
     let at = (goal.at.returns-clause-turn g c).After-deref_mut-2 in
     write_does (Ok tt) _ _ _ _ _ _ t s c.args.number c.args.text.now _ same (taken g at t tells is) (free g at t tells is) (some g at t tells is) (raised g at t tells is) (read g at t tells is) tt
-    (λ u opened is. c.in_ok-write_raw.ensures.makes u tells opened is)
+    (λ u opened is. c.in_ok-write_raw.ensures.makes u tells opened is) (λ u opened. tt)
 
 pub returns-in_err-write_raw-clause-turn : goal.returns-in_err-write_raw-clause-turn
 returns-in_err-write_raw-clause-turn g c s t tells same is =
@@ -84,7 +84,8 @@ returns-in_err-write_raw-clause-turn g c s t tells same is =
     let turn = write_turn s c.args.number c.args.text.now in
     tries_passed c.from_residual-in_err-write_raw.result (as_fault error) (λ r. Does done r (g.H.Host.world c.args.host.now) (g.H.Host.world c.write_raw.new.host) c.args.self.now c.write_raw.new.store t turn) c.from_residual-in_err-write_raw.ensures
     (write_does (Err (as_fault error)) _ _ _ _ _ _ t s c.args.number c.args.text.now _ same (taken g at t tells is) (free g at t tells is) (some g at t tells is) (raised g at t tells is) (read g at t tells is) (none_refused error)
-    (λ u opened is. c.in_err-write_raw.ensures.makes u tells opened is))
+    (λ u opened is. c.in_err-write_raw.ensures.makes u tells opened is)
+    (λ u opened. wanted_by (Unit {0}) (Unit {0}) error _ (λ e. c.in_err-write_raw.ensures.on_memory u tells opened e)))
 
 pub returns-in_err-raise_entry-clause-on_memory : goal.returns-in_err-raise_entry-clause-on_memory
 returns-in_err-raise_entry-clause-on_memory g c t tells is memory =

@@ -1,5 +1,5 @@
 use Rattle.std.proofs.Common.{◌≡◌, ℕ, ◌∙◌, refl, sym, ap, subst, rules, arith, None, Some}
-use Rattle.nb_engine.proofs.Common.{normal_state, WrongState, quiet_begun, Done, flag, Cause, not_state, Seen, byte_strokes, access_turn, Held, IsOpen, Tries, done, seeing, if_ok, tries_failed, tries_does}
+use Rattle.nb_engine.proofs.Common.{normal_state, WrongState, quiet_begun, Done, flag, Cause, not_state, Seen, byte_strokes, access_turn, Held, IsOpen, Tries, done, seeing, if_ok, tries_failed, tries_does, refused_memory}
 use denote.Enum.Bare.{same_true, same_false}
 use Rattle.nb_cases.specs.Events.{OnOpen}
 use Rattle.nb_cases.specs.contracts.events.Case.{the_type}
@@ -16,7 +16,7 @@ returns-then-eq-clause-turn g c s t tells same is =
     let says : OnOpen (not_state normal_state) c.state-state.result case.WrongState = subst (OnOpen (not_state normal_state) c.state-state.result) (same_true the_type (search rules) c.case_of.result case.WrongState (sym c.eq.ensures ∙ c.if-eq.true)) c.case_of.ensures in
     let other = says t.base.image (sym state) ∙ ap (λ (n : ℕ). Some (WrongState n)) (sym c.from.ensures) in
     tries_does done _ first first _ _ t s (λ (x : Seen). access_turn x c.args.closed) _ Done refl _ same (access_is (seeing s t.base) c.args.closed) tt
-    (tries_failed (Unit {0}) _ first first _ _ t (not_state normal_state t.base.image) _ other refl (quiet_begun first (g.met.H.Host.timely c.args.host.now)) is is)
+    (tries_failed (Unit {0}) _ first first _ _ t (not_state normal_state t.base.image) _ (refused_memory _) other refl (quiet_begun first (g.met.H.Host.timely c.args.host.now)) is is)
 
 pub returns-clause-turn : goal.returns-clause-turn
 returns-clause-turn g c s t tells same is =

@@ -1,5 +1,5 @@
 use Rattle.std.proofs.Common.{◌≡◌, ℕ, [], ◌∙◌, refl, sym, ap, subst, true, None}
-use Rattle.nb_engine.proofs.Common.{Quiet, quiet_begun, Done, is_read_only, flag, Cause, read_only, Seen, byte_strokes, forced_turn, Strikes, Held, IsOpen, NoPageWaits, but_pages, name_of, Tries, done, seeing, if_ok, tries_failed, tries_does}
+use Rattle.nb_engine.proofs.Common.{Quiet, quiet_begun, Done, is_read_only, flag, Cause, read_only, Seen, byte_strokes, forced_turn, Strikes, Held, IsOpen, NoPageWaits, but_pages, name_of, Tries, done, seeing, if_ok, tries_failed, tries_does, refused_memory}
 use Rattle.nb_engine.proofs.FreeLaws.{closed_cause, open_cause}
 use Rattle.nb_engine.proofs.FlagLaws.{forced_is}
 use Rattle.nb_engine.proofs.engine.Engine.set_forced.Goals as goal
@@ -10,7 +10,7 @@ returns-then-is_read_only-clause-turn g c s t tells same is =
     let here = subst (λ (h : Held). IsOpen first h t) (sym c.self.view_is) is in
     let closed : is_read_only t.base.image ≡ true = sym here.agrees.read_only ∙ sym c.is_read_only.ensures ∙ c.if-is_read_only.true in
     tries_does done _ first first _ _ t s (λ (x : Seen). forced_turn x c.args.on) _ Done refl _ same (forced_is (seeing s t.base) c.args.on) tt
-    (tries_failed (Unit {0}) _ first first _ _ t (read_only t.base.image) _ (closed_cause t.base.image closed) refl (quiet_begun first (g.met.H.Host.timely c.args.host.now)) is is)
+    (tries_failed (Unit {0}) _ first first _ _ t (read_only t.base.image) _ (refused_memory _) (closed_cause t.base.image closed) refl (quiet_begun first (g.met.H.Host.timely c.args.host.now)) is is)
 
 pub returns-clause-turn : goal.returns-clause-turn
 returns-clause-turn g c s t tells same is =
