@@ -1,15 +1,20 @@
 -- The definitions that the proofs of this crate speak in, and the laws of other crates that they cite, passed on from one place. Declares nothing.
 pub use Rattle.nb_alloc.proofs.DoesLaws.{refused_does, seeing, sure_of, tested_by_name, tested_does, tested_on, tries_after, tries_does, tries_made, tries_other, tries_passed, tries_valued, valued_does}
+pub use Rattle.nb_alloc.proofs.WantLaws.{short_front, short_then, wanted_so}
 pub use Rattle.nb_base.specs.Takes.{IsNoRefusal, after_strokes}
 pub use Rattle.nb_change.proofs.ResultLaws.{on_ok_then, passed_on}
 pub use Rattle.nb_check.specs.Passes.{AreSized, HasEntryOf, HoldsTaken, IsFirstBelow, IsLowestAt, IsMapOf, IsOf}
 unfoldable pub use Rattle.nb_check.specs.Sets.{has, pages_in}
 pub use Rattle.nb_check.specs.Sets.{IsWithout, room_of}
+pub use Rattle.nb_check.specs.Findings.{said_of}
+pub use Rattle.nb_check.specs.Marks.{IsReached, is_hit}
 pub use Rattle.nb_check.specs.Walks.{chains_on}
+pub use Rattle.nb_check.specs.declared.checking.Findings.{Findings}
+pub use Rattle.nb_check.specs.declared.set.Marks.{Marks}
 pub use Rattle.nb_check.specs.declared.facts.Broken.{Broken}
 pub use Rattle.nb_check.specs.declared.facts.Extent.{Extent}
 pub use Rattle.nb_engine.specs.Mark.{mark_cause}
-pub use Rattle.nb_engine.specs.Tries.{Tries}
+pub use Rattle.nb_engine.specs.Tries.{StopsShort, Tries, WhereMemory}
 pub use Rattle.nb_fields.proofs.PlaceLaws.{bits-least, entries-least}
 pub use Rattle.nb_fields.proofs.SizeLaws.{SizeFacts, size_facts}
 pub use Rattle.nb_fields.specs.Bytes.{is_zeros, part}
@@ -43,6 +48,8 @@ unfoldable pub use Rattle.nb_model.specs.Chains.{first_such, found_pages, is_in_
 pub use Rattle.nb_model.specs.Chains.{Catalogue, Chain, History, RowsFrom, Slot, Spot, first_in, first_of, is_used, linked, next_in, owner_in, owner_of, table_of}
 unfoldable pub use Rattle.nb_model.specs.Checks.{check_turn, reclaim_turn}
 pub use Rattle.nb_model.specs.Checks.{chains_cause, check_cause, reclaim_cause, reclaimed, unsound_by}
+unfoldable pub use Rattle.nb_model.specs.Danger.{in_danger, is_twice}
+pub use Rattle.nb_model.specs.Danger.{is_in_danger}
 unfoldable pub use Rattle.nb_model.specs.Facts.{breaks, first_broken, first_from, unsound}
 pub use Rattle.nb_model.specs.Facts.{covered, facts, is_entry_late, is_entry_low, number_of}
 unfoldable pub use Rattle.nb_model.specs.Forms.{has_entry, is_free_page, old_page, put, raised, scn_entry, with_bit}

@@ -1,6 +1,6 @@
 -- Leaked pages are given back one after the other, in rising order.
-use Rattle.std.proofs.Common.{◌≡◌, ℕ, zero, suc, ◌+◌, ◌-◌, ◌*◌, ◌<◌, ◌≤◌, List, [], ◌∷◌, ◌++◌, length, refl, sym, ap, subst, append_assoc, ◌∙◌, arith, Bool, true, false, cond, None, Result, Ok, Err, IfErr}
-use Rattle.nb_check.proofs.Common.{filter, range_with_len, append-nil, is_system_place, World, Fault, Quiet, base_of, Draft, drafted, give_page, Image, image_size, HasHeader, IsSoundImage, Stroke, all_given, Trail, after_stroke, drafted_is, drafts_are, set_bit_keeps, IsWhole, fits_first, leaked_plain, leaked_two, given_first, bit_put, header_whole, AnyPage, bit_inventory, bit_longer, bit_size, after_strokes, IsNoRefusal, Held, IsOpen, Makes, Tested, makes_none, makes_then, makes_front, mark_cause, Tries, sure_of, tries_made, is_leaked, leaked, given_none}
+use Rattle.std.proofs.Common.{◌≡◌, ℕ, zero, suc, ◌+◌, ◌-◌, ◌*◌, ◌<◌, ◌≤◌, List, [], ◌∷◌, ◌++◌, length, refl, sym, ap, subst, append_assoc, ◌∙◌, arith, Bool, true, false, cond, Some, None, Result, Ok, Err, IfErr}
+use Rattle.nb_check.proofs.Common.{filter, range_with_len, append-nil, is_system_place, World, Fault, Quiet, base_of, Draft, drafted, give_page, Image, image_size, HasHeader, IsSoundImage, Stroke, all_given, Trail, after_stroke, drafted_is, drafts_are, set_bit_keeps, IsWhole, fits_first, leaked_plain, leaked_two, given_first, bit_put, header_whole, AnyPage, bit_inventory, bit_longer, bit_size, after_strokes, IsNoRefusal, Held, IsOpen, Makes, Tested, makes_none, makes_then, makes_front, mark_cause, StopsShort, Tries, WhereMemory, short_front, short_then, wanted_so, Cause, unless_by, sure_of, tries_made, is_leaked, leaked, given_none}
 use Rattle.nb_change.proofs.ReachedLaws.{after_all-joined}
 use Rattle.nb_model.proofs.DraftLaws.{IsOf}
 use Rattle.nb_alloc.proofs.MakeLaws.{mark_none}
@@ -53,6 +53,19 @@ pub record IsGiving (old now : World) (a b : Held) (t : Trail) (number : ℕ) : 
 pub open_header : (w : World) (a : Held) (t : Trail) → IsOpen w a t → HasHeader t.base.image
 open_header w a t is = record { header = is.files.agrees.header; scn = (let agrees = is.agrees.scn in let four = is.agrees.four in omega (arith, agrees, four)) }
 
+no_next : (made rest : List Stroke) (next : Stroke) → made ++ next ∷ rest ≡ [] → ⊥
+no_next [] rest next e = cc
+no_next (s ∷ ss) rest next e = cc
+
+-- a call that was refused wants no memory, so it stops before the last stroke whatever the cause
+pub short_anyway : (fault : Fault) (old new : World) (a b : Held) (t : Trail) (cause : Cause) (xs : List Stroke) → WhereMemory {T = Unit {0}} (Err fault) (StopsShort old new a b t (unless_by cause xs))
+    → WhereMemory {T = Unit {0}} (Err fault) (StopsShort old new a b t xs)
+short_anyway fault old new a b t cause xs = wanted_so {T = Unit {0}} (Err fault) (StopsShort old new a b t (unless_by cause xs)) (StopsShort old new a b t xs) (by cause)
+  where
+    by : (k : Cause) → StopsShort old new a b t (unless_by k xs) → StopsShort old new a b t xs
+    by None stops = stops
+    by (Some r) stops = absurd (no_next stops.made stops.rest stops.next stops.whole)
+
 -- none was given back yet
 pub giving_begun : (w : World) (a : Held) (t : Trail) → Quiet w w → IsOpen w a t → HasHeader t.base.image → IsSoundImage t.base.image → IsGiving w w a a t 0
 giving_begun w a t quiet is header sound = record {
@@ -68,7 +81,7 @@ giving_begun w a t quiet is header sound = record {
 pub giving_done : (old now : World) (a b : Held) (t : Trail) (number : ℕ) → length t.base.image ≤ number → IsGiving old now a b t number → Tries {T = Unit {0}} (Ok tt) old now a b t None (all_given (leaked t.base.image) (drafted t.base.image)).strokes
 giving_done old now a b t number far g =
     let all = g.strokes ∙ ap (λ (ps : List ℕ). g.made ++ (all_given ps (drafted (after_strokes t g.made).base.image)).strokes) (leaked_none t.base.image number far) ∙ ap (λ (ss : List Stroke). g.made ++ ss) (given_none _) ∙ append-nil g.made in
-    tries_made {T = Unit {0}} (Ok tt) old now a b t None _ refl tt (subst (λ (ss : List Stroke). Makes {T = Unit {0}} (Ok tt) old now a b t ss) (sym all) g.makes)
+    tries_made {T = Unit {0}} (Ok tt) old now a b t None _ refl tt (subst (λ (ss : List Stroke). Makes {T = Unit {0}} (Ok tt) old now a b t ss) (sym all) g.makes) tt
 
 module _ (old mid : World) (a b : Held) (t : Trail) (number : ℕ) (low : number < length t.base.image) (g : IsGiving old mid a b t number) where
   abbrev x : Image
@@ -107,14 +120,19 @@ module _ (old mid : World) (a b : Held) (t : Trail) (number : ℕ) (low : number
         (leaked_step x number low ∙ ap (λ (t : Bool). cond t (number ∷ leaked_from x (number + 1)) (leaked_from x (number + 1))) holds)
         ∙ ap (λ (ss : List Stroke). g.made ++ ss) (given_first number (leaked_from x (number + 1)) z)
 
+    abbrev others : List Stroke
+    others = (all_given (leaked_from x (number + 1)) (drafted d.image)).strokes
+
     -- the call failed
-    pub giving_failed : (fault : Fault) (new : World) (c : Held) → IsNoRefusal fault → Makes {T = Unit {0}} (Err fault) mid new b c u d.strokes
+    pub giving_failed : (fault : Fault) (new : World) (c : Held) → IsNoRefusal fault → Makes {T = Unit {0}} (Err fault) mid new b c u d.strokes → WhereMemory {T = Unit {0}} (Err fault) (StopsShort mid new b c u d.strokes)
         → Tries {T = Unit {0}} (Err fault) old new a c t None (all_given (leaked x) (drafted x)).strokes
-    giving_failed fault new c sure makes =
+    giving_failed fault new c sure makes stops =
         tries_made {T = Unit {0}} (Err fault) old new a c t None _ refl sure
         (subst (λ (ss : List Stroke). Makes {T = Unit {0}} (Err fault) old new a c t ss) (sym step)
         (makes_then tt (Err fault) old mid new a b c t g.made (d.strokes ++ (all_given (leaked_from x (number + 1)) (drafted d.image)).strokes) g.makes
         (makes_front (Unit {0}) (Unit {0}) fault mid new b c u d.strokes (all_given (leaked_from x (number + 1)) (drafted d.image)).strokes sure makes)))
+        (wanted_so {T = Unit {0}} (Err fault) (StopsShort mid new b c u d.strokes) (StopsShort old new a c t (all_given (leaked x) (drafted x)).strokes)
+        (λ short. subst (λ (ss : List Stroke). StopsShort old new a c t ss) (sym step) (short_then tt old mid new a b c t g.made (d.strokes ++ others) g.makes (short_front mid new b c u d.strokes others short))) stops)
 
     module _ (header : HasHeader x) where
       giving_two : 2 ≤ number

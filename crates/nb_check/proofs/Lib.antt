@@ -4,15 +4,16 @@ pub mod FactLaws
 pub mod SoundLaws
 pub mod PassLaws
 pub mod SetLaws
+pub mod MarkLaws
 pub mod ListLaws
 pub mod SameLaws
 pub mod AmongLaws
 pub mod LeakLaws
 mod GiveLaws
-mod BackLaws
+pub mod BackLaws
 mod NeatBack
 mod SetBits
-mod ReportLaws
+pub mod ReportLaws
 mod EntryLaws
 mod CoverLaws
 mod CauseLaws

@@ -1,7 +1,9 @@
 -- The chains of the tables that the catalogue names, slot by slot and page by page.
 use Rattle.std.proofs.Common.{◌≡◌, ℕ, ◌+◌, ◌-◌, ◌*◌, ◌/◌, ◌<◌, ◌≤◌, List, [], ◌∷◌, ◌++◌, length, refl, sym, ap, subst, ◌∙◌, arith, append_assoc, length-append, Bool, true, false, Some, None}
-use Rattle.nb_check.proofs.Common.{append-nil, part, Refusal, Page, Image, page_at, Cause, first_cause, broken_at, Chain, Catalogue, History, RowsFrom, Slot, Spot, is_used, first_in, slots_from, slots_in, spots_on, spots_of, spots, pages_of, found_pages, used, table_chains, chains, pages_of_all, reached, slots_step, IsWithout, chains_cause, chains_on, none_some, some_none}
-use Rattle.nb_check.proofs.SetLaws.{without_none, without_both}
+use Rattle.nb_check.proofs.Common.{append-nil, part, Refusal, Page, Image, page_at, Cause, first_cause, broken_at, Chain, Catalogue, History, RowsFrom, Slot, Spot, is_used, first_in, slots_from, slots_in, spots_on, spots_of, spots, pages_of, found_pages, used, table_chains, chains, pages_of_all, reached, slots_step, chains_cause, chains_on, none_some, some_none}
+use Rattle.nb_check.specs.declared.set.Marks.{Marks}
+use Rattle.nb_check.specs.Marks.{IsReached}
+use Rattle.nb_check.proofs.MarkLaws.{reached_none, reached_both}
 use Rattle.nb_model.proofs.GrowthTurns.{spots_both}
 
 -- the chains in slots
@@ -100,47 +102,47 @@ cause_front image (c ∷ cs) ds r some = by (broken_at (pages_of c image)) refl 
     by (Some q) e rest = cause_here image c (cs ++ ds) q e ∙ sym (cause_here image c cs q e) ∙ some
 
 -- These chains are of the form, and their pages were taken out of the set, each by one read at most.
-pub record AreOut (image : Image) (cs : List Chain) (before after : List ℕ) (old now : ℕ) : Type 0 where
+pub record AreOut (image : Image) (cs : List Chain) (before after : Marks) (old now : ℕ) : Type 0 where
   pub formed : chains_cause image cs ≡ None
-  pub out : IsWithout before (pages_of_all image cs) after
+  pub out : IsReached before (pages_of_all image cs) after
   pub few : now ≤ old + length (pages_of_all image cs)
 
-pub out_none : (image : Image) (set : List ℕ) (reads : ℕ) → AreOut image [] set set reads reads
+pub out_none : (image : Image) (set : Marks) (reads : ℕ) → AreOut image [] set set reads reads
 unfolding pages_of_all
-out_none image set reads = record { formed = cause_none image; out = without_none set; few = omega arith }
+out_none image set reads = record { formed = cause_none image; out = reached_none set; few = omega arith }
 
-pub out_one : (image : Image) (c : Chain) (before after : List ℕ) (old now : ℕ) → broken_at (pages_of c image) ≡ None → IsWithout before (found_pages c image) after → now ≤ old + length (found_pages c image) → AreOut image (c ∷ []) before after old now
+pub out_one : (image : Image) (c : Chain) (before after : Marks) (old now : ℕ) → broken_at (pages_of c image) ≡ None → IsReached before (found_pages c image) after → now ≤ old + length (found_pages c image) → AreOut image (c ∷ []) before after old now
 unfolding pages_of_all
 out_one image c before after old now formed out few =
     let all : found_pages c image ++ [] ≡ found_pages c image = append-nil (found_pages c image) in
     record {
       formed = cause_later image c [] formed ∙ cause_none image;
-      out = subst (λ (ps : List ℕ). IsWithout before ps after) (sym all) out;
+      out = subst (λ (ps : List ℕ). IsReached before ps after) (sym all) out;
       few = (let same = ap length all in omega (arith, few, same));
     }
 
-pub out_both : (image : Image) (cs ds : List Chain) (before mid after : List ℕ) (old then now : ℕ) → AreOut image cs before mid old then → AreOut image ds mid after then now → AreOut image (cs ++ ds) before after old now
+pub out_both : (image : Image) (cs ds : List Chain) (before mid after : Marks) (old then now : ℕ) → AreOut image cs before mid old then → AreOut image ds mid after then now → AreOut image (cs ++ ds) before after old now
 out_both image cs ds before mid after old then now one two =
     let all = pages_append image cs ds in
     record {
       formed = cause_behind image cs ds one.formed ∙ two.formed;
-      out = subst (λ (ps : List ℕ). IsWithout before ps after) (sym all) (without_both before (pages_of_all image cs) mid (pages_of_all image ds) after one.out two.out);
+      out = subst (λ (ps : List ℕ). IsReached before ps after) (sym all) (reached_both before (pages_of_all image cs) mid (pages_of_all image ds) after one.out two.out);
       few = (let same = ap length all ∙ length-append (pages_of_all image cs) (pages_of_all image ds) in let first = one.few in let second = two.few in omega (arith, first, second, same));
     }
 
 -- The chains in the slots of a page of the catalogue, up to one slot.
-pub record Lists (image : Image) (listed : Page) (before after : List ℕ) (old now count slot : ℕ) : Type 0 where
+pub record Lists (image : Image) (listed : Page) (before after : Marks) (old now count slot : ℕ) : Type 0 where
   pub front : List Chain
   pub are : chains_on listed ≡ front ++ chains_in (slots_from (count - slot) (32 + 256 * slot) listed)
   pub out : AreOut image front before after old now
 
-pub lists_first : (image : Image) (listed : Page) (set : List ℕ) (reads count : ℕ) → count ≡ (length listed - 32) / 256 → Lists image listed set set reads reads count 0
+pub lists_first : (image : Image) (listed : Page) (set : Marks) (reads count : ℕ) → count ≡ (length listed - 32) / 256 → Lists image listed set set reads reads count 0
 unfolding slots_in
 lists_first image listed set reads count many =
     let all : (length listed - 32) / 256 ≡ count - 0 = omega (arith, many) in
     record { front = []; are = chains_spots 0 0 (slots_in listed) ∙ ap (λ (n : ℕ). chains_in (slots_from n 32 listed)) all; out = out_none image set reads }
 
-module _ (image : Image) (listed : Page) (before : List ℕ) (old count slot : ℕ) (low : slot < count) where
+module _ (image : Image) (listed : Page) (before : Marks) (old count slot : ℕ) (low : slot < count) where
   abbrev here : Slot
   here = part (32 + 256 * slot) 256 listed
 
@@ -151,7 +153,7 @@ module _ (image : Image) (listed : Page) (before : List ℕ) (old count slot : �
   unfolding chains_in
   by_use t e = ap (λ (u : Bool). elim u as (λ z. List Chain) [ true ↦ RowsFrom (first_in here) ∷ chains_in rest | false ↦ chains_in rest ]) e
 
-  module _ (after : List ℕ) (now : ℕ) (l : Lists image listed before after old now count slot) where
+  module _ (after : Marks) (now : ℕ) (l : Lists image listed before after old now count slot) where
     are_here : (t : Bool) → is_used here ≡ t → chains_on listed ≡ l.front ++ elim t as (λ z. List Chain) [ true ↦ RowsFrom (first_in here) ∷ chains_in rest | false ↦ chains_in rest ]
     are_here t e = l.are ∙ ap (λ (ss : List Slot). l.front ++ chains_in ss) (slots_step listed count slot low) ∙ ap (λ (cs : List Chain). l.front ++ cs) (by_use t e)
 
@@ -160,7 +162,7 @@ module _ (image : Image) (listed : Page) (before : List ℕ) (old count slot : �
     lists_free e = record { front = l.front; are = are_here false e; out = l.out }
 
     -- one that is used names a chain that is of the form
-    pub lists_used : (then_set : List ℕ) (then : ℕ) → is_used here ≡ true → broken_at (pages_of (RowsFrom (first_in here)) image) ≡ None → IsWithout after (found_pages (RowsFrom (first_in here)) image) then_set
+    pub lists_used : (then_set : Marks) (then : ℕ) → is_used here ≡ true → broken_at (pages_of (RowsFrom (first_in here)) image) ≡ None → IsReached after (found_pages (RowsFrom (first_in here)) image) then_set
         → then ≤ now + length (found_pages (RowsFrom (first_in here)) image) → Lists image listed before then_set old then count (slot + 1)
     lists_used then_set then e formed out few = record {
       front = l.front ++ RowsFrom (first_in here) ∷ [];
@@ -173,7 +175,7 @@ module _ (image : Image) (listed : Page) (before : List ℕ) (old count slot : �
     lists_broken r e broken =
         ap (chains_cause image) (are_here true e) ∙ cause_behind image l.front (RowsFrom (first_in here) ∷ chains_in rest) l.out.formed ∙ cause_here image (RowsFrom (first_in here)) (chains_in rest) r broken
 
-pub lists_last : (image : Image) (listed : Page) (before after : List ℕ) (old now count slot : ℕ) → count ≤ slot → Lists image listed before after old now count slot → AreOut image (chains_on listed) before after old now
+pub lists_last : (image : Image) (listed : Page) (before after : Marks) (old now count slot : ℕ) → count ≤ slot → Lists image listed before after old now count slot → AreOut image (chains_on listed) before after old now
 unfolding slots_from chains_in
 lists_last image listed before after old now count slot far l =
     let none : count - slot ≡ 0 = omega (arith, far) in
@@ -181,13 +183,13 @@ lists_last image listed before after old now count slot far l =
     subst (λ (cs : List Chain). AreOut image cs before after old now) (sym all) l.out
 
 -- The tables that the pages of the catalogue so far name.
-pub tables_begun : (image : Image) (set : List ℕ) (reads : ℕ) → AreOut image (chains_of_pages image []) set set (reads + 0) reads
+pub tables_begun : (image : Image) (set : Marks) (reads : ℕ) → AreOut image (chains_of_pages image []) set set (reads + 0) reads
 tables_begun image set reads =
     let none : reads ≡ reads + 0 = omega arith in
     subst (λ (cs : List Chain). AreOut image cs set set (reads + 0) reads) (sym (chains_none image)) (subst (λ (n : ℕ). AreOut image [] set set n reads) none (out_none image set reads))
 
-pub tables_more : (image : Image) (ps : List ℕ) (p : ℕ) (listed : Page) (before mid after : List ℕ) (old reads taken now : ℕ) → listed ≡ page_at image p → AreOut image (chains_of_pages image ps) before mid (old + length ps) reads → taken ≤ reads + 1
-    → chains_cause image (chains_on listed) ≡ None → IsWithout mid (pages_of_all image (chains_on listed)) after → now ≤ taken + length (pages_of_all image (chains_on listed))
+pub tables_more : (image : Image) (ps : List ℕ) (p : ℕ) (listed : Page) (before mid after : Marks) (old reads taken now : ℕ) → listed ≡ page_at image p → AreOut image (chains_of_pages image ps) before mid (old + length ps) reads → taken ≤ reads + 1
+    → chains_cause image (chains_on listed) ≡ None → IsReached mid (pages_of_all image (chains_on listed)) after → now ≤ taken + length (pages_of_all image (chains_on listed))
     → AreOut image (chains_of_pages image (ps ++ p ∷ [])) before after (old + length (ps ++ p ∷ [])) now
 tables_more image ps p listed before mid after old reads taken now at so one formed out few =
     let all : chains_of_pages image (ps ++ p ∷ []) ≡ chains_of_pages image ps ++ chains_on listed = chains_more image ps p ∙ ap (λ (page : Page). chains_of_pages image ps ++ chains_on page) (sym at) in
@@ -195,7 +197,7 @@ tables_more image ps p listed before mid after old reads taken now at so one for
     ap (pages_of_all image) all ∙ pages_append image (chains_of_pages image ps) (chains_on listed) in
     record {
       formed = ap (chains_cause image) all ∙ cause_behind image (chains_of_pages image ps) (chains_on listed) so.formed ∙ formed;
-      out = subst (λ (qs : List ℕ). IsWithout before qs after) (sym both) (without_both before (pages_of_all image (chains_of_pages image ps)) mid (pages_of_all image (chains_on listed)) after so.out out);
+      out = subst (λ (qs : List ℕ). IsReached before qs after) (sym both) (reached_both before (pages_of_all image (chains_of_pages image ps)) mid (pages_of_all image (chains_on listed)) after so.out out);
       few =
           (let first = so.few in
           let more = length-append ps (p ∷ []) in
@@ -235,11 +237,11 @@ reached_is : (image : Image) → reached image ≡ found_pages Catalogue image +
 unfolding chains pages_of_all
 reached_is image = refl
 
-pub reached_out : (image : Image) (before one two after : List ℕ) → IsWithout before (found_pages Catalogue image) one → IsWithout one (found_pages History image) two → IsWithout two (pages_of_all image (tables image)) after → IsWithout before (reached image) after
+pub reached_out : (image : Image) (before one two after : Marks) → IsReached before (found_pages Catalogue image) one → IsReached one (found_pages History image) two → IsReached two (pages_of_all image (tables image)) after → IsReached before (reached image) after
 reached_out image before one two after first second third =
-    subst (λ (ps : List ℕ). IsWithout before ps after) (sym (reached_is image))
-    (without_both before (found_pages Catalogue image) one (found_pages History image ++ pages_of_all image (tables image)) after first
-    (without_both one (found_pages History image) two (pages_of_all image (tables image)) after second third))
+    subst (λ (ps : List ℕ). IsReached before ps after) (sym (reached_is image))
+    (reached_both before (found_pages Catalogue image) one (found_pages History image ++ pages_of_all image (tables image)) after first
+    (reached_both one (found_pages History image) two (pages_of_all image (tables image)) after second third))
 
 reached_long : (image : Image) → length (reached image) ≡ length (found_pages Catalogue image) + length (found_pages History image) + length (pages_of_all image (tables image))
 reached_long image =

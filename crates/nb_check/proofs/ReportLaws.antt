@@ -7,7 +7,7 @@ use Rattle.nb_check.proofs.SetBits.{past}
 use Rattle.nb_check.proofs.BackLaws.{filter_same}
 
 -- a range in two parts
-range_split : (n m a : ℕ) → range_with_len a (n + m) ≡ range_with_len a n ++ range_with_len (a + n) m
+pub range_split : (n m a : ℕ) → range_with_len a (n + m) ≡ range_with_len a n ++ range_with_len (a + n) m
 range_split zero m a =
     let all : zero + m ≡ m = omega arith in
     let here : a ≡ a + zero = omega arith in
@@ -76,7 +76,7 @@ among_pages set p = by (nat_lt p (room_of set)) refl
     by false e = (let far = ltb-false p (room_of set) e in among_behind (has set) p (room_of set) 0 (omega (arith, far)) ∙ sym (past set p (omega (arith, far))))
 
 -- none of a range passes
-none_left : (test : ℕ → Bool) (n a : ℕ) → ((q : ℕ) → a ≤ q → q < a + n → test q ≡ false) → filter test (range_with_len a n) ≡ []
+pub none_left : (test : ℕ → Bool) (n a : ℕ) → ((q : ℕ) → a ≤ q → q < a + n → test q ≡ false) → filter test (range_with_len a n) ≡ []
 none_left test zero a none = refl
 none_left test (suc n) a none =
     ap (λ (t : Bool). cond t (a ∷ filter test (range_with_len (a + 1) n)) (filter test (range_with_len (a + 1) n))) (none a (omega arith) (omega arith)) ∙ none_left test n (a + 1) (λ q low high. none q (omega (arith, low)) (omega (arith, high)))

@@ -2,7 +2,7 @@
 use Rattle.std.proofs.Common.{◌≡◌, ℕ, List, [], ◌++◌, refl, sym, ap, ◌∙◌, Bool, true, false, ◌&&◌, ◌||◌, not, nat_eq}
 use Rattle.nb_check.proofs.Common.{list_any-append, has, IsWithout, is_among}
 
-and_all : (a : Bool) → a ≡ (a && true)
+pub and_all : (a : Bool) → a ≡ (a && true)
 and_all true = refl
 and_all false = refl
 

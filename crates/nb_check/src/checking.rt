@@ -1,10 +1,10 @@
 // A check of an open database, and giving back the pages that it finds leaked.
-ghost use Rattle.std.specs.Prelude.{◌≡◌, ◌≢◌, ◌+◌, ◌*◌, ◌≤◌, IsTrue, IfErr, IfOk, IsSome, OnOk, Err, None, length};
+ghost use Rattle.std.specs.Prelude.{◌≡◌, ℕ, ◌≢◌, ◌+◌, ◌*◌, ◌≤◌, IsTrue, IfErr, IfOk, IsSome, OnOk, Err, None, false, length};
 ghost use Rattle.nb_fields.specs.States.{stalled_state};
 ghost use Rattle.nb_host.specs.declared.faults.Fault.TheVariants.{Memory};
 ghost use Rattle.nb_host.specs.Causes.{CountsDevice};
 ghost use Rattle.nb_page.specs.Quiet.{Quiet};
-ghost use Rattle.nb_model.specs.declared.reply.Reply.TheVariants.{Leaked, Freed};
+ghost use Rattle.nb_model.specs.declared.reply.Reply.TheVariants.{Freed};
 ghost use Rattle.nb_model.specs.Chains.{Catalogue, found_pages};
 ghost use Rattle.nb_model.specs.Image.{image_size};
 ghost use Rattle.nb_model.specs.Outcomes.{Seen};
@@ -18,18 +18,20 @@ ghost use Rattle.nb_engine.specs.Tries.{Tries};
 ghost use Rattle.nb_model.specs.Facts.{unsound};
 ghost use Rattle.nb_model.specs.Leaks.{leaked, reached};
 ghost use Rattle.nb_check.specs.Passes.{HoldsTaken, AreSized};
-ghost use Rattle.nb_check.specs.Sets.{room_of};
+ghost use Rattle.nb_check.specs.Findings.{said_of};
+ghost use Rattle.nb_check.specs.Sets.{has, room_of};
+ghost use Rattle.nb_model.specs.Danger.{in_danger};
 ghost use Rattle.nb_model.specs.Checks.{check_cause, check_turn, reclaim_turn, reclaimed, unsound_by};
 
 use crate::pass::{Found, pass};
-use crate::set::PageSet;
-use crate::walk::leave_out_reached;
+use crate::set::{Marks, PageSet};
+use crate::walk::mark_reached;
 use crate::{LARGEST_PAGE, Report};
 use nb_engine::Engine;
 use nb_host::{Fault, Host, Refusal};
 use std::alloc::Global;
 
-/// Tests the inventories against the pages, and answers the data pages that are taken. The refusal is `Unsound` of the first fact that is
+/// Tests the inventories against the pages, and answers the data pages that are taken as those that are left. The refusal is `Unsound` of the first fact that is
 /// broken, and of the lowest page that breaks it.
 #[tactic(auto, using(nb_fields::proofs::SizeLaws::size_facts))]
 fn taken_data<H: Host>(
@@ -38,12 +40,14 @@ fn taken_data<H: Host>(
     engine: &mut Engine,
     page: &mut [u8],
     map: &mut [u8],
-) -> Result<PageSet, Fault>
+) -> Result<Marks, Fault>
     requires room { length page.old ≡ engine.old.files.page_size }
     requires map { length map.old ≡ engine.old.files.page_size }
     ensures test { (t : Trail) → IsTrue H.tells → IsOpen (H.world host.old) engine.old t → Tested result (unsound_by (unsound t.base.image)) }
-    ensures taken { (t : Trail) → IsTrue H.tells → IsOpen (H.world host.old) engine.old t → 5 ≤ length t.base.image → IfOk result (HoldsTaken t.base.image (length t.base.image)) }
-    ensures set_room { IfOk result (λ set. engine.old.files.count ≤ room_of set) }
+    ensures taken { (t : Trail) → IsTrue H.tells → IsOpen (H.world host.old) engine.old t → 5 ≤ length t.base.image → IfOk result (λ marks. HoldsTaken t.base.image (length t.base.image) marks.left) }
+    ensures safe { IfOk result (λ marks. (p : ℕ) → has marks.danger p ≡ false) }
+    ensures left_room { IfOk result (λ marks. engine.old.files.count ≤ room_of marks.left) }
+    ensures danger_room { IfOk result (λ marks. engine.old.files.count ≤ room_of marks.danger) }
     ensures sizes { (t : Trail) → IsTrue H.tells → IsOpen (H.world host.old) engine.old t → OnOk result (AreSized t.base.image (length t.base.image) (image_size t.base.image)) }
     ensures looks { Looks H.tells (H.world host.old) (H.world host.new) engine.old engine.new }
     ensures once { IsTrue H.tells → (H.world host.new).reads ≤ (H.world host.old).reads + engine.old.files.count + 3 }
@@ -52,6 +56,7 @@ fn taken_data<H: Host>(
     let mut buffer = [0; LARGEST_PAGE];
     let entries = &mut buffer[..engine.page_size() as usize];
     let taken = PageSet::new(alloc, engine.count())?;
+    let danger = PageSet::new(alloc, engine.count())?;
     let mut found = Found {
         broken: None,
         taken,
@@ -64,25 +69,40 @@ fn taken_data<H: Host>(
             page: broken.page,
         }));
     }
-    Ok(taken)
+    Ok(Marks {
+        left: taken,
+        danger,
+    })
 }
 
-/// Tests whether the inventories, the chains and the pages of the database as it is seen agree, and answers its leaked pages: the data pages
-/// that are taken and that no chain of the catalogue, of the history or of a table reaches. It changes nothing but which pages are in memory.
+/// What a check has found, where the inventories and the chains agree with the pages.
+#[derive(Drop)]
+pub struct Findings {
+    /// The leaked pages: the data pages that are taken and that no chain reaches.
+    pub leaked: Report,
+    /// The pages in danger: a chain reaches them, and they are free or another chain reaches them too. What takes a new page, or writes through
+    /// the other chain, may write over them.
+    pub in_danger: Report,
+}
+
+/// Tests whether the inventories, the chains and the pages of the database as it is seen agree, and answers its leaked pages, the data pages
+/// that are taken and that no chain of the catalogue, of the history or of a table reaches, and the pages in danger, which such a chain reaches
+/// and which are free, or which two chains reach. It changes nothing but which pages are in memory.
 ///
 /// Each page takes one read at most, page 0 and the first two inventory pages two; the pages of the chains take one more, and those of
-/// the catalogue two more. The memory, one bit for each page, is taken before the first read.
+/// the catalogue two more. The memory, two bits for each page, is taken before the first read.
 ///
 /// The refusals are `Unsound` of the lowest fact that fails and of the lowest page at which it does, and `NotDatabase` of the first page that
 /// breaks the form of a chain: of the catalogue, the history, and then of the tables in the catalogue's order.
 #[tactic(auto, using(nb_fields::proofs::SizeLaws::size_facts))]
-pub fn check<H: Host>(alloc: Global, host: &mut H, engine: &mut Engine) -> Result<Report, Fault>
+pub fn check<H: Host>(alloc: Global, host: &mut H, engine: &mut Engine) -> Result<Findings, Fault>
     ensures turn { (s : Seen) (t : Trail) → IsTrue H.tells → t.base ≡ s.base → IsOpen (H.world host.old) engine.old t
-        → Does Leaked result (H.world host.old) (H.world host.new) engine.old engine.new t (check_turn s) }
+        → Does said_of result (H.world host.old) (H.world host.new) engine.old engine.new t (check_turn s) }
     ensures looks { Looks H.tells (H.world host.old) (H.world host.new) engine.old engine.new }
     ensures goes { Goes engine.old engine.new }
     ensures test { (t : Trail) → IsTrue H.tells → IsOpen (H.world host.old) engine.old t → Tested result (check_cause t.base.image) }
-    ensures leaked { (t : Trail) → IsTrue H.tells → IsOpen (H.world host.old) engine.old t → IfOk result (λ report. report ≡ leaked t.base.image) }
+    ensures leaked { (t : Trail) → IsTrue H.tells → IsOpen (H.world host.old) engine.old t → IfOk result (λ findings. findings.leaked ≡ leaked t.base.image) }
+    ensures in_danger { (t : Trail) → IsTrue H.tells → IsOpen (H.world host.old) engine.old t → IfOk result (λ findings. findings.in_danger ≡ in_danger t.base.image) }
     ensures sound { (t : Trail) → IsTrue H.tells → IsOpen (H.world host.old) engine.old t → OnOk result (IsSoundImage t.base.image) }
     ensures once { (t : Trail) → IsTrue H.tells → IsOpen (H.world host.old) engine.old t
         → OnOk result ((H.world host.new).reads ≤ (H.world host.old).reads + engine.old.files.count + 3 + length (found_pages Catalogue t.base.image) + length (reached t.base.image)) }
@@ -96,9 +116,13 @@ pub fn check<H: Host>(alloc: Global, host: &mut H, engine: &mut Engine) -> Resul
     let mut second = [0; LARGEST_PAGE];
     let page = &mut first[..size];
     let other = &mut second[..size];
-    let mut rest = taken_data(alloc, host, engine, page, other)?;
-    leave_out_reached(host, engine, other, page, &mut rest)?;
-    Ok(Report::of(rest))
+    let mut marks = taken_data(alloc, host, engine, page, other)?;
+    mark_reached(host, engine, other, page, &mut marks)?;
+    let Marks { left, danger } = marks;
+    Ok(Findings {
+        leaked: Report::of(left),
+        in_danger: Report::of(danger),
+    })
 }
 
 /// Gives each page of the report back, in rising order.
@@ -143,7 +167,7 @@ pub fn reclaim<H: Host>(alloc: Global, host: &mut H, engine: &mut Engine) -> Res
     if engine.store().is_read_only() {
         return Err(Fault::Refused(Refusal::Access { found: 1 }));
     }
-    let report = check(alloc, host, engine)?;
-    give_back(host, engine, &report)?;
-    Ok(report.count())
+    let findings = check(alloc, host, engine)?;
+    give_back(host, engine, &findings.leaked)?;
+    Ok(findings.leaked.count())
 }

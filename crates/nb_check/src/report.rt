@@ -1,4 +1,4 @@
-// The leaked pages of a database.
+// Pages that a check has found.
 ghost use Rattle.std.specs.Prelude.{◌≡◌, ◌<◌, IfErr, IfOk, length, slice_index, nat_le};
 ghost use Rattle.nb_host.specs.declared.faults.Fault.TheVariants.{Memory};
 ghost use Rattle.nb_check.specs.Sets.{has, pages_in};
@@ -10,7 +10,7 @@ use nb_model::PageList;
 use std::alloc::Global;
 use std::marker::Model;
 
-/// The pages of a database that are taken and that nothing reaches, in rising order. Contracts see it as the list of their numbers.
+/// Pages that a check has found, in rising order. Contracts see it as the list of their numbers.
 #[derive(Drop)]
 pub struct Report {
     pages: PageSet,
@@ -84,28 +84,28 @@ impl Report {
         Report { pages, len }
     }
 
-    /// How many pages are leaked, as a number of 32 bits.
+    /// How many there are, as a number of 32 bits.
     pub(crate) fn count(&self) -> u32
         ensures { result ≡ length self.now }
     {
         self.len
     }
 
-    /// How many pages are leaked.
+    /// How many there are.
     pub fn len(&self) -> usize
         ensures { result ≡ length self.now }
     {
         self.len as usize
     }
 
-    /// Whether none is.
+    /// Whether there is none.
     pub fn is_empty(&self) -> bool
         ensures { result ≡ nat_le (length self.now) 0 }
     {
         self.len == 0
     }
 
-    /// The leaked page at place `i`, from 0. It walks over the pages before it.
+    /// The page at place `i`, from 0. It walks over the pages before it.
     pub fn page(&self, i: usize) -> u32
         requires { i < length self.now }
         ensures { result ≡ slice_index self.now i }
@@ -121,7 +121,7 @@ impl Report {
         list_of(alloc, &self.pages)
     }
 
-    /// Whether page `number` is leaked.
+    /// Whether it has page `number`.
     pub(crate) fn has(&self, number: u32) -> bool
         ensures { result ≡ is_among number self.now }
     {

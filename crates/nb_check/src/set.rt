@@ -3,6 +3,7 @@ ghost use Rattle.std.specs.Prelude.{◌≡◌, ℕ, ◌+◌, ◌*◌, ◌<◌, �
 ghost use Rattle.nb_fields.specs.Places.{most_pages};
 ghost use Rattle.nb_host.specs.declared.faults.Fault.TheVariants.{Memory};
 ghost use Rattle.nb_check.specs.Sets.{has, room_of, IsWithout};
+ghost use Rattle.nb_check.specs.Marks.{IsReached};
 
 use nb_host::Fault;
 use std::alloc::Global;
@@ -91,11 +92,43 @@ impl PageSet {
         set_bit(self.bytes.as_mut_slice(), page);
     }
 
+    /// Puts that page into the set, where it has room for it.
+    pub(crate) fn put(&mut self, page: u32)
+        ensures pages { (p : ℕ) → p < room_of self.old → has self.new p ≡ (nat_eq p page || has self.old p) }
+        ensures room { length self.new ≡ length self.old }
+    {
+        if page < self.room() {
+            self.insert(page);
+        }
+    }
+
     /// Takes that page out of the set.
     pub(crate) fn remove(&mut self, page: u32)
         ensures pages { IsWithout self.old (page ∷ []) self.new }
         ensures room { length self.new ≡ length self.old }
     {
         clear_bit(self.bytes.as_mut_slice(), page);
+    }
+}
+
+/// What is marked of pages while chains are walked over.
+#[derive(Drop)]
+pub(crate) struct Marks {
+    /// The data pages that are taken and that no chain has reached yet.
+    pub(crate) left: PageSet,
+    /// The pages in danger: when a chain reached them they weren't left.
+    pub(crate) danger: PageSet,
+}
+
+impl Marks {
+    /// A chain has reached that page.
+    pub(crate) fn reach(&mut self, page: u32)
+        ensures { IsReached self.old (page ∷ []) self.new }
+    {
+        if self.left.has(page) {
+            self.left.remove(page);
+        } else {
+            self.danger.put(page);
+        }
     }
 }

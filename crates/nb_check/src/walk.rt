@@ -9,30 +9,29 @@ ghost use Rattle.nb_model.specs.Trail.{Trail};
 ghost use Rattle.nb_state.specs.Open.{IsOpen};
 ghost use Rattle.nb_state.specs.Looks.{Looks};
 ghost use Rattle.nb_model.specs.Leaks.{reached};
-ghost use Rattle.nb_check.specs.Sets.{IsWithout};
+ghost use Rattle.nb_check.specs.Marks.{IsReached};
 ghost use Rattle.nb_model.specs.Checks.{chains_cause};
 ghost use Rattle.nb_check.specs.Walks.{chains_on};
 ghost use Rattle.nb_walk.specs.Walks.{chain_by};
 
-use crate::set::PageSet;
+use crate::set::Marks;
 use nb_engine::Engine;
 use nb_fields::layouts::header;
 use nb_host::{Fault, Host, Refusal};
 use nb_walk::{Chain, first_page, slot_at, slot_count, use_of};
 
-/// Takes the pages of a chain out of the set. The refusal is `NotDatabase` of the first page that breaks the form: a chain that leads back
+/// Marks the pages of a chain as reached. The refusal is `NotDatabase` of the first page that breaks the form: a chain that leads back
 /// into itself has more pages than the database. Each page of the chain takes one read at most.
-fn leave_out<H: Host>(
+fn mark_chain<H: Host>(
     host: &mut H,
     engine: &mut Engine,
     chain: Chain,
     page: &mut [u8],
-    rest: &mut PageSet,
+    marks: &mut Marks,
 ) -> Result<(), Fault>
     requires size { length page.old ≡ engine.old.files.page_size }
     ensures test { (t : Trail) → IsTrue H.tells → IsOpen (H.world host.old) engine.old t → Tested result (broken_at (pages_of (chain_by chain) t.base.image)) }
-    ensures rest { (t : Trail) → IsTrue H.tells → IsOpen (H.world host.old) engine.old t → OnOk result (IsWithout rest.old (found_pages (chain_by chain) t.base.image) rest.new) }
-    ensures room { length rest.new ≡ length rest.old }
+    ensures reached { (t : Trail) → IsTrue H.tells → IsOpen (H.world host.old) engine.old t → OnOk result (IsReached marks.old (found_pages (chain_by chain) t.base.image) marks.new) }
     ensures sized { length page.new ≡ length page.old }
     ensures looks { Looks H.tells (H.world host.old) (H.world host.new) engine.old engine.new }
     ensures once { (t : Trail) → IsTrue H.tells → IsOpen (H.world host.old) engine.old t → OnOk result ((H.world host.new).reads ≤ (H.world host.old).reads + length (found_pages (chain_by chain) t.base.image)) }
@@ -43,7 +42,7 @@ fn leave_out<H: Host>(
     let mut left = engine.count();
     while left > 0 {
         let next = engine.chain_read(host, chain, number, page)?;
-        rest.remove(number);
+        marks.reach(number);
         if next == 0 {
             return Ok(());
         }
@@ -53,20 +52,19 @@ fn leave_out<H: Host>(
     Err(Fault::Refused(Refusal::NotDatabase { page: number }))
 }
 
-/// Takes the pages of the tables that page `listed` of the catalogue names out of the set, in its order. The refusal is `NotDatabase` of
+/// Marks the pages of the tables that page `listed` of the catalogue names as reached, in its order. The refusal is `NotDatabase` of
 /// the first page that breaks the form of the first such chain.
-fn leave_out_listed<H: Host>(
+fn mark_listed<H: Host>(
     host: &mut H,
     engine: &mut Engine,
     listed: &[u8],
     page: &mut [u8],
-    rest: &mut PageSet,
+    marks: &mut Marks,
 ) -> Result<(), Fault>
     requires size { length page.old ≡ engine.old.files.page_size }
     requires listed { length listed.now ≡ length page.old }
     ensures test { (t : Trail) → IsTrue H.tells → IsOpen (H.world host.old) engine.old t → Tested result (chains_cause t.base.image (chains_on listed.now)) }
-    ensures rest { (t : Trail) → IsTrue H.tells → IsOpen (H.world host.old) engine.old t → OnOk result (IsWithout rest.old (pages_of_all t.base.image (chains_on listed.now)) rest.new) }
-    ensures room { length rest.new ≡ length rest.old }
+    ensures reached { (t : Trail) → IsTrue H.tells → IsOpen (H.world host.old) engine.old t → OnOk result (IsReached marks.old (pages_of_all t.base.image (chains_on listed.now)) marks.new) }
     ensures sized { length page.new ≡ length page.old }
     ensures looks { Looks H.tells (H.world host.old) (H.world host.new) engine.old engine.new }
     ensures once { (t : Trail) → IsTrue H.tells → IsOpen (H.world host.old) engine.old t → OnOk result ((H.world host.new).reads ≤ (H.world host.old).reads + length (pages_of_all t.base.image (chains_on listed.now))) }
@@ -83,27 +81,26 @@ fn leave_out_listed<H: Host>(
         if use_of(bytes) != 1 {
             continue;
         }
-        leave_out(host, engine, Chain::Rows(first_page(bytes)), page, rest)?;
+        mark_chain(host, engine, Chain::Rows(first_page(bytes)), page, marks)?;
     }
     Ok(())
 }
 
-/// Takes the pages of each table of the catalogue, which is of the form, out of the set. The refusal is `NotDatabase` of the first page that
+/// Marks the pages of each table of the catalogue, which is of the form, as reached. The refusal is `NotDatabase` of the first page that
 /// breaks the form of the first such chain.
-fn leave_out_tables<H: Host>(
+fn mark_tables<H: Host>(
     host: &mut H,
     engine: &mut Engine,
     listed: &mut [u8],
     page: &mut [u8],
-    rest: &mut PageSet,
+    marks: &mut Marks,
 ) -> Result<(), Fault>
     requires size { length page.old ≡ engine.old.files.page_size }
     requires listed { length listed.old ≡ length page.old }
     ensures test { (t : Trail) → IsTrue H.tells → IsOpen (H.world host.old) engine.old t → broken_at (pages_of Catalogue t.base.image) ≡ None
         → Tested result (chains_cause t.base.image (table_chains (used (spots Catalogue t.base.image)))) }
-    ensures rest { (t : Trail) → IsTrue H.tells → IsOpen (H.world host.old) engine.old t → broken_at (pages_of Catalogue t.base.image) ≡ None
-        → OnOk result (IsWithout rest.old (pages_of_all t.base.image (table_chains (used (spots Catalogue t.base.image)))) rest.new) }
-    ensures room { length rest.new ≡ length rest.old }
+    ensures reached { (t : Trail) → IsTrue H.tells → IsOpen (H.world host.old) engine.old t → broken_at (pages_of Catalogue t.base.image) ≡ None
+        → OnOk result (IsReached marks.old (pages_of_all t.base.image (table_chains (used (spots Catalogue t.base.image)))) marks.new) }
     ensures looks { Looks H.tells (H.world host.old) (H.world host.new) engine.old engine.new }
     ensures once { (t : Trail) → IsTrue H.tells → IsOpen (H.world host.old) engine.old t → broken_at (pages_of Catalogue t.base.image) ≡ None
         → OnOk result ((H.world host.new).reads ≤ (H.world host.old).reads + length (found_pages Catalogue t.base.image) + length (pages_of_all t.base.image (table_chains (used (spots Catalogue t.base.image))))) }
@@ -114,7 +111,7 @@ fn leave_out_tables<H: Host>(
     let mut left = engine.count();
     while left > 0 {
         let next = engine.chain_read(host, Chain::Tables, number, listed)?;
-        leave_out_listed(host, engine, listed, page, rest)?;
+        mark_listed(host, engine, listed, page, marks)?;
         if next == 0 {
             return Ok(());
         }
@@ -124,27 +121,25 @@ fn leave_out_tables<H: Host>(
     Err(Fault::Refused(Refusal::NotDatabase { page: number }))
 }
 
-/// Takes all pages that something reaches out of the set: those of the catalogue, of the history, and of each table of the catalogue, as they
-/// are now. The refusal is `NotDatabase` of the first page that breaks the form of the first such chain, in this order. Each page of a chain
+/// Marks all pages that something reaches: those of the catalogue, of the history, and of each table of the catalogue, as they are now. The refusal is `NotDatabase` of the first page that breaks the form of the first such chain, in this order. Each page of a chain
 /// takes one read at most, and each page of the catalogue two.
-pub(crate) fn leave_out_reached<H: Host>(
+pub(crate) fn mark_reached<H: Host>(
     host: &mut H,
     engine: &mut Engine,
     listed: &mut [u8],
     page: &mut [u8],
-    rest: &mut PageSet,
+    marks: &mut Marks,
 ) -> Result<(), Fault>
     requires size { length page.old ≡ engine.old.files.page_size }
     requires listed { length listed.old ≡ length page.old }
     ensures test { (t : Trail) → IsTrue H.tells → IsOpen (H.world host.old) engine.old t → Tested result (chains_cause t.base.image (chains t.base.image)) }
-    ensures rest { (t : Trail) → IsTrue H.tells → IsOpen (H.world host.old) engine.old t → OnOk result (IsWithout rest.old (reached t.base.image) rest.new) }
-    ensures room { length rest.new ≡ length rest.old }
+    ensures reached { (t : Trail) → IsTrue H.tells → IsOpen (H.world host.old) engine.old t → OnOk result (IsReached marks.old (reached t.base.image) marks.new) }
     ensures looks { Looks H.tells (H.world host.old) (H.world host.new) engine.old engine.new }
     ensures once { (t : Trail) → IsTrue H.tells → IsOpen (H.world host.old) engine.old t → OnOk result ((H.world host.new).reads ≤ (H.world host.old).reads + length (found_pages Catalogue t.base.image) + length (reached t.base.image)) }
     ensures cause { CountsDevice result (H.faults host.old) (H.faults host.new) }
     ensures takes_none { IfErr result (λ fault. fault ≢ Memory) }
 {
-    leave_out(host, engine, Chain::Tables, page, rest)?;
-    leave_out(host, engine, Chain::Backups, page, rest)?;
-    leave_out_tables(host, engine, listed, page, rest)
+    mark_chain(host, engine, Chain::Tables, page, marks)?;
+    mark_chain(host, engine, Chain::Backups, page, marks)?;
+    mark_tables(host, engine, listed, page, marks)
 }

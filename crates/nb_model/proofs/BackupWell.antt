@@ -301,7 +301,7 @@ module _ (kept : List Kept) (t : Trail) (w : IsWellTrail kept t) (cache : ℕ) (
         }
 
 -- what the row of a backup tells
-row_guid : (level scn time : ℕ) (guid name : List ℕ) → length guid ≡ 16 → guid_in (backup_slot level scn time guid name) ≡ guid
+pub row_guid : (level scn time : ℕ) (guid name : List ℕ) → length guid ≡ 16 → guid_in (backup_slot level scn time guid name) ≡ guid
 unfolding backup_slot padded bytes_of
 row_guid level scn time guid name sixteen = ap (take 16) (append_assoc guid name _) ∙ take_at guid _ 16 sixteen
 

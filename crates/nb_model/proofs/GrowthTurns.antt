@@ -29,7 +29,7 @@ use Rattle.nb_model.proofs.TableCases.{HasTable, chain_at}
 use Rattle.nb_model.proofs.TableTurns.{rows_owner, row_length}
 
 -- the last page is one of them
-last_held : (ps : List ℕ) → 1 ≤ length ps → Contains ps (last_of ps)
+pub last_held : (ps : List ℕ) → 1 ≤ length ps → Contains ps (last_of ps)
 last_held [] some = absurd (omega (arith, some))
 last_held (p ∷ []) some = (0, omega arith, refl)
 last_held (p ∷ q ∷ qs) some = let rest = last_held (q ∷ qs) (omega arith) in (suc rest.0, omega (arith, rest.1), rest.2)
@@ -44,7 +44,7 @@ pub spots_one : (x : Image) (p : ℕ) → spots_of x (p ∷ []) ≡ spots_on p 0
 unfolding spots_of
 spots_one x p = append-nil (spots_on p 0 (slots_in (page_at x p)))
 
-spots_like : (x y : Image) (ps : List ℕ) → AllByRecursion (λ (q : ℕ). slots_in (page_at y q) ≡ slots_in (page_at x q)) ps → spots_of y ps ≡ spots_of x ps
+pub spots_like : (x y : Image) (ps : List ℕ) → AllByRecursion (λ (q : ℕ). slots_in (page_at y q) ≡ slots_in (page_at x q)) ps → spots_of y ps ≡ spots_of x ps
 unfolding spots_of
 spots_like x y [] same = refl
 spots_like x y (p ∷ ps) same = ap (λ (ss : List Slot). spots_on p 0 ss ++ spots_of y ps) same.0 ∙ ap (λ (us : List Spot). spots_on p 0 (slots_in (page_at x p)) ++ us) (spots_like x y ps same.1)

@@ -18,7 +18,7 @@ pub record IsGivable (image : Image) (p : ℕ) : Type 0 where
   pub two : 2 ≤ p
   pub below : p < length image
 
-longer_givable : (x y : Image) (ps : List ℕ) → length x ≤ length y → AllByRecursion (IsGivable x) ps → AllByRecursion (IsGivable y) ps
+pub longer_givable : (x y : Image) (ps : List ℕ) → length x ≤ length y → AllByRecursion (IsGivable x) ps → AllByRecursion (IsGivable y) ps
 longer_givable x y [] longer all = tt
 longer_givable x y (p ∷ ps) longer all = (record { two = all.0.two; below = let low = all.0.below in omega (arith, low, longer) }, longer_givable x y ps longer all.1)
 
@@ -114,7 +114,7 @@ unfolding leaked
 all_leaked image P each = all_filtered (is_leaked image) P (length image) 0 (λ p low high holds. each p (omega (arith, high)) holds)
 
 -- a page of a list is among them
-among_at : (q : ℕ) (ps : List ℕ) → Contains ps q → is_among q ps ≡ true
+pub among_at : (q : ℕ) (ps : List ℕ) → Contains ps q → is_among q ps ≡ true
 among_at q [] at = absurd (omega (arith, at.1))
 among_at q (p ∷ ps) (zero, low, is) = ap (λ (t : Bool). t || is_among q ps) (eq_yes q p (sym is))
 among_at q (p ∷ ps) (suc k, low, is) = either (nat_eq q p) (among_at q ps (k, omega (arith, low), is))
@@ -137,7 +137,7 @@ module _ (s : Seen) (header : HasHeader s.base.image) (is : IsSoundImage s.base.
   whole : IsWhole image
   whole = header_whole image header is
 
-  givable : AllByRecursion (IsGivable image) (leaked image)
+  pub givable : AllByRecursion (IsGivable image) (leaked image)
   givable = all_leaked image (IsGivable image) (λ p low holds. record { two = leaked_two image header is p low holds; below = low })
 
   pub reclaim_fits : AreFitting HasNoRows s.base (reclaim_turn s).strokes

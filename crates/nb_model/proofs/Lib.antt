@@ -48,6 +48,7 @@ pub mod OutputLaws
 pub mod TodoLaws
 pub mod UsageCauses
 pub mod ToldTurns
+pub mod ReadTurns
 pub mod UsageLaws
 pub mod StatusLaws
 pub mod OpeningLaws
@@ -134,5 +135,11 @@ pub mod CoveredLaws
 pub mod BehindLaws
 pub mod WayLaws
 pub mod ForcedLaws
+pub mod RoomTurns
+pub mod HistoryTurns
+pub mod DangerLaws
+pub mod NeatTurns
+pub mod RemovedLaws
+pub mod RunApart
 mod TableNameLaws
 mod Common

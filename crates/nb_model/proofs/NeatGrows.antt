@@ -1,8 +1,8 @@
 -- An image stays neat where a chain of rows gets one page more.
 use Rattle.std.proofs.Common.{◌≡◌, ◌≢◌, ◌⊎◌, inl, inr, ⊎_elim, ℕ, zero, suc, List, [], ◌∷◌, ◌++◌, refl, sym, ap, subst, ◌∙◌, arith, true, false, ◌&&◌, Option, Some, None, Result, Ok, Err, Contains}
-use Rattle.nb_model.proofs.Common.{AllByRecursion, same_name, Chain, Catalogue, History, Spot, is_used, table_of, first_such, pages_of, found_pages, spots, table_spot, is_free_page, Image, rows_in, rows, used, table_chains, chains, pages_of_all, AreDistinct, names_of, IsNeat, all_go, all_both}
+use Rattle.nb_model.proofs.Common.{AllByRecursion, same_name, Chain, Catalogue, History, RowsFrom, Spot, is_used, table_of, first_in, first_such, pages_of, found_pages, spots, table_spot, is_free_page, Image, rows_in, rows, used, table_chains, chains, pages_of_all, AreDistinct, names_of, IsNeat, all_go, all_both}
 use Rattle.nb_model.proofs.ChainWalks.{found_is}
-use Rattle.nb_model.proofs.NeatLaws.{apart_lists, pages_first, pages_among, distinct_left, distinct_right, chains_are, tables_each, table_found, used_each, rows_of_none, rows_of_some}
+use Rattle.nb_model.proofs.NeatLaws.{apart_lists, pages_first, pages_among, distinct_left, distinct_right, chains_are, tables_each, each_table, table_found, used_each, rows_of_none, rows_of_some}
 use Rattle.nb_model.proofs.RoomLaws.{first_passes}
 use Rattle.nb_model.proofs.SpotKeys.{keys_in, Absent}
 use Rattle.nb_model.proofs.TableCases.{chain_at}
@@ -181,9 +181,9 @@ module _ (x y : Image) (neat : IsNeat x) (grown : Chain) (new : ℕ) (rows_chain
   of_tables : (P : Chain → Type 0) → AllByRecursion P (chains x) → AllByRecursion P (table_chains (used (spots Catalogue x)))
   of_tables P all = (subst (AllByRecursion P) (chains_are x) all).1.1
 
-  -- The image stays neat, where no key stands twice in the chain that grows.
-  pub grown_neat : AreDistinct (keys_in (spots grown y)) → IsNeat y
-  grown_neat keys = record {
+  -- The image stays neat, where no key stands twice in the chain that grows, if it is one of rows.
+  pub grown_stays_neat : ((first : ℕ) → RowsFrom first ≡ grown → AreDistinct (keys_in (spots grown y))) → IsNeat y
+  grown_stays_neat keys = record {
     formed = subst (AllByRecursion (λ c. (ps : List ℕ) × (pages_of c y ≡ Ok ps))) (sym same_chains)
         (all_go (λ c. ((ps : List ℕ) × (pages_of c x ≡ Ok ps)) × Same c) (λ c. (ps : List ℕ) × (pages_of c y ≡ Ok ps)) (chains x) (λ c facts. one_formed c facts.0 facts.1)
         (all_both (λ c. (ps : List ℕ) × (pages_of c x ≡ Ok ps)) Same (chains x) neat.formed g.same));
@@ -191,8 +191,9 @@ module _ (x y : Image) (neat : IsNeat x) (grown : Chain) (new : ℕ) (rows_chain
     taken = subst (λ (cs : List Chain). AllByRecursion (λ p. is_free_page y p ≡ false) (pages_of_all y cs)) (sym same_chains) (all_taken (chains x) once g.taken);
     names = subst (λ (us : List Spot). AreDistinct (names_of (used us))) (sym catalogue_same) neat.names;
     keys = subst (λ (us : List Spot). AllByRecursion (λ c. AreDistinct (keys_in (spots c y))) (table_chains (used us))) (sym catalogue_same)
-        (all_go (λ c. AreDistinct (keys_in (spots c x)) × Same c) (λ c. AreDistinct (keys_in (spots c y))) (table_chains tables) (λ c facts. one_keys c facts.0 facts.1)
-        (all_both (λ c. AreDistinct (keys_in (spots c x))) Same (table_chains tables) neat.keys (of_tables Same g.same)));
+        (each_table (λ c. AreDistinct (keys_in (spots c y))) tables
+        (all_go (λ u. AreDistinct (keys_in (spots (chain_at u) x)) × Same (chain_at u)) (λ u. AreDistinct (keys_in (spots (chain_at u) y))) tables (λ u facts. one_keys u facts.0 facts.1)
+        (all_both (λ u. AreDistinct (keys_in (spots (chain_at u) x))) (λ u. Same (chain_at u)) tables (tables_each (λ c. AreDistinct (keys_in (spots c x))) tables neat.keys) (tables_each Same tables (of_tables Same g.same)))));
   }
     where
       tables : List Spot
@@ -202,9 +203,12 @@ module _ (x y : Image) (neat : IsNeat x) (grown : Chain) (new : ℕ) (rows_chain
       one_formed c (ps, is) (inr same) = (ps, same.0 ∙ is)
       one_formed c (ps, is) (inl e) = (found_pages grown x ++ new ∷ [], ap (λ (d : Chain). pages_of d y) e ∙ g.pages)
 
-      one_keys : (c : Chain) → AreDistinct (keys_in (spots c x)) → Same c → AreDistinct (keys_in (spots c y))
-      one_keys c before (inr same) = subst (λ (us : List Spot). AreDistinct (keys_in us)) (sym same.1) before
-      one_keys c before (inl e) = subst (λ (d : Chain). AreDistinct (keys_in (spots d y))) (sym e) keys
+      one_keys : (u : Spot) → AreDistinct (keys_in (spots (chain_at u) x)) → Same (chain_at u) → AreDistinct (keys_in (spots (chain_at u) y))
+      one_keys u before (inr same) = subst (λ (us : List Spot). AreDistinct (keys_in us)) (sym same.1) before
+      one_keys u before (inl e) = subst (λ (d : Chain). AreDistinct (keys_in (spots d y))) (sym e) (keys (first_in u.bytes) e)
+
+  pub grown_neat : AreDistinct (keys_in (spots grown y)) → IsNeat y
+  grown_neat keys = grown_stays_neat (λ first e. keys)
 
   -- The rows of a table with another chain stay.
   same_rows : (table : List ℕ) (u : Spot) → table_spot table x ≡ Some u → chain_at u ≢ grown → spots (chain_at u) y ≡ spots (chain_at u) x

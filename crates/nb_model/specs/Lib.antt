@@ -14,10 +14,13 @@ pub mod RowChanges
 pub mod Tables
 pub mod Facts
 pub mod Leaks
+pub mod HistoryRows
+pub mod Danger
 pub mod Checks
 pub mod Levels
 pub mod Backups
 pub mod Turns
+pub mod Writes
 pub mod Owner
 pub mod Main
 pub mod Run

@@ -1,3 +1,6 @@
+ghost use Rattle.std.specs.Prelude.{◌≡◌};
+ghost use Rattle.nb_model.specs.Writes.{statement_writes};
+
 use crate::{TableName, Text};
 use nb_host::Name;
 
@@ -108,4 +111,42 @@ pub enum Statement {
     ShowImage,
     /// `show cache`
     ShowCache,
+}
+
+impl Statement {
+    /// Whether it may write the database: a page of it, or what waits in memory. A copy writes a file of its own and only reads the
+    /// database.
+    pub fn writes(&self) -> bool
+        ensures { result ≡ statement_writes self.now }
+    {
+        match self {
+            Statement::OpenDb { .. }
+            | Statement::Read { .. }
+            | Statement::CopyTo { .. }
+            | Statement::Get { .. }
+            | Statement::Scan { .. }
+            | Statement::Check
+            | Statement::ShowHeader
+            | Statement::ShowPages
+            | Statement::ShowImage
+            | Statement::ShowCache => false,
+            Statement::CreateDb { .. }
+            | Statement::PageNew
+            | Statement::Write { .. }
+            | Statement::Free { .. }
+            | Statement::BeginBackup
+            | Statement::EndBackup
+            | Statement::Backup { .. }
+            | Statement::BackupSince { .. }
+            | Statement::CreateTable { .. }
+            | Statement::DropTable { .. }
+            | Statement::Insert { .. }
+            | Statement::Update { .. }
+            | Statement::Delete { .. }
+            | Statement::Forced { .. }
+            | Statement::Access { .. }
+            | Statement::Sync
+            | Statement::Reclaim => true,
+        }
+    }
 }

@@ -1,7 +1,7 @@
 use Rattle.std.proofs.Common.{◌≡◌, ◌≢◌, ℕ, ◌*◌, ◌<◌, List, length, refl, sym, ap, subst, ◌∙◌, arith, Bool, None, Ok, Err, IfErr}
 use Rattle.nb_check.proofs.Common.{Memory, quiet_begun, reclaimed, drafted, give_page, Image, is_among, is_leaked, leaked, Stroke, after_strokes, Makes, goes_on, goes_nowhere, mark_cause, Tries, tries_passed}
 use Rattle.nb_check.proofs.AmongLaws.{leaked_each}
-use Rattle.nb_check.proofs.LeakLaws.{leaked_all, step_reads, passed_reads, open_header, giving_begun, giving_done, giving_passed, giving_sure, giving_failed, giving_onward}
+use Rattle.nb_check.proofs.LeakLaws.{leaked_all, step_reads, passed_reads, open_header, giving_begun, giving_done, giving_passed, giving_sure, giving_failed, giving_onward, short_anyway}
 use Rattle.nb_check.proofs.TriesLaws.{made_anyway}
 use Rattle.nb_state.proofs.TurnLaws.{unless_none}
 use Rattle.nb_check.proofs.checking.give_back.Goals as goal
@@ -47,7 +47,8 @@ returns-in_err-data_free-clause-tries g c t tells is sound reported =
     let sure = giving_sure w (g.H.Host.world l.host) c.args.engine.now l.engine t l.number low giving leaks sound (open_header _ _ t is) (Err fault) tries.test in
     tries_passed c.from_residual.result fault (λ r. Tries r w new c.args.engine.now c.data_free.new.self t None (reclaimed t.base.image).strokes) c.from_residual.ensures
     (giving_failed w (g.H.Host.world l.host) c.args.engine.now l.engine t l.number low giving leaks sound fault new c.data_free.new.self sure
-    (made_anyway fault (g.H.Host.world l.host) new l.engine c.data_free.new.self (after_strokes t giving.made) (mark_cause z l.number) (give_page l.number (drafted z)).strokes sure tries.makes))
+    (made_anyway fault (g.H.Host.world l.host) new l.engine c.data_free.new.self (after_strokes t giving.made) (mark_cause z l.number) (give_page l.number (drafted z)).strokes sure tries.makes)
+    (short_anyway fault (g.H.Host.world l.host) new l.engine c.data_free.new.self (after_strokes t giving.made) (mark_cause z l.number) (give_page l.number (drafted z)).strokes tries.stops))
 
 pub loop-number-preserved : goal.loop-number-preserved
 loop-number-preserved g c =

@@ -1,5 +1,5 @@
-use Rattle.std.proofs.Common.{◌≡◌, ◌≢◌, ℕ, List, length, refl, sym, ap, ◌∙◌, arith, Bool, Result, Ok, Err, IsErr, IsErrAnd, None}
-use Rattle.nb_check.proofs.Common.{Fault, Memory, Access, quiet_begun, passed_on, Freed, when, says, goes_on, goes_nowhere, seeing, refused_does, tested_does, tries_other, tries_valued, tries_passed, tries_after, tries_does, Does, Held, leaked, check_cause, reclaimed, reclaim_turn}
+use Rattle.std.proofs.Common.{◌≡◌, ◌≢◌, ℕ, length, refl, sym, ap, ◌∙◌, arith, Bool, Result, Ok, Err, IsErr, IsErrAnd, None}
+use Rattle.nb_check.proofs.Common.{Fault, Memory, Access, quiet_begun, passed_on, Freed, when, says, goes_on, goes_nowhere, seeing, refused_does, tested_does, tries_other, tries_valued, tries_passed, tries_after, tries_does, Does, Held, Findings, leaked, check_cause, reclaimed, reclaim_turn}
 use Rattle.nb_alloc.proofs.CauseLaws.{unless_allowed}
 use Rattle.nb_check.proofs.CauseLaws.{closed_fails, check_fails, reclaim_free, reclaim_refused, reclaim_says}
 use Rattle.nb_check.proofs.checking.reclaim.Goals as goal
@@ -11,16 +11,16 @@ returns-then-is_read_only-clause-turn g c s t tells same is =
     refused_does Freed (Access 1) w w c.args.engine.now c.args.engine.now t s reclaim_turn same refl (quiet_begun w (g.met.H.Host.timely c.args.host.now)) is is
     (reclaim_refused (seeing s t.base) (Access 1) (closed_fails t.base.image (Access 1) (ap (λ (b : Bool). when b (Access 1)) closed)))
 
-pub returns-in_err-report-clause-turn : goal.returns-in_err-report-clause-turn
-returns-in_err-report-clause-turn g c s t tells same is =
-    let found = c.in_err-report.ensures in
+pub returns-in_err-findings-clause-turn : goal.returns-in_err-findings-clause-turn
+returns-in_err-findings-clause-turn g c s t tells same is =
+    let found = c.in_err-findings.ensures in
     let open_to = sym (c.is_read_only.ensures ∙ ap (λ (h : Held). h.read_only) c.store.ensures ∙ is.agrees.read_only) ∙ c.if-is_read_only.false in
-    tested_does (List ℕ) ℕ Freed _ _ _ _ _ _ t s reclaim_turn (check_cause t.base.image) c.from_residual.ensures same found.looks.same found.looks.quiet is (found.looks.opened t tells is) (found.test t tells is)
+    tested_does Findings ℕ Freed _ _ _ _ _ _ t s reclaim_turn (check_cause t.base.image) c.from_residual.ensures same found.looks.same found.looks.quiet is (found.looks.opened t tells is) (found.test t tells is)
     (λ r e. reclaim_refused (seeing s t.base) r (check_fails t.base.image (ap (λ (b : Bool). when b (Access 1)) open_to) r e))
 
 pub returns-in_err-give_back-clause-turn : goal.returns-in_err-give_back-clause-turn
 returns-in_err-give_back-clause-turn g c s t tells same is =
-    let found = c.in_ok-report.ensures in
+    let found = c.in_ok-findings.ensures in
     let w = g.H.Host.world c.args.host.now in
     let mid = g.H.Host.world c.check.new.host in
     let new = g.H.Host.world c.give_back.new.host in
@@ -38,7 +38,7 @@ returns-in_err-give_back-clause-turn g c s t tells same is =
 
 pub returns-clause-turn : goal.returns-clause-turn
 returns-clause-turn g c s t tells same is =
-    let found = c.in_ok-report.ensures in
+    let found = c.in_ok-findings.ensures in
     let w = g.H.Host.world c.args.host.now in
     let mid = g.H.Host.world c.check.new.host in
     let new = g.H.Host.world c.give_back.new.host in
@@ -57,14 +57,14 @@ pub returns-then-is_read_only-clause-goes : goal.returns-then-is_read_only-claus
 returns-then-is_read_only-clause-goes g c = goes_nowhere _ _ refl
 
 pub returns-in_err-give_back-clause-goes : goal.returns-in_err-give_back-clause-goes
-returns-in_err-give_back-clause-goes g c = goes_on _ _ _ c.in_ok-report.ensures.goes c.in_err-give_back.ensures.goes
+returns-in_err-give_back-clause-goes g c = goes_on _ _ _ c.in_ok-findings.ensures.goes c.in_err-give_back.ensures.goes
 
 pub returns-clause-goes : goal.returns-clause-goes
-returns-clause-goes g c = goes_on _ _ _ c.in_ok-report.ensures.goes c.in_ok-give_back.ensures.goes
+returns-clause-goes g c = goes_on _ _ _ c.in_ok-findings.ensures.goes c.in_ok-give_back.ensures.goes
 
 pub returns-clause-once : goal.returns-clause-once
 returns-clause-once g c t tells is =
-    let found = c.in_ok-report.ensures in
+    let found = c.in_ok-findings.ensures in
     let reads = found.once t tells is in
     let more = c.in_ok-give_back.ensures.once t tells (found.looks.opened t tells is) (found.leaked t tells is) in
     omega (arith, reads, more)
@@ -72,8 +72,8 @@ returns-clause-once g c t tells is =
 pub returns-then-is_read_only-clause-on_memory : goal.returns-then-is_read_only-clause-on_memory
 returns-then-is_read_only-clause-on_memory g c other memory = quiet_begun (g.H.Host.world c.args.host.now) (g.met.H.Host.timely c.args.host.now)
 
-pub returns-in_err-report-clause-on_memory : goal.returns-in_err-report-clause-on_memory
-returns-in_err-report-clause-on_memory g c other memory = c.in_err-report.ensures.looks.quiet
+pub returns-in_err-findings-clause-on_memory : goal.returns-in_err-findings-clause-on_memory
+returns-in_err-findings-clause-on_memory g c other memory = c.in_err-findings.ensures.looks.quiet
 
 -- what is passed on is memory, which the call doesn't answer
 not_passed : (result : Result ℕ Fault) (fault : Fault) → IsErr result × IsErrAnd result (λ f. f ≡ fault) → fault ≢ Memory → result ≡ Err Memory → ⊥
@@ -84,7 +84,7 @@ not_passed result fault passed never memory = never (same (sym (passed_on result
 
 pub returns-in_err-give_back-clause-on_memory : goal.returns-in_err-give_back-clause-on_memory
 returns-in_err-give_back-clause-on_memory g c other memory =
-    let state : c.check.new.engine.files.state ≡ c.args.engine.now.files.state = c.in_ok-report.ensures.goes.state in
+    let state : c.check.new.engine.files.state ≡ c.args.engine.now.files.state = c.in_ok-findings.ensures.goes.state in
     absurd (not_passed c.from_residual-in_err-give_back.result c.in_err-give_back.field-0.0 c.from_residual-in_err-give_back.ensures (c.in_err-give_back.ensures.takes_none (λ e. other (sym state ∙ e))) memory)
 
 no_memory : (n : ℕ) → ◌≡◌ {A = Result ℕ Fault} (Ok n) (Err Memory) → ⊥

@@ -1,5 +1,5 @@
 use Rattle.std.proofs.Common.{ℕ, List, sym, ap, subst, ◌∙◌, arith, Some, None, Err}
-use Rattle.nb_check.proofs.Common.{Fault, Unsound, unsound_by, covered, unsound, Image, image_size, Tested, tested_on, IsFirstBelow, AreSized}
+use Rattle.nb_check.proofs.Common.{Fault, Unsound, unsound_by, covered, unsound, Image, image_size, Tested, tested_on, Marks, IsFirstBelow, AreSized}
 use Rattle.nb_check.proofs.BreakLaws.{unsound_first, unsound_not}
 use Rattle.nb_check.proofs.TakenLaws.{taken_none}
 use Rattle.nb_check.proofs.checking.taken_data.Goals as goal
@@ -11,7 +11,12 @@ none_yet image f p low = absurd (omega (arith, low))
 pub returns-in_err-taken-clause-test : goal.returns-in_err-taken-clause-test
 returns-in_err-taken-clause-test g c t tells is =
     let cause = unsound_by (unsound t.base.image) in
-    tested_on (List ℕ) (List ℕ) _ _ cause cause c.from_residual.ensures (λ r e. e) (subst (λ (f : Fault). Tested {T = List ℕ} (Err f) cause) (sym c.in_err-taken.ensures.only_memory) tt)
+    tested_on (List ℕ) Marks _ _ cause cause c.from_residual.ensures (λ r e. e) (subst (λ (f : Fault). Tested {T = List ℕ} (Err f) cause) (sym c.in_err-taken.ensures.only_memory) tt)
+
+pub returns-in_err-danger-clause-test : goal.returns-in_err-danger-clause-test
+returns-in_err-danger-clause-test g c t tells is =
+    let cause = unsound_by (unsound t.base.image) in
+    tested_on (List ℕ) Marks _ _ cause cause c.from_residual-in_err-danger.ensures (λ r e. e) (subst (λ (f : Fault). Tested {T = List ℕ} (Err f) cause) (sym c.in_err-danger.ensures.only_memory) tt)
 
 pub returns-in-Some-clause-test : goal.returns-in-Some-clause-test
 returns-in-Some-clause-test g c t tells is =
