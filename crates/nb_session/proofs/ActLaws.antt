@@ -1,24 +1,30 @@
 -- What the calls of the engine make of a turn.
 use Rattle.std.proofs.Common.{◌≡◌, ◌⊎◌, inl, inr, ℕ, List, [], ◌∷◌, ◌++◌, length, drop, replicate, refl, sym, ap, subst, ◌∙◌, arith, Result, Ok, Err, IsErr, IsErrAnd, Option, Some, None, Contains, true, false}
-use Rattle.nb_session.proofs.Common.{slice_index_or, true≢false, append-nil, append_cancel_left, World, IsTimely, Fault, Refused, Device, Memory, Quiet, Changes, Reached, GaveNothing, weakened, Reply, Done, CacheShown, Statement, BeginBackup, Sync, ShowCache, Foretells, WasGiven, MadeFile, Turn, Begins, Seen, Given, Outcome, next_guid, next_hold, without_hold, says, begin_turn, cache_turn, Now, Event, base_now, outcome, event_of, is_sync, files_made, Step, steps_in, after_steps, made, settles, Stroke, Trail, StandsIn, settled, after_stroke, first_turn, IsOnce, left_by, pages_once, steps_plain, after_settling, OfFiles, Strikes, after_strokes, Held, IsOpen, but_pages, name_of, WhereEnded, Answers, Does, GaveAtMost, where_ended, none_yet, scn_is, SaysNone, DoesBegin, Says, Grows, shown_by, Touched, TurnLeft, AreKept, Acts, MayAct, IsReady, has_only_told, Replies, some_said, only_told, quiet_begun}
+use Rattle.nb_session.proofs.Common.{slice_index_or, true≢false, append-nil, append_cancel_left, World, IsTimely, Fault, Refused, Device, Memory, Quiet, Changes, Reached, GaveNothing, weakened, Reply, Done, CacheShown, Statement, BeginBackup, Sync, ShowCache, Foretells, WasGiven, MadeFile, Turn, Begins, Seen, Given, Outcome, next_guid, next_hold, without_hold, says, begin_turn, cache_turn, Now, Event, base_now, outcome, event_of, is_sync, files_made, Step, steps_in, after_steps, made, settles, Stroke, Trail, StandsIn, settled, after_stroke, first_turn, IsOnce, left_by, pages_once, steps_plain, after_settling, OfFiles, Strikes, after_strokes, Held, IsOpen, but_pages, name_of, WhereEnded, Answers, Does, GaveAtMost, where_ended, none_yet, scn_is, SaysNone, DoesBegin, Says, Grows, shown_by, Touched, TurnLeft, AreKept, Acts, MayAct, IsReady, has_only_told, Replies, some_said, only_told, quiet_begun, AreWhole, Files}
 use Rattle.nb_model.specs.Well.{is_on_pages}
 use Rattle.nb_session.proofs.EventLaws.{strokes_are_steps, told_reply}
 use Rattle.nb_session.proofs.GiftLaws.{given_nothing, grows_none}
 use Rattle.nb_session.proofs.KeepLaws.{begin_gives, begin_refused, begin_running, begin_made}
 use Rattle.nb_session.proofs.TurnLaws.{seen_now, outcome_is}
 
--- strokes of a turn that makes no file
-pub strikes_left : (old new : World) (name : List ℕ) (t : Trail) (ss : List Stroke) → Strikes old new name t ss → Changes old new (Touched name []) (TurnLeft old name t ss [])
-strikes_left old new name t ss struck =
-    weakened old new (OfFiles name) (Touched name []) (Reached after_stroke (StandsIn name) t ss) (TurnLeft old name t ss []) struck (λ m one. inl one)
-    (λ files others has. record { database = has; each = λ n bytes there. absurd (omega (arith, there.1)) })
-
 -- an event that made no file
-pub kept_none : (w : World) (e : Event) → e.made ≡ None → AreKept w (files_made (e ∷ []))
+event_none : (e : Event) (name bytes : List ℕ) → e.made ≡ None → Contains (files_made (e ∷ [])) (name, bytes) → ⊥
 unfolding files_made
-kept_none w e none name bytes there =
+event_none e name bytes none there =
     let held : Contains {X = MadeFile} [] (name, bytes) = subst (λ (m : Option MadeFile). Contains (elim m as (λ z. List MadeFile) [ Some file ↦ file ∷ [] | None ↦ [] ]) (name, bytes)) none there in
-    absurd (omega (arith, held.1))
+    omega (arith, held.1)
+
+pub kept_none : (w : World) (e : Event) → e.made ≡ None → AreKept w (files_made (e ∷ []))
+kept_none w e none name bytes there = absurd (event_none e name bytes none there)
+
+pub whole_none : (files : Files) (e : Event) → e.made ≡ None → AreWhole (files_made (e ∷ [])) files
+whole_none files e none name bytes there = absurd (event_none e name bytes none there)
+
+-- strokes of a turn that makes no file
+pub strikes_left : (old new : World) (name : List ℕ) (t : Trail) (ss : List Stroke) (e : Event) → e.made ≡ None → Strikes old new name t ss → Changes old new (Touched name []) (TurnLeft old name t ss [] (files_made (e ∷ [])))
+strikes_left old new name t ss e none struck =
+    weakened old new (OfFiles name) (Touched name []) (Reached after_stroke (StandsIn name) t ss) (TurnLeft old name t ss [] (files_made (e ∷ []))) struck (λ m one. inl one)
+    (λ files others has. record { database = has; each = λ n bytes there. absurd (omega (arith, there.1)); whole_first = inr (whole_none files e none) })
 
 -- a reply for each value
 abbrev pub some_by : {T : Type 0} → (T → Reply) → T → Option Reply
@@ -95,7 +101,7 @@ does_acts reply result old new a b t now session statement it is plain on none o
       grows = grows_none old new does.makes.gave;
       acts = λ told. record {
         says = subst (λ (x : Outcome). Says (some_by reply) result x.reply) same (as_says reply result o.reply does.answer);
-        left = strikes_left old new (name_of a) t _ (subst (λ (x : Outcome). Strikes old new (name_of a) t x.strokes) same does.makes.left);
+        left = strikes_left old new (name_of a) t _ event (ap (λ (x : Outcome). x.made) first ∙ once.made) (subst (λ (x : Outcome). Strikes old new (name_of a) t x.strokes) same does.makes.left);
         opened = ended_map result (subst (IsOpen new b) (trail_plain t event (ap (λ (x : Statement). is_sync (Begins x)) is ∙ plain)))
             (subst (λ (x : Outcome). WhereEnded result (IsOpen new b (after_strokes t x.strokes))) same does.makes.opened);
         running = where_ended result _ (does.makes.goes.running ∙ ready.running ∙ sym (ap (λ (x : Outcome). x.running) first ∙ once.running));
@@ -138,8 +144,8 @@ module _ (old new : World) (a b : Held) (t : Trail) (now : Now) (session : ℕ) 
   unfolding first_turn
   sync_turn = outcome_is session statement now ∙ ap (first_turn (seen_now now) session) is
 
-  sync_left : Changes old new (Touched (name_of a) []) (TurnLeft old (name_of a) t (outcome session (Begins statement) now).strokes [])
-  sync_left = strikes_left old new (name_of a) t _ (subst (λ (x : Outcome). Strikes old new (name_of a) t x.strokes) (sym sync_turn) struck)
+  sync_left : Changes old new (Touched (name_of a) []) (TurnLeft old (name_of a) t (outcome session (Begins statement) now).strokes [] (files_made (event_of session (Begins statement) (outcome session (Begins statement) now) ∷ [])))
+  sync_left = strikes_left old new (name_of a) t _ (event_of session (Begins statement) (outcome session (Begins statement) now)) (ap (λ (x : Outcome). x.made) sync_turn) (subst (λ (x : Outcome). Strikes old new (name_of a) t x.strokes) (sym sync_turn) struck)
 
   sync_steps : (o : Outcome) → o.strokes ≡ [] → settled t.base ≡ after_steps t (steps_in (event_of session (Begins statement) o))
   unfolding made
@@ -224,7 +230,7 @@ module _ (result : Result ℕ Fault) (old new : World) (a b : Held) (t : Trail) 
         let does = begins (seen_now now) ready.base (most_given (replicate 16 0) old.guids new.guids now.given.guids told.ids told.later_ids told.guids told.guids_first guid asked) in
         record {
           says = subst (λ (x : Outcome). Says (some_by scn_is) result x.reply) same (as_says scn_is result (begin_turn (seen_now now)).reply does.answer);
-          left = strikes_left old new (name_of a) t _ (subst (λ (x : Outcome). Strikes old new (name_of a) t x.strokes) same does.left);
+          left = strikes_left old new (name_of a) t _ (event_of session (Begins statement) this) (sym (ap (λ (x : Outcome). x.made) same) ∙ begin_made (seen_now now)) (subst (λ (x : Outcome). Strikes old new (name_of a) t x.strokes) same does.left);
           opened = ended_map result (subst (IsOpen new b) (trail_plain t (event_of session (Begins statement) this) (ap (λ (x : Statement). is_sync (Begins x)) is)))
               (subst (λ (x : Outcome). WhereEnded result (IsOpen new b (after_strokes t x.strokes))) same does.opened);
           running = where_ended result _ (does.running ∙ ready.running ∙ sym (sym (ap (λ (x : Outcome). x.running) same) ∙ begin_running (seen_now now)));
@@ -260,7 +266,7 @@ module _ (w : World) (held : Held) (t : Trail) (now : Now) (session : ℕ) (stat
     grows = grows_none w w still;
     acts = λ told. record {
       says = ap (λ (x : Outcome). x.reply) shows ∙ ap (λ (n : ℕ). Some (CacheShown n (next_hold now.given))) (sym ready.cache) ∙ ap (λ (n : ℕ). Some (CacheShown held.cap n)) (first_number told) ∙ ap Some (sym answered);
-      left = strikes_left w w (name_of held) t _ (none_yet w w held t _ (quiet_begun w timely) ready.opened);
+      left = strikes_left w w (name_of held) t _ (event_of session (Begins statement) (outcome session (Begins statement) now)) (ap (λ (x : Outcome). x.made) shows) (none_yet w w held t _ (quiet_begun w timely) ready.opened);
       opened = subst (IsOpen w held) (ap (after_strokes t) (sym (ap (λ (x : Outcome). x.strokes) shows)) ∙ trail_plain t (event_of session (Begins statement) (outcome session (Begins statement) now)) (ap (λ (x : Statement). is_sync (Begins x)) is)) ready.opened;
       running = ready.running ∙ sym (ap (λ (x : Outcome). x.running) shows);
       given = subst (λ (g : Given). WasGiven w w now.given g) (sym (ap (λ (x : Outcome). x.given) shows)) (record {

@@ -1,12 +1,12 @@
 -- The turns of a backup.
 use Rattle.std.proofs.Common.{◌≡◌, ◌⊎◌, inl, inr, ⊎_elim, ℕ, zero, suc, ◌-◌, ◌<◌, List, [], ◌∷◌, ◌++◌, length, replicate, refl, sym, ap, subst, ◌∙◌, arith, Bool, Result, Ok, Err, IsErr, IfErr, Some, None, true, false, Contains}
-use Rattle.nb_session.proofs.Common.{slice_index_or, append-nil, is_free_file, stalled_state, Files, is_delta, World, Leaves, Fault, Refused, Device, Memory, RunError, Refusal, Changes, Remade, weakened, reached_first, Reply, Level, Statement, BackupSince, Base, Room, room_in, close_backup, is_free_entry, Foretells, WasGiven, HasItsEntry, IsAt, IsGoing, IsMaking, Image, image_scn, file_of, count_in, MadeFile, kept_of, making, delta_name, Turn, Begins, Copies, ClosesBackup, Ends, Backing, Given, Seen, Outcome, DoesNothing, next_guid, next_time, without_guid, without_time, Now, Event, base_now, outcome, is_sync, event_of, Stroke, base_after, Trail, StandsIn, after_stroke, first_turn, turn, no_main, started, OfFiles, after_strokes, IsNoRefusal, Held, IsOpen, name_of, Goes, WhereEnded, GaveAtMost, Progress, More, Finished, after_base, where_ended, gave_none, file_count, file_next, file_written, whole_file, IsEmpty, IsUnfinishedOr, Backed, IsBackingUp, IsStarted, OfStart, StartLeft, StartMakes, StartsBackup, KnowsFree, Left, Same, Other, Taken, Backup, End, Told, Says, Grows, shown_by, Touched, TurnLeft, Acts, MayAct, FitsAsked, IsBackup, file_asked, copy_first, copy_rest, left_refused, left_task, task_first, task_rest, IsReady, IsApart, TaskGoes, EndsEarly, begun_in, left_making, touching, IsBehind, Turns, has_only_told, only_told, one_held, blank_free, blank_empty, some_none}
+use Rattle.nb_session.proofs.Common.{slice_index_or, append-nil, is_free_file, stalled_state, Files, is_delta, World, Leaves, Fault, Refused, Device, Memory, RunError, Refusal, Changes, Remade, weakened, reached_first, Reply, Level, Statement, BackupSince, Base, Room, room_in, close_backup, is_free_entry, Foretells, WasGiven, HasItsEntry, IsAt, IsGoing, IsMaking, Image, image_scn, file_of, count_in, MadeFile, kept_of, making, delta_name, Turn, Begins, Copies, ClosesBackup, Ends, Backing, Given, Seen, Outcome, DoesNothing, next_guid, next_time, without_guid, without_time, Now, Event, base_now, outcome, is_sync, event_of, Stroke, base_after, Trail, StandsIn, after_stroke, first_turn, turn, no_main, started, OfFiles, after_strokes, IsNoRefusal, Held, IsOpen, name_of, Goes, WhereEnded, GaveAtMost, Progress, More, Finished, after_base, where_ended, gave_none, file_count, file_next, file_written, whole_file, IsEmpty, IsUnfinishedOr, Backed, IsBackingUp, IsStarted, OfStart, StartLeft, StartMakes, StartsBackup, KnowsFree, Left, Same, Other, Taken, Backup, End, Told, Says, Grows, shown_by, Touched, TurnLeft, Acts, MayAct, FitsAsked, IsBackup, file_asked, copy_first, copy_rest, left_refused, left_task, task_first, task_rest, IsReady, IsApart, TaskGoes, EndsEarly, begun_in, left_making, touching, IsBehind, Turns, has_only_told, only_told, one_held, blank_free, blank_empty, some_none, files_made, AreWhole}
 use Rattle.nb_model.specs.declared.reply.Reply.TheVariants.{Refused as RefusedBy}
 use Rattle.nb_model.specs.declared.statement.Statement.TheVariants.{Backup as BackupTo}
 use Rattle.nb_copy.specs.Closing.{OfBackup, GaveTimeAtMost, CloseLeft, CopiesOn, CloseDone, BackupTurn, BackupCounts}
-use Rattle.nb_session.proofs.ActLaws.{trail_plain, ended_map, kept_none, says_none, idle_unchanged, first_given, most_given, grows_at_most}
+use Rattle.nb_session.proofs.ActLaws.{trail_plain, ended_map, kept_none, says_none, idle_unchanged, first_given, most_given, grows_at_most, whole_none}
 use Rattle.nb_session.proofs.EventLaws.{Marks, marks_made, unsaid}
-use Rattle.nb_session.proofs.CopyLaws.{apart_one, file_left, each_one, kept_one, made_by, no_stroke, stalled_now, finished_not, more_not, page_is}
+use Rattle.nb_session.proofs.CopyLaws.{apart_one, file_left, each_one, kept_one, made_by, no_stroke, stalled_now, finished_not, more_not, page_is, whole_by}
 use Rattle.nb_session.proofs.GiftLaws.{given_nothing, grows_none}
 use Rattle.nb_session.proofs.MakesLaws.{none_runs}
 use Rattle.nb_session.proofs.NameLaws.{given_plain}
@@ -143,7 +143,7 @@ module _ (old new : World) (a b : Held) (t : Trail) (now : Now) (session : ℕ) 
       by (inr (is, loud)) = absurd (no_file n bytes (subst (λ (fs : List MadeFile). Contains fs (n, bytes)) is there))
 
   -- what a crash leaves of a start is what it leaves of this turn
-  start_left : StartMakes old new asked db t begins begins.strokes → Changes old new (Touched db begun) (TurnLeft old db t begins.strokes begun)
+  start_left : StartMakes old new asked db t begins begins.strokes → Changes old new (Touched db begun) (TurnLeft old db t begins.strokes begun (files_made (event ∷ [])))
   unfolding Files_are
   start_left makes = by begun files_are
     where
@@ -152,17 +152,20 @@ module _ (old new : World) (a b : Held) (t : Trail) (now : Now) (session : ℕ) 
           subst (λ (f : MadeFile). Remade old f.0 (IsUnfinishedOr f.1) fs) (one_held (asked, whole) (n, bytes) there)
           (⊎_elim inl (λ empty. inr (inl (inl (ap is_free_file empty ∙ blank_free (Some []) blank_empty)))) has)
 
-      by : (made : List MadeFile) → Files_are made → Changes old new (Touched db made) (TurnLeft old db t begins.strokes made)
+      none : (fs : Files) → AreWhole (files_made (event ∷ [])) fs
+      none fs = whole_none fs event (sym (ap (λ (o : Outcome). o.made) same) ∙ start_made (seen_now now) session x asks)
+
+      by : (made : List MadeFile) → Files_are made → Changes old new (Touched db made) (TurnLeft old db t begins.strokes made (files_made (event ∷ [])))
       by made (inl (whole, (is, silent))) =
-          subst (λ (made : List MadeFile). Changes old new (Touched db made) (TurnLeft old db t begins.strokes made)) (sym is)
-          (weakened old new (OfStart asked db begins) (Touched db ((asked, whole) ∷ [])) (StartLeft old asked db t begins.strokes) (TurnLeft old db t begins.strokes ((asked, whole) ∷ [])) makes
+          subst (λ (made : List MadeFile). Changes old new (Touched db made) (TurnLeft old db t begins.strokes made (files_made (event ∷ [])))) (sym is)
+          (weakened old new (OfStart asked db begins) (Touched db ((asked, whole) ∷ [])) (StartLeft old asked db t begins.strokes) (TurnLeft old db t begins.strokes ((asked, whole) ∷ []) (files_made (event ∷ []))) makes
           (λ m. ⊎_elim inl (λ its. inr (whole, (0, omega arith, ap (λ (n : List ℕ). (n, whole)) (sym its.0)))))
-          (λ fs others has. record { database = has.database; each = λ n bytes there. one fs whole n bytes has.file there }))
+          (λ fs others has. record { database = has.database; each = λ n bytes there. one fs whole n bytes has.file there; whole_first = inr (none fs) }))
       by made (inr (is, loud)) =
-          subst (λ (made : List MadeFile). Changes old new (Touched db made) (TurnLeft old db t begins.strokes made)) (sym is)
-          (weakened old new (OfStart asked db begins) (Touched db []) (StartLeft old asked db t begins.strokes) (TurnLeft old db t begins.strokes []) makes
+          subst (λ (made : List MadeFile). Changes old new (Touched db made) (TurnLeft old db t begins.strokes made (files_made (event ∷ [])))) (sym is)
+          (weakened old new (OfStart asked db begins) (Touched db []) (StartLeft old asked db t begins.strokes) (TurnLeft old db t begins.strokes [] (files_made (event ∷ []))) makes
           (λ m. ⊎_elim inl (λ its. absurd (loud its.1)))
-          (λ fs others has. record { database = has.database; each = λ n bytes there. absurd (no_file n bytes there) }))
+          (λ fs others has. record { database = has.database; each = λ n bytes there. absurd (no_file n bytes there); whole_first = inr (none fs) }))
 
   -- where one GUID was given, or none
   module _ (result : Result Backed Fault) (starts : (given : Given) → GaveAtMost old new (next_guid given) → StartsBackup result old new a b t (file_asked x) (next_guid given) (first_turn (seen_with now given) session x))
@@ -194,7 +197,7 @@ module _ (old new : World) (a b : Held) (t : Trail) (now : Now) (session : ℕ) 
           let does = starts_told told in
           record {
             says = subst (λ (o : Outcome). Says (λ copier. None) result o.reply) same (says_none result begins.reply does.says);
-            left = subst (λ (o : Outcome). Changes old new (Touched db begun) (TurnLeft old db t o.strokes begun)) same (start_left does.left);
+            left = subst (λ (o : Outcome). Changes old new (Touched db begun) (TurnLeft old db t o.strokes begun (files_made (event ∷ [])))) same (start_left does.left);
             opened = ended_map result (subst (IsOpen new b) (trail_plain t event (asked_plain x asks))) (subst (λ (o : Outcome). WhereEnded result (IsOpen new b (after_strokes t o.strokes))) same does.opened);
             running = subst (λ (o : Outcome). WhereEnded result (b.running ≡ o.running)) same does.running;
             given = subst (λ (o : Outcome). WhereEnded result (WasGiven old new now.given o.given)) same (start_given result does told);
@@ -283,26 +286,35 @@ module _ (old new : World) (a b : Held) (t : Trail) (now : Now) (session : ℕ) 
 
   -- what a crash leaves of a close is what it leaves of this turn
   module _ (reads : Leaves old name (old.files name)) where
-    close_left : (ss : List Stroke) → Changes old new (OfBackup name (name_of a)) (CloseLeft old name whole (name_of a) t ss) → Changes old new (Touched (name_of a) files) (TurnLeft old (name_of a) t ss files)
-    close_left ss changes =
-        weakened old new (OfBackup name (name_of a)) (Touched (name_of a) files) (CloseLeft old name whole (name_of a) t ss) (TurnLeft old (name_of a) t ss files) changes touches
+    close_left : (ss : List Stroke) (e : Event) → e.made ≡ Some (name, whole) → Changes old new (OfBackup name (name_of a)) (CloseLeft old name whole (name_of a) t ss)
+        → Changes old new (Touched (name_of a) files) (TurnLeft old (name_of a) t ss files (files_made (e ∷ [])))
+    close_left ss e made changes =
+        weakened old new (OfBackup name (name_of a)) (Touched (name_of a) files) (CloseLeft old name whole (name_of a) t ss) (TurnLeft old (name_of a) t ss files (files_made (e ∷ []))) changes touches
         (λ fs others has. elim has [
-          | inl before ↦ record { database = reached_first after_stroke (StandsIn (name_of a)) t ss fs before.1; each = each_one old new a t ready.opened name whole apart reads fs before.0 }
-          | inr behind ↦ record { database = behind.1; each = each_one old new a t ready.opened name whole apart reads fs (inr (inr behind.0)) }
+          | inl before ↦ record { database = reached_first after_stroke (StandsIn (name_of a)) t ss fs before.1; each = each_one old new a t ready.opened name whole apart reads fs before.0; whole_first = inl before.1 }
+          | inr behind ↦ record { database = behind.1; each = each_one old new a t ready.opened name whole apart reads fs (inr (inr behind.0)); whole_first = inr (whole_by fs e name whole made behind.0) }
         ])
       where
         touches : (m : List ℕ) → OfBackup name (name_of a) m → Touched (name_of a) files m
         touches m (inl same) = inr (whole, (0, omega arith, ap (λ (n : List ℕ). (n, whole)) (sym same)))
         touches m (inr own) = inl own
 
+    -- what its last turn makes is that file
+    last_made : (outcome session last now).made ≡ Some (name, whole)
+    last_made = ap (λ (x : Outcome). x.made) (close_is session copier.backing now) ∙ close_made (seen_now now) copier.backing ∙ ap (λ (bytes : List ℕ). Some (name, bytes)) (sym whole_is)
+
+    -- what is left of a turn of it
+    abbrev Leaving : Turn → Type 0
+    Leaving u = Changes old new (Touched (name_of a) files) (TurnLeft old (name_of a) t (outcome session u now).strokes files (files_made (event_of session u (outcome session u now) ∷ [])))
+
     -- the turn with the time that is foretold
     abbrev Does : Result Progress Fault → Type 0
     Does result = BackupTurn result old new a b copier later t (next_time now.given) (close_backup (seen_now now) copier.backing).strokes
 
-    turn_left : (result : Result Progress Fault) (left : ℕ) → left ≡ rest → Does result → Changes old new (Touched (name_of a) files) (TurnLeft old (name_of a) t (outcome session (copy_first left last) now).strokes files)
+    turn_left : (result : Result Progress Fault) (left : ℕ) → left ≡ rest → Does result → Leaving (copy_first left last)
     turn_left result zero none does =
-        close_left (outcome session last now).strokes (subst (λ (o : Outcome). Changes old new (OfBackup name (name_of a)) (CloseLeft old name whole (name_of a) t o.strokes)) (sym (close_is session copier.backing now)) does.left)
-    turn_left result (suc left) some does = file_left old new a t ready.opened name whole apart reads (outcome session Copies now).strokes (does.alone (omega (arith, some)))
+        close_left (outcome session last now).strokes (event_of session last (outcome session last now)) last_made (subst (λ (o : Outcome). Changes old new (OfBackup name (name_of a)) (CloseLeft old name whole (name_of a) t o.strokes)) (sym (close_is session copier.backing now)) does.left)
+    turn_left result (suc left) some does = file_left old new a t ready.opened name whole apart reads (outcome session Copies now).strokes _ (does.alone (omega (arith, some)))
 
     -- no turn of it says anything
     copy_told : (left : ℕ) → only_told (event_of session (copy_first left last) (outcome session (copy_first left last) now)) ≡ true → ⊥
@@ -310,14 +322,14 @@ module _ (old new : World) (a b : Held) (t : Trail) (now : Now) (session : ℕ) 
     copy_told (suc left) told = unsaid (event_of session Copies (outcome session Copies now)) (ap (λ (x : Outcome). x.reply) (page_is session now)) told
 
     -- it fails
-    failed : (fault : Fault) → IsNoRefusal fault → (left : ℕ) → Changes old new (Touched (name_of a) files) (TurnLeft old (name_of a) t (outcome session (copy_first left last) now).strokes files)
+    failed : (fault : Fault) → IsNoRefusal fault → (left : ℕ) → Leaving (copy_first left last)
         → Acts {T = Progress} (λ progress. None) (Err fault) old new a b t now session (copy_first left last) files
     failed (Refused refusal) none left struck = absurd none
     failed Device none left struck = record { says = tt; left = struck; opened = tt; running = tt; given = tt; kept = tt; unchanged = λ told. absurd (copy_told left told); name = goes.name; cap = goes.cap }
     failed Memory none left struck = record { says = tt; left = struck; opened = tt; running = tt; given = tt; kept = tt; unchanged = λ told. absurd (copy_told left told); name = goes.name; cap = goes.cap }
 
     -- a page is copied
-    copied : CopiesOn old new a b copier later t → Changes old new (Touched (name_of a) files) (TurnLeft old (name_of a) t (outcome session Copies now).strokes files)
+    copied : CopiesOn old new a b copier later t → Leaving Copies
         → Acts (λ (progress : Progress). None) (Ok More) old new a b t now session Copies files
     copied does left =
         let o = page_is session now in
@@ -335,7 +347,7 @@ module _ (old new : World) (a b : Held) (t : Trail) (now : Now) (session : ℕ) 
 
     -- the file is whole, and the row is written
     closed : Foretells now.given [] old new → CloseDone old new a b copier later t (next_time now.given) (close_backup (seen_now now) copier.backing).strokes → new.guids ≡ old.guids
-        → Changes old new (Touched (name_of a) files) (TurnLeft old (name_of a) t (outcome session last now).strokes files) → Acts (λ (progress : Progress). None) (Ok Finished) old new a b t now session last files
+        → Leaving last → Acts (λ (progress : Progress). None) (Ok Finished) old new a b t now session last files
     closed told does guids left =
         let o = close_is session copier.backing now in
         record {
@@ -351,8 +363,7 @@ module _ (old new : World) (a b : Held) (t : Trail) (now : Now) (session : ℕ) 
             times = does.times;
             times_first = first_given 0 old.times new.times now.given.times told.clock told.later_clock told.times told.times_first (next_time now.given) does.times;
           });
-          kept = made_by new (event_of session last (outcome session last now)) (name, whole)
-              (ap (λ (x : Outcome). x.made) o ∙ close_made (seen_now now) copier.backing ∙ ap (λ (bytes : List ℕ). Some (name, bytes)) (sym whole_is)) (kept_one new name whole does.kept);
+          kept = made_by new (event_of session last (outcome session last now)) (name, whole) last_made (kept_one new name whole does.kept);
           unchanged = λ told. absurd (copy_told zero told);
           name = goes.name;
           cap = goes.cap;

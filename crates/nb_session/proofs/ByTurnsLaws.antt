@@ -1,9 +1,9 @@
 -- What turns taken one by one leave of the files.
-use Rattle.std.proofs.Common.{◌≡◌, inl, inr, ℕ, List, [], ◌∷◌, sym, ap, subst, ◌∙◌, Bool, false, Result, Ok, Err}
-use Rattle.nb_session.proofs.Common.{World, LeavesAll, IsTimely, RunError, weaker, MadeFile, Now, Played, one_turn, play, steps_of, after_steps, Trail, OfFiles, Held, name_of, Told, Touched, InTurn, EndsBy, LeavesOthers, touching_by, Plays, PlaysInTurn, told_events, told_turns}
-use Rattle.nb_session.specs.ByTurns.{ByTurns, OfLast, StillInLast, GoesByTurns}
+use Rattle.std.proofs.Common.{◌≡◌, ◌⊎◌, inl, inr, ℕ, zero, suc, List, [], ◌∷◌, ◌++◌, length, take, refl, sym, ap, subst, ◌∙◌, Bool, false, Result, Ok, Err, IsErr}
+use Rattle.nb_session.proofs.Common.{World, LeavesAll, IsTimely, RunError, weaker, MadeFile, Now, Played, one_turn, play, steps_of, after_steps, Trail, OfFiles, Held, name_of, Told, Touched, InTurn, EndsBy, LeavesOthers, touching_by, Plays, PlaysInTurn, told_events, told_turns, IsSaid, output_no_event, append-nil, StopLeft}
+use Rattle.nb_session.specs.ByTurns.{ByTurns, OfLast, StillInLast, SaidInLast, GoesByTurns}
 use Rattle.nb_session.proofs.InTurnLaws.{play_idle}
-use Rattle.nb_session.proofs.OthersLaws.{leaves_among}
+use Rattle.nb_session.proofs.OthersLaws.{now_left, leaves_among}
 use Rattle.nb_session.proofs.PlayLaws.{no_file}
 
 -- Turns leave alone what they may not touch.
@@ -17,6 +17,20 @@ plays_leave result old new before after t now p made timely reads plays =
       others_read = plays.others_read;
       added = record { part = here.out.part; is = here.out.is };
     }
+
+-- a prefix of their lines was said
+plays_say : (result : Result Bool RunError) (old new : World) (before after : Held) (t : Trail) (now : Now) (p : Played) (made : List MadeFile) → IsTimely new → LeavesAll new new.files → Plays result old new before after t now p made → IsSaid old p.0 new.said
+plays_say result old new before after t now p made timely reads plays = (now_left old new (StopLeft old (name_of before) t p.0 made) timely reads plays.stops).out
+
+-- of no line nothing is
+said_none : (old : World) (said : List ℕ) → IsSaid old [] said → said ≡ old.said
+said_none old said is =
+    let none : is.part ≡ [] = is.front ∙ ap (take (length is.part)) output_no_event ∙ take_none (length is.part) in
+    is.is ∙ ap (λ (part : List ℕ). old.said ++ part) none ∙ append-nil old.said
+  where
+    take_none : (n : ℕ) → take {A = ℕ} n [] ≡ []
+    take_none zero = refl
+    take_none (suc n) = refl
 
 -- no turn touches but the database's two files
 none_touched : (name m : List ℕ) → Touched name [] m → OfFiles name m
@@ -64,6 +78,20 @@ module _ {H : Type 0} (world : H → World) (timely : (h : H) → IsTimely (worl
       subst (λ (n : List ℕ). LeavesOthers (world old) (world new) (Touched n (touching_by x now))) named
       (plays_leave (Err stop) (world old) (world new) before after t now (told_turns how (one_turn x now)) (touching_by x now) (timely new) (reads new) ends.0)
 
+  last_said : (result : Result Bool RunError) (rest : List ℕ) (old new : H) (before after : Held) (t : Trail) (now : Now) → EndsBy result how rest (world old) (world new) before after t now
+      → SaidInLast (told_events how) rest now (world old) (world new)
+  last_said (Ok refused) [] old new before after t now plays = said_none (world old) (world new).said (plays_say (Ok false) (world old) (world new) before after t now ([], now) [] (timely new) (reads new) plays)
+  last_said (Ok refused) (x ∷ rest) old new before after t now plays = absurd plays
+  last_said (Err stop) [] old new before after t now plays = said_none (world old) (world new).said (plays_say (Err stop) (world old) (world new) before after t now ([], now) [] (timely new) (reads new) plays)
+  last_said (Err stop) (x ∷ rest) old new before after t now ends =
+      plays_say (Err stop) (world old) (world new) before after t now (told_turns how (one_turn x now)) (touching_by x now) (timely new) (reads new) ends.0
+
+  -- turns are left only where one ended early
+  last_early : (result : Result Bool RunError) (rest : List ℕ) (old new : World) (before after : Held) (t : Trail) (now : Now) → EndsBy result how rest old new before after t now → IsErr result ⊎ (rest ≡ [])
+  last_early (Ok refused) [] old new before after t now plays = inr refl
+  last_early (Ok refused) (x ∷ rest) old new before after t now plays = absurd plays
+  last_early (Err stop) rest old new before after t now ends = inl refl
+
   last_still : (result : Result Bool RunError) (rest : List ℕ) (old new : World) (before after : Held) (t : Trail) (now : Now) → EndsBy result how rest old new before after t now → StillInLast rest now old new
   last_still (Ok refused) [] old new before after t now plays = tt
   last_still (Ok refused) (x ∷ rest) old new before after t now plays = absurd plays
@@ -72,16 +100,19 @@ module _ {H : Type 0} (world : H → World) (timely : (h : H) → IsTimely (worl
 
   -- all turns
   pub goes_by : (result : Result Bool RunError) (old new : H) (before after : Held) (t : Trail) (now : Now) (schedule : List ℕ) → name_of before ≡ now.name → PlaysInTurn world result old new before after t how now schedule
-      → GoesByTurns world (told_events how) old new now schedule
+      → GoesByTurns world (IsErr result) (told_events how) old new now schedule
   goes_by result old new before after t now schedule named plays =
       let runs = plays.in_turn in
+      let far : Trail = after_steps t (steps_of (play runs.front now).0) in
       record {
         how_often = plays.whole.how_often;
         front = runs.front;
         rest = runs.rest;
         is = runs.is;
+        to_end = last_early result runs.rest (world runs.mid) (world new) runs.between after far (play runs.front now).1 runs.last;
         mid = runs.mid;
         taken = turns_by runs.front old runs.mid before runs.between t now named runs.taken;
-        last = last_leaves result runs.rest runs.mid new runs.between after (after_steps t (steps_of (play runs.front now).0)) (play runs.front now).1 (named_then runs.front old runs.mid before runs.between t now named runs.taken) runs.last;
-        still = last_still result runs.rest (world runs.mid) (world new) runs.between after (after_steps t (steps_of (play runs.front now).0)) (play runs.front now).1 runs.last;
+        last = last_leaves result runs.rest runs.mid new runs.between after far (play runs.front now).1 (named_then runs.front old runs.mid before runs.between t now named runs.taken) runs.last;
+        still = last_still result runs.rest (world runs.mid) (world new) runs.between after far (play runs.front now).1 runs.last;
+        said = last_said result runs.rest runs.mid new runs.between after far (play runs.front now).1 runs.last;
       }

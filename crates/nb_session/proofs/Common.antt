@@ -83,15 +83,17 @@ pub use Rattle.nb_sched.specs.Turns.{AllDone, EndsWith, FailsBehind, IsDone, Kin
 pub use Rattle.nb_script.specs.Asked.{IsAskable, IsFurther}
 pub use Rattle.nb_script.specs.Fits.{FitsAsked, IsFile, IsSession}
 pub use Rattle.nb_script.specs.Scripts.{Plan}
-pub use Rattle.nb_session.specs.Acts.{Acts, AreKept, AreSixteen, Grows, MadeLeft, MayAct, Says, Touched, TurnLeft, shown_by}
+pub use Rattle.nb_session.specs.Acts.{Acts, AreKept, AreSixteen, AreWhole, Grows, MadeLeft, MayAct, Says, Touched, TurnLeft, shown_by}
 pub use Rattle.nb_session.specs.Askers.{Asker, HasTodo, IsBackup, IsFit, IsMerging, IsOneTurn, KeepsOthers, TaskFits, any_refused, copy_first, copy_rest, file_asked, first_askers, fresh_asker, left_of, left_refused, left_task, merge_first, merge_rest, task_first, task_left, task_rest, task_todo, todo_of}
+unfoldable pub use Rattle.nb_session.specs.HowFar.{begun_turns, open_turns}
+pub use Rattle.nb_session.specs.HowFar.{open_steps}
 pub use Rattle.nb_session.specs.InTurn.{EndsBy, HasNone, InTurn, RunsInTurn, TakesOne}
 pub use Rattle.nb_session.specs.Others.{IsAdded, LeavesOthers, OthersLeft}
 pub use Rattle.nb_session.specs.Ready.{IsApart, IsReady, TaskGoes}
 pub use Rattle.nb_session.specs.Replies.{HasEnded, Replies, header_of, is_refusal, only_told, some_said}
 pub use Rattle.nb_session.specs.Says.{EndsEarly, FrontSaid, SaysLine}
 pub use Rattle.nb_session.specs.Steps.{GoesFurther, IsBehind, Steps, TakesNext, Turns, as_played, begun_first, begun_in, left_making, shown_first, shown_next, touching, touching_by}
-pub use Rattle.nb_session.specs.Stops.{AreWhole, PlayedOut, Plays, StopLeft}
+pub use Rattle.nb_session.specs.Stops.{IsSaid, PlayedOut, Plays, StopLeft}
 pub use Rattle.nb_session.specs.Todo.{PlaysInTurn}
 pub use Rattle.nb_session.specs.Told.{told_events, told_line, told_reply, told_status, told_turns}
 pub use Rattle.nb_session.specs.declared.task.Left.{Left}

@@ -1,6 +1,6 @@
 -- The turns of a copy of the frozen file.
-use Rattle.std.proofs.Common.{◌≡◌, inr, ℕ, zero, suc, ◌-◌, ◌≤◌, List, [], ◌∷◌, ◌++◌, length, replicate, refl, sym, ap, subst, ◌∙◌, arith, true≢false, Bool, Result, Ok, Err, IsErr, IfOk, Option, Some, None, Contains, true, false}
-use Rattle.nb_session.proofs.Common.{slice_index_or, append-nil, stalled_state, Files, is_delta, World, Leaves, Fault, Refused, Device, HostFault, RunError, Refusal, Changes, Only, Remade, GaveNothing, weakened, reached_first, Reply, Pages, CopyTo, Base, copy_turn, close_copy, is_free_entry, Runs, IsAt, IsGoing, IsMaking, Image, image_state, joined, MadeFile, making, Turn, Begins, Copies, ClosesCopy, Seen, Outcome, passes, Now, Event, base_now, outcome, event_of, files_made, Stroke, base_after, steps_in, after_steps, Trail, StandsIn, after_stroke, first_turn, turn, copy_either, OfFiles, after_strokes, Held, IsOpen, name_of, Progress, More, Finished, where_ended, none_yet, gave_none, open_quiet, open_running, IsKept, IsUnfinishedOr, Copying, IsCopying, CopiesFile, IsCopyingTo, StartsCopy, IsCopyStarted, KnowsUnused, Left, Same, Copy, Told, Says, Touched, TurnLeft, AreKept, MayAct, copy_first, copy_rest, left_refused, left_task, task_first, task_rest, IsReady, IsApart, TaskGoes, SaysLine, touching, IsBehind, Turns, told_line, told_reply, has_only_told, only_told, one_held, none_some, some_none}
+use Rattle.std.proofs.Common.{◌≡◌, inl, inr, ℕ, zero, suc, ◌-◌, ◌≤◌, List, [], ◌∷◌, ◌++◌, length, replicate, refl, sym, ap, subst, ◌∙◌, arith, true≢false, Bool, Result, Ok, Err, IsErr, IfOk, Option, Some, None, Contains, true, false}
+use Rattle.nb_session.proofs.Common.{slice_index_or, append-nil, stalled_state, Files, is_delta, World, Leaves, Fault, Refused, Device, HostFault, RunError, Refusal, Changes, Only, Remade, GaveNothing, weakened, reached_first, Reply, Pages, CopyTo, Base, copy_turn, close_copy, is_free_entry, Runs, IsAt, IsGoing, IsMaking, Image, image_state, joined, MadeFile, making, Turn, Begins, Copies, ClosesCopy, Seen, Outcome, passes, Now, Event, base_now, outcome, event_of, files_made, Stroke, base_after, steps_in, after_steps, Trail, StandsIn, after_stroke, first_turn, turn, copy_either, OfFiles, after_strokes, Held, IsOpen, name_of, Progress, More, Finished, where_ended, none_yet, gave_none, open_quiet, open_running, IsKept, IsUnfinishedOr, Copying, IsCopying, CopiesFile, IsCopyingTo, StartsCopy, IsCopyStarted, KnowsUnused, Left, Same, Copy, Told, Says, Touched, TurnLeft, AreKept, MayAct, copy_first, copy_rest, left_refused, left_task, task_first, task_rest, IsReady, IsApart, TaskGoes, SaysLine, touching, IsBehind, Turns, told_line, told_reply, has_only_told, only_told, one_held, none_some, some_none, AreWhole}
 use Rattle.nb_model.specs.declared.reply.Reply.TheVariants.{Refused as RefusedBy}
 use Rattle.nb_copy.specs.Turns.{CopyCounts}
 use Rattle.nb_copy.proofs.ClosingLaws.{stands}
@@ -40,6 +40,13 @@ pub made_by : (w : World) (e : Event) (file : MadeFile) → e.made ≡ Some file
 unfolding files_made
 made_by w e file made kept = subst (λ (m : Option MadeFile). AreKept w (elim m as (λ z. List MadeFile) [ Some f ↦ f ∷ [] | None ↦ [] ])) (sym made) kept
 
+-- the one file that an event made is whole
+pub whole_by : (files : Files) (e : Event) (name whole : List ℕ) → e.made ≡ Some (name, whole) → files name ≡ Some whole → AreWhole (files_made (e ∷ [])) files
+unfolding files_made
+whole_by files e name whole made is n bytes there =
+    let held : Contains {X = MadeFile} ((name, whole) ∷ []) (n, bytes) = subst (λ (m : Option MadeFile). Contains (elim m as (λ z. List MadeFile) [ Some f ↦ f ∷ [] | None ↦ [] ]) (n, bytes)) made there in
+    subst (λ (f : MadeFile). files f.0 ≡ Some f.1) (one_held (name, whole) (n, bytes) held) is
+
 -- What a crash leaves while a file that isn't the database's is made, and the database stays.
 module _ (old new : World) (a : Held) (t : Trail) (opened : IsOpen old a t) (name whole : List ℕ) (apart : IsApart a name) (reads : Leaves old name (old.files name)) where
   touches : (m : List ℕ) → m ≡ name → Touched (name_of a) ((name, whole) ∷ []) m
@@ -48,12 +55,16 @@ module _ (old new : World) (a : Held) (t : Trail) (opened : IsOpen old a t) (nam
   pub each_one : (files : Files) → Remade old name (IsUnfinishedOr whole) files → (n bytes : List ℕ) → Contains {X = MadeFile} ((name, whole) ∷ []) (n, bytes) → Remade old n (IsUnfinishedOr bytes) files
   each_one files has n bytes there = subst (λ (f : MadeFile). Remade old f.0 (IsUnfinishedOr f.1) files) (one_held (name, whole) (n, bytes) there) has
 
-  pub file_left : (ss : List Stroke) → Changes old new (Only name) (Remade old name (IsUnfinishedOr whole)) → Changes old new (Touched (name_of a) ((name, whole) ∷ [])) (TurnLeft old (name_of a) t ss ((name, whole) ∷ []))
-  file_left ss changes =
-      weakened old new (Only name) (Touched (name_of a) ((name, whole) ∷ [])) (Remade old name (IsUnfinishedOr whole)) (TurnLeft old (name_of a) t ss ((name, whole) ∷ [])) changes touches
-      (λ files others has. record {
-        database = reached_first after_stroke (StandsIn (name_of a)) t ss files (stands old a t opened name whole (apart_files a name apart) reads files others);
+  pub file_left : (ss : List Stroke) (done : List MadeFile) → Changes old new (Only name) (Remade old name (IsUnfinishedOr whole))
+      → Changes old new (Touched (name_of a) ((name, whole) ∷ [])) (TurnLeft old (name_of a) t ss ((name, whole) ∷ []) done)
+  file_left ss done changes =
+      weakened old new (Only name) (Touched (name_of a) ((name, whole) ∷ [])) (Remade old name (IsUnfinishedOr whole)) (TurnLeft old (name_of a) t ss ((name, whole) ∷ []) done) changes touches
+      (λ files others has.
+      let before = stands old a t opened name whole (apart_files a name apart) reads files others in
+      record {
+        database = reached_first after_stroke (StandsIn (name_of a)) t ss files before;
         each = each_one files has;
+        whole_first = inl before;
       })
 
 -- The start of a copy, by its turn.
@@ -104,7 +115,7 @@ module _ (old new : World) (a b : Held) (t : Trail) (now : Now) (session : ℕ) 
         grows = grows_none old new (gave_none old new starts.quiet);
         acts = λ told. record {
           says = subst (λ (o : Outcome). Says (λ copy. None) result o.reply) same (says_none result begins.reply starts.says);
-          left = strikes_left old new (name_of a) t this.strokes (none_yet old new a t this.strokes starts.quiet ready.opened);
+          left = strikes_left old new (name_of a) t this.strokes event (sym (ap (λ (o : Outcome). o.made) same) ∙ begin_made (seen_now now) session name) (none_yet old new a t this.strokes starts.quiet ready.opened);
           opened = ended_map result (λ held. subst (IsOpen new b) trail_is (subst (λ (h : Held). IsOpen new h t) (sym held) (open_running new a t begins.running (open_quiet old new a t starts.quiet ready.opened)))) starts.held;
           running = ended_map result (λ held. ap (λ (h : Held). h.running) held ∙ ap (λ (o : Outcome). o.running) same) starts.held;
           given = where_ended result _ (given_nothing old new now.given this.given (gave_none old new starts.quiet) (sym (ap (λ (o : Outcome). o.given) same) ∙ begin_given (seen_now now) session name));
@@ -240,7 +251,7 @@ module _ (old mid : World) (a b : Held) (t : Trail) (now : Now) (session : ℕ) 
       grows = grows_none old mid gave;
       acts = λ told. record {
         says = tt;
-        left = file_left old mid a t ready.opened copy.name whole apart reads (outcome session (copy_first left last) now).strokes changes;
+        left = file_left old mid a t ready.opened copy.name whole apart reads (outcome session (copy_first left last) now).strokes _ changes;
         opened = tt;
         running = tt;
         given = tt;
@@ -261,7 +272,7 @@ module _ (old mid : World) (a b : Held) (t : Trail) (now : Now) (session : ℕ) 
           grows = grows_none old mid gave;
           acts = λ told. record {
             says = ap (λ (x : Outcome). x.reply) o;
-            left = file_left old mid a t ready.opened copy.name whole apart reads (outcome session Copies now).strokes changes;
+            left = file_left old mid a t ready.opened copy.name whole apart reads (outcome session Copies now).strokes _ changes;
             opened = subst (IsOpen mid b) (trail_same (suc left)) opened;
             running = ap (λ (h : Held). h.running) same ∙ ready.running ∙ sym (ap (λ (x : Outcome). x.running) o);
             given = given_nothing old mid now.given (outcome session Copies now).given gave (ap (λ (x : Outcome). x.given) o);
@@ -282,7 +293,7 @@ module _ (old mid : World) (a b : Held) (t : Trail) (now : Now) (session : ℕ) 
           grows = grows_none old mid gave;
           acts = λ told. record {
             says = ap (λ (x : Outcome). x.reply) o ∙ close_reply (seen_now now) copy.name ∙ ap (λ (n : ℕ). Some (Pages n)) (sym (all ∙ ap length frozen_is));
-            left = file_left old mid a t ready.opened copy.name whole apart reads (outcome session last now).strokes changes;
+            left = file_left old mid a t ready.opened copy.name whole apart reads (outcome session last now).strokes _ changes;
             opened = subst (IsOpen mid b) (trail_same 0) (subst (λ (h : Held). IsOpen mid h t) (sym same) (open_running mid a t None opened));
             running = ap (λ (h : Held). h.running) same ∙ sym (ap (λ (x : Outcome). x.running) o ∙ close_running (seen_now now) copy.name);
             given = given_nothing old mid now.given (outcome session last now).given gave (ap (λ (x : Outcome). x.given) o ∙ close_given (seen_now now) copy.name);

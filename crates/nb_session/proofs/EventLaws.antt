@@ -1,11 +1,13 @@
 -- One turn and its line are one event.
-use Rattle.std.proofs.Common.{◌≡◌, ◌⊎◌, ℕ, zero, suc, ◌-◌, List, [], ◌∷◌, ◌++◌, length, take, Bool, false, refl, sym, ap, subst, ◌∙◌, arith, true, Result, Ok, Err, IfOk, Option, Some, None, Contains, if◌then◌else◌}
-use Rattle.nb_session.proofs.Common.{list_all, slice_index_or, true≢false, append-nil, take_all, File, Files, with_file, World, Leaves, LeavesAll, IsStill, AtEachMoment, Fault, Refused, Device, Memory, RunError, left_with, weaker, left_before, untouched_joined, untouched_fewer, with_file-same, reached_by, Reply, Stroke, IsMaking, MadeFile, Turn, Outcome, Event, Now, Played, event_of, outcome, stands_then, take_turn, files_made, output, status_after, made, steps_in, steps_of, after_step, after_steps, acked_turns, Trail, StandsIn, after_stroke, output-quiet, output_no_event, steps_one, strokes_within, strokes_front, acked_steps_none, acked_steps_most, turns_before, after_strokes, IsKept, IsUnfinishedOr, Held, IsOpen, name_of, WhereEnded, still_open, Told, AreKept, Acts, IsReady, IsApart, has_only_told, HasEnded, only_told, FrontSaid, SaysLine, touching, StopLeft, PlayedOut, Plays, told_turns, told_line, told_status, take_self}
+use Rattle.std.proofs.Common.{◌≡◌, ◌⊎◌, inl, inr, ◌≤◌, ℕ, zero, suc, ◌-◌, List, [], ◌∷◌, ◌++◌, length, take, Bool, false, refl, sym, ap, subst, ◌∙◌, arith, true, Result, Ok, Err, IfOk, Option, Some, None, Contains, if◌then◌else◌}
+use Rattle.nb_session.proofs.Common.{list_all, slice_index_or, true≢false, append-nil, take_all, File, Files, with_file, World, Leaves, LeavesAll, IsStill, AtEachMoment, Fault, Refused, Device, Memory, RunError, left_with, weaker, left_before, untouched_joined, untouched_fewer, with_file-same, reached_by, Reply, Stroke, IsMaking, MadeFile, Turn, Outcome, Event, Now, Played, event_of, outcome, stands_then, take_turn, files_made, output, status_after, made, steps_in, steps_of, after_step, after_steps, acked_turns, Trail, StandsIn, after_stroke, output-quiet, output_no_event, steps_one, strokes_within, strokes_front, acked_steps_none, acked_steps_most, turns_before, after_strokes, IsKept, IsUnfinishedOr, Held, IsOpen, name_of, WhereEnded, still_open, Told, AreKept, Acts, IsReady, IsApart, has_only_told, HasEnded, only_told, FrontSaid, SaysLine, touching, StopLeft, PlayedOut, Plays, told_turns, told_line, told_status, take_self, begun_turns, AreWhole, after_no_step, MadeLeft, Touched}
 use Rattle.std.proofs.Math.Bool.{and-true}
+use Rattle.nb_change.specs.Changes.{Other}
 use Rattle.nb_change.proofs.MomentLaws.{joined}
 use Rattle.nb_change.proofs.SettledLaws.{durable_is, durable_still}
 use Rattle.nb_session.specs.Told.{told_reply as told_as}
 use Rattle.nb_session.proofs.GiftLaws.{given_nothing, given_joined}
+use Rattle.nb_session.proofs.HowFarLaws.{begun_none, open_one}
 use Rattle.nb_session.proofs.ReadyLaws.{apart_files, ready_then}
 use Rattle.nb_session.proofs.ToldLaws.{told_one, told_none, told_status_is, told_only, output_told, status_told, status_unsaid}
 
@@ -104,20 +106,37 @@ module _ (old mid new : World) (e0 e1 : Held) (t : Trail) (now : Now) (session :
   trail_is : after_steps t (steps_in event) ≡ after_steps t (steps_of (event ∷ []))
   trail_is = ap (after_steps t) (sym (steps_one event))
 
-  module _ {T : Type 0} (result : Result T Fault) (reply : T → Option Reply) (acts : Acts reply result old mid e0 e1 t now session u files) (marks : Marks old mid e0 files) where
+  module _ {T : Type 0} (result : Result T Fault) (reply : T → Option Reply) (acts : Acts reply result old mid e0 e1 t now session u files) (marks : Marks old mid e0 files)
+      (only : only_told event ≡ true → only_told (event_of session u here) ≡ true) where
+    -- what is left where so many of its steps were made
+    stopped : (fs : Files) (said : List ℕ) → said ≡ old.said → MadeLeft old files fs → ((m : List ℕ) → Other (Touched name files) m → Leaves old m (fs m)) → (count : ℕ) → count ≤ length (steps_of (event ∷ []))
+        → StandsIn name (after_steps t (take count (steps_of (event ∷ [])))) fs → AreWhole (files_made (take (begun_turns (event ∷ []) count) (event ∷ []))) fs → Left fs said
+    stopped fs said silent each others count most database begun = record {
+      out = record { part = []; is = silent ∙ sym (append-nil old.said); front = refl };
+      count = count;
+      front = record { most = most; acknowledged = omega (arith, acked_steps_none (event ∷ [])); unsaid = omega (arith, most, open_one event 0) };
+      database = database;
+      each = each;
+      whole = λ n bytes there. absurd (made_none (n, bytes) (subst (λ (k : ℕ). Contains (files_made (take k (event ∷ []))) (n, bytes)) (turns_before (event ∷ [])) there));
+      begun = begun;
+      others = others;
+    }
+
+    -- its files are those of the turn
+    event_whole : (fs : Files) → AreWhole (files_made (event_of session u here ∷ [])) fs → AreWhole (files_made (event ∷ [])) fs
+    unfolding files_made
+    event_whole fs whole = whole
+
     -- while its strokes are made
     during : AtEachMoment old mid Left
-    during = weaker old mid _ _ acts.left.moments (λ fs said left.
-        let by = reached_by after_stroke (StandsIn name) t here.strokes fs left.has.database in
-        record {
-          out = record { part = []; is = left.output ∙ sym (append-nil old.said); front = refl };
-          count = by.count;
-          front = record { most = omega (arith, by.most, strokes_within event); acknowledged = omega (arith, acked_steps_none (event ∷ [])) };
-          database = subst (λ (w : Trail). StandsIn name w fs) (strokes_are_steps t (take by.count here.strokes) ∙ ap (after_steps t) (sym (strokes_front event by.count by.most))) by.is;
-          each = left.has.each;
-          whole = λ n bytes there. absurd (made_none (n, bytes) (subst (λ (k : ℕ). Contains (files_made (take k (event ∷ []))) (n, bytes)) (turns_before (event ∷ [])) there));
-          others = left.others;
-        })
+    during = weaker old mid _ _ acts.left.moments (λ fs said left. elim left.has.whole_first [
+      | inl first ↦ stopped fs said left.output left.has.each left.others 0 (omega arith) (subst (λ (w : Trail). StandsIn name w fs) (sym (after_no_step t)) first)
+          (λ n bytes there. absurd (made_none (n, bytes) (subst (λ (k : ℕ). Contains (files_made (take k (event ∷ []))) (n, bytes)) (begun_none (event ∷ [])) there)))
+      | inr whole ↦ (let by = reached_by after_stroke (StandsIn name) t here.strokes fs left.has.database in
+          stopped fs said left.output left.has.each left.others by.count (omega (arith, by.most, strokes_within event))
+          (subst (λ (w : Trail). StandsIn name w fs) (strokes_are_steps t (take by.count here.strokes) ∙ ap (after_steps t) (sym (strokes_front event by.count by.most))) by.is)
+          (λ n bytes there. event_whole fs whole n bytes (made_front event (begun_turns (event ∷ []) by.count) (n, bytes) there)))
+    ])
 
     -- what is said of the files, and of the name, however it ends
     plays_with : (ending : Result Bool RunError) (w : World) → AtEachMoment old w Left → IsStill mid w → IfOk ending (λ refused. PlayedOut refused old w e1 t now one) → Plays ending old w e0 e1 t now one files
@@ -127,6 +146,7 @@ module _ (old mid new : World) (e0 e1 : Held) (t : Trail) (now : Now) (session :
       apart = λ n bytes there. apart_files e0 n (marks.apart n bytes there);
       others = untouched_joined old mid w _ acts.left.others (untouched_fewer mid w _ _ still.left (λ m other. tt));
       others_read = λ m other. ap (λ (f : Files). f m) still.files ∙ acts.left.others_read m other;
+      unchanged = λ settled all. still.files ∙ acts.unchanged (only (one_told event all));
       name = acts.name;
       done = out;
     }
@@ -164,7 +184,6 @@ module _ (old mid new : World) (e0 e1 : Held) (t : Trail) (now : Now) (session :
         status = status_unsaid event quiet;
         given = given_joined old mid mid now.given here.given one.1.given (ended result has acts.given) (given_nothing mid mid here.given one.1.given (record { guids = refl; times = refl }) given_then);
         kept = kept_mid;
-        unchanged = λ settled all. absurd (unsaid event quiet (one_told event all));
       })
 
       module _ {S E : Type 0} (line_said : Result S E) (says : SaysLine line_said mid new (told_line session told)) where
@@ -177,6 +196,10 @@ module _ (old mid new : World) (e0 e1 : Held) (t : Trail) (now : Now) (session :
         all_steps : after_steps t (steps_in event) ≡ after_steps t (take (length (steps_of (event ∷ []))) (steps_of (event ∷ [])))
         all_steps = trail_is ∙ ap (after_steps t) (sym (take_all (length (steps_of (event ∷ []))) (steps_of (event ∷ [])) (omega arith)))
 
+        -- what is kept for good is whole
+        kept_whole : (fs : Files) → LeavesAll mid fs → AreWhole (files_made (event ∷ [])) fs
+        kept_whole fs leaves n bytes there = durable_is mid n (Some bytes) (kept_mid n bytes there).durable (fs n) (leaves n)
+
         -- while its line is said
         saying : (fs : Files) (said : List ℕ) → FrontSaid mid line fs said → Left fs said
         saying fs said front =
@@ -188,11 +211,12 @@ module _ (old mid new : World) (e0 e1 : Held) (t : Trail) (now : Now) (session :
                 front = take_self front.count line ∙ ap (take (length part)) (sym output_is);
               };
               count = length (steps_of (event ∷ []));
-              front = record { most = omega arith; acknowledged = acked_steps_most (event ∷ []) (length part) };
+              front = record { most = omega arith; acknowledged = acked_steps_most (event ∷ []) (length part); unsaid = omega (arith, open_one event (length part)) };
               database = subst (λ (w : Trail). StandsIn name w fs) all_steps
                   (subst (λ (n : List ℕ). StandsIn n (after_steps t (steps_in event)) fs) acts.name (opened_mid.files.left fs front.left));
               each = λ n bytes there. marks.left n bytes (fs n) there (front.left n);
-              whole = λ n bytes there. durable_is mid n (Some bytes) (kept_mid n bytes (made_front event (acked_turns (event ∷ []) (length part)) (n, bytes) there)).durable (fs n) (front.left n);
+              whole = λ n bytes there. kept_whole fs front.left n bytes (made_front event (acked_turns (event ∷ []) (length part)) (n, bytes) there);
+              begun = λ n bytes there. kept_whole fs front.left n bytes (made_front event (begun_turns (event ∷ []) (length (steps_of (event ∷ [])))) (n, bytes) there);
               others = λ m other. left_before old mid _ acts.left.others m (fs m) other (front.left m);
             }
 
@@ -204,15 +228,14 @@ module _ (old mid new : World) (e0 e1 : Held) (t : Trail) (now : Now) (session :
         told_unsaid e = plays_with (Err e) new whole says.still tt
 
         -- it was
-        pub told_said : (refused : Bool) → new.said ≡ mid.said ++ line → told_status told ≡ (if refused then 1 else 0) → (only_told event ≡ true → only_told (event_of session u here) ≡ true)
+        pub told_said : (refused : Bool) → new.said ≡ mid.said ++ line → told_status told ≡ (if refused then 1 else 0)
             → Plays (Ok refused) old new e0 e1 t now one files
-        told_said refused said status only = plays_with (Ok refused) new whole says.still (record {
+        told_said refused said status = plays_with (Ok refused) new whole says.still (record {
           ready = ready_at new says.still;
           said = said ∙ ap (λ (l : List ℕ). l ++ line) acts.left.said ∙ ap (λ (l : List ℕ). old.said ++ l) (sym output_is);
           status = status_told event told refl ∙ status;
           given = given_joined old mid new now.given here.given one.1.given (ended result has acts.given) (given_nothing mid new here.given one.1.given says.gave given_then);
           kept = kept_still mid new (files_made (event ∷ [])) says.still kept_mid;
-          unchanged = λ settled all. says.still.files ∙ acts.unchanged (only (one_told event all));
         })
 
 -- The event of the turn, and what is told of it.
@@ -235,14 +258,18 @@ module _ (how : Told) (old mid new : World) (e0 e1 : Held) (t : Trail) (now : No
       subst (λ (es : List Event). Plays result old w e0 e1 t now (es, stands_then session (tail ++ more) turn_done now) turn_files) (sym (told_one how (event_of session u turn_done))) plays
 
   module _ {T : Type 0} (result : Result T Fault) (reply : T → Option Reply) (acts : Acts reply result old mid e0 e1 t now session u turn_files) (marks : Marks old mid e0 turn_files) where
+    -- what only tells something as it is told only tells something
+    only : only_told (record (event_of session u turn_done) { reply = turn_told }) ≡ true → only_told (event_of session u turn_done) ≡ true
+    only = told_only how (event_of session u turn_done)
+
     -- the turn failed
     pub event_failed : (e : RunError) → Plays (Err e) old mid e0 e1 t now played turn_files
-    event_failed e = as_played (Err e) mid (told_failed old mid new e0 e1 t now session u tail more turn_told result reply acts marks e)
+    event_failed e = as_played (Err e) mid (told_failed old mid new e0 e1 t now session u tail more turn_told result reply acts marks only e)
 
     module _ (has : HasEnded result) (place : slice_index_or now.todo (session - 1) [] ≡ u ∷ (tail ++ more)) (ready : IsReady old e0 t now) (makes : IsMaking now) where
       -- it has nothing to say
       pub event_quiet : turn_done.reply ≡ None → Plays (Ok false) old mid e0 e1 t now played turn_files
-      event_quiet quiet = as_played (Ok false) mid (told_quiet old mid new e0 e1 t now session u tail more turn_told result reply acts marks has place ready makes (told_none how turn_done.reply quiet))
+      event_quiet quiet = as_played (Ok false) mid (told_quiet old mid new e0 e1 t now session u tail more turn_told result reply acts marks only has place ready makes (told_none how turn_done.reply quiet))
 
       module _ (r : Reply) (is_said : turn_done.reply ≡ Some r) {S E : Type 0} (line_said : Result S E) (says : SaysLine line_said mid new (told_line session (told_as how (Some r)))) where
         says_it : SaysLine line_said mid new (told_line session turn_told)
@@ -250,11 +277,11 @@ module _ (how : Told) (old mid new : World) (e0 e1 : Held) (t : Trail) (now : No
 
         -- what is told wasn't said whole
         pub event_unsaid : (e : RunError) → Plays (Err e) old new e0 e1 t now played turn_files
-        event_unsaid e = as_played (Err e) new (told_unsaid old mid new e0 e1 t now session u tail more turn_told result reply acts marks has place ready makes line_said says_it e)
+        event_unsaid e = as_played (Err e) new (told_unsaid old mid new e0 e1 t now session u tail more turn_told result reply acts marks only has place ready makes line_said says_it e)
 
         -- it was
         pub event_said : (refused : Bool) → new.said ≡ mid.said ++ told_line session (told_as how (Some r)) → status_after r ≡ (if refused then 1 else 0) → Plays (Ok refused) old new e0 e1 t now played turn_files
         event_said refused said status =
-            as_played (Ok refused) new (told_said old mid new e0 e1 t now session u tail more turn_told result reply acts marks has place ready makes line_said says_it refused
+            as_played (Ok refused) new (told_said old mid new e0 e1 t now session u tail more turn_told result reply acts marks only has place ready makes line_said says_it refused
             (said ∙ ap (λ (reply : Option Reply). mid.said ++ told_line session (told_as how reply)) (sym is_said))
-            (ap (λ (reply : Option Reply). told_status (told_as how reply)) is_said ∙ told_status_is how r ∙ status) (λ only. told_only how (event_of session u turn_done) only))
+            (ap (λ (reply : Option Reply). told_status (told_as how reply)) is_said ∙ told_status_is how r ∙ status))

@@ -2,6 +2,7 @@ pub mod AllLaws
 pub mod SaysLaws
 pub mod GiftLaws
 pub mod MadeLaws
+pub mod HowFarLaws
 pub mod StopLaws
 pub mod PlayLaws
 pub mod MakesLaws

@@ -115,7 +115,8 @@ module _ (old new : World) (a b : Held) (t : Trail) (now : Now) (session : ℕ) 
         grows = grows_none old new does.gave;
         acts = λ told. record {
           says = subst (λ (x : Outcome). Says (λ scn. None) result x.reply) same (says_none result turn_of.reply does.says);
-          left = strikes_left old new (name_of a) t _ (subst (λ (x : Outcome). Strikes old new (name_of a) t x.strokes) same does.left);
+          left = strikes_left old new (name_of a) t _ (event_of session (Begins EndBackup) (outcome session (Begins EndBackup) now)) (sym (ap (λ (x : Outcome). x.made) same) ∙ end_made (seen_now now) session)
+              (subst (λ (x : Outcome). Strikes old new (name_of a) t x.strokes) same does.left);
           opened = ended_map result (subst (IsOpen new b) (trail_plain t (event_of session (Begins EndBackup) (outcome session (Begins EndBackup) now)) refl))
               (subst (λ (x : Outcome). WhereEnded result (IsOpen new b (after_strokes t x.strokes))) same does.opened);
           running = subst (λ (x : Outcome). WhereEnded result (b.running ≡ x.running)) same does.running;
@@ -190,7 +191,8 @@ module _ (old new : World) (a b : Held) (t : Trail) (now : Now) (session : ℕ) 
       grows = grows_none old new does.gave;
       acts = λ told. record {
         says = subst (Says (λ scn. None) result) reply_is (says_none result turn_of.reply does.says);
-        left = strikes_left old new (name_of a) t _ (subst (Strikes old new (name_of a) t) strokes_are does.left);
+        left = strikes_left old new (name_of a) t _ (event_of session (Ends reply) this) (ap (λ (x : Outcome). x.made) (ends_is session reply now) ∙ ends_made (seen_now now) session reply)
+            (subst (Strikes old new (name_of a) t) strokes_are does.left);
         opened = ended_map result (subst (IsOpen new b) (trail_plain t (event_of session (Ends reply) this) refl)) (subst (λ (ss : List Stroke). WhereEnded result (IsOpen new b (after_strokes t ss))) strokes_are does.opened);
         running = subst (λ (r : Option ℕ). WhereEnded result (b.running ≡ r)) running_is does.running;
         given = where_ended result _ (given_nothing old new now.given this.given does.gave (ap (λ (x : Outcome). x.given) (ends_is session reply now) ∙ ends_given (seen_now now) session reply));
@@ -254,8 +256,8 @@ module _ (old new : World) (a b : Held) (t : Trail) (now : Now) (session : ℕ) 
   merge_told told = unsaid (event_of session MergesOne (outcome session MergesOne now)) (ap (λ (x : Outcome). x.reply) (merge_is session now)) told
 
   -- it fails
-  failed : (u : Turn) (ss : List Stroke) → (only_told (event_of session u (outcome session u now)) ≡ true → ⊥) → (outcome session u now).strokes ≡ ss → Strikes old new (name_of a) t ss → name_of b ≡ name_of a → Acts (merge_said reply) (Err Device) old new a b t now session u []
-  failed u ss never is struck name = record { says = tt; left = strikes_left old new (name_of a) t _ (subst (Strikes old new (name_of a) t) (sym is) struck); opened = tt; running = tt; given = tt; kept = tt; unchanged = λ told. absurd (never told); name = name; cap = cap }
+  failed : (u : Turn) (ss : List Stroke) → (only_told (event_of session u (outcome session u now)) ≡ true → ⊥) → (outcome session u now).strokes ≡ ss → (outcome session u now).made ≡ None → Strikes old new (name_of a) t ss → name_of b ≡ name_of a → Acts (merge_said reply) (Err Device) old new a b t now session u []
+  failed u ss never is none struck name = record { says = tt; left = strikes_left old new (name_of a) t _ (event_of session u (outcome session u now)) none (subst (Strikes old new (name_of a) t) (sym is) struck); opened = tt; running = tt; given = tt; kept = tt; unchanged = λ told. absurd (never told); name = name; cap = cap }
 
   finishes : (result : Result Progress HostFault) → IsMerging session 0 a → Merges result old new a b t → Acts (merge_said reply) (merge_answer result) old new a b t now session (Finishes reply) []
   finishes (Ok More) merging merges = absurd (omega (arith, diverted 0 merging, merges.on.0))
@@ -263,7 +265,7 @@ module _ (old new : World) (a b : Held) (t : Trail) (now : Now) (session : ℕ) 
       let o = finish_is session reply now in
       record {
         says = ap (λ (x : Outcome). x.reply) o;
-        left = strikes_left old new (name_of a) t _ (subst (λ (x : Outcome). Strikes old new (name_of a) t x.strokes) (sym o) merges.left);
+        left = strikes_left old new (name_of a) t _ (event_of session (Finishes reply) (outcome session (Finishes reply) now)) (ap (λ (x : Outcome). x.made) o) (subst (λ (x : Outcome). Strikes old new (name_of a) t x.strokes) (sym o) merges.left);
         opened = subst (IsOpen new b) (ap (λ (x : Outcome). after_strokes t x.strokes) (sym o) ∙ trail_plain t (event_of session (Finishes reply) (outcome session (Finishes reply) now)) refl) merges.on.2;
         running = merges.on.1 ∙ sym (ap (λ (x : Outcome). x.running) o);
         given = given_nothing old new now.given (outcome session (Finishes reply) now).given merges.gave (ap (λ (x : Outcome). x.given) o);
@@ -272,7 +274,7 @@ module _ (old new : World) (a b : Held) (t : Trail) (now : Now) (session : ℕ) 
         name = merges.name;
         cap = cap;
       }
-  finishes (Err fault) merging merges = failed (Finishes reply) (finish ∷ []) finish_told (ap (λ (x : Outcome). x.strokes) (finish_is session reply now)) merges.left merges.name
+  finishes (Err fault) merging merges = failed (Finishes reply) (finish ∷ []) finish_told (ap (λ (x : Outcome). x.strokes) (finish_is session reply now)) (ap (λ (x : Outcome). x.made) (finish_is session reply now)) merges.left merges.name
 
   one_left : (left : ℕ) → IsMerging session (suc left) a → a.merged < length t.base.diverted
   one_left left merging = omega (arith, diverted (suc left) merging)
@@ -282,7 +284,7 @@ module _ (old new : World) (a b : Held) (t : Trail) (now : Now) (session : ℕ) 
       let o = merge_is session now in
       record {
         says = ap (λ (x : Outcome). x.reply) o;
-        left = strikes_left old new (name_of a) t _ (subst (λ (x : Outcome). Strikes old new (name_of a) t x.strokes) (sym o) (merges.more (one_left left merging)));
+        left = strikes_left old new (name_of a) t _ (event_of session MergesOne (outcome session MergesOne now)) (ap (λ (x : Outcome). x.made) o) (subst (λ (x : Outcome). Strikes old new (name_of a) t x.strokes) (sym o) (merges.more (one_left left merging)));
         opened = subst (IsOpen new b) (ap (λ (x : Outcome). after_strokes t x.strokes) (sym o) ∙ trail_plain t (event_of session MergesOne (outcome session MergesOne now)) refl) merges.on.3;
         running = merges.on.2 ∙ ready.running ∙ sym (ap (λ (x : Outcome). x.running) o);
         given = given_nothing old new now.given (outcome session MergesOne now).given merges.gave (ap (λ (x : Outcome). x.given) o);
@@ -292,7 +294,7 @@ module _ (old new : World) (a b : Held) (t : Trail) (now : Now) (session : ℕ) 
         cap = cap;
       }
   merges_one (Ok Finished) left merging merges = absurd (omega (arith, diverted (suc left) merging, merges.on.0))
-  merges_one (Err fault) left merging merges = failed MergesOne [] merge_told (ap (λ (x : Outcome). x.strokes) (merge_is session now)) (merges.more (one_left left merging)) merges.name
+  merges_one (Err fault) left merging merges = failed MergesOne [] merge_told (ap (λ (x : Outcome). x.strokes) (merge_is session now)) (ap (λ (x : Outcome). x.made) (merge_is session now)) (merges.more (one_left left merging)) merges.name
 
   pub merge_acts : (result : Result Progress HostFault) (left : ℕ) → IsMerging session left a → Merges result old new a b t
       → MayAct (merge_said reply) (merge_answer result) old new a b t now session (merge_first left (Finishes reply)) []

@@ -1,6 +1,6 @@
 -- What waits is written out after the turns.
-use Rattle.std.proofs.Common.{◌≡◌, inl, inr, ℕ, List, [], ◌∷◌, ◌++◌, Bool, true, false, refl, sym, ap, subst, ◌∙◌, arith, Contains, Result, Ok, Err, IsErr, IsErrAnd}
-use Rattle.nb_session.proofs.Common.{true≢false, append-nil, decide, is_delta, World, HostFault, RunError, GaveNothing, weaker, untouched_fewer, is_free_name, IsMaking, MadeFile, AreAmong, IsNoneOf, NamesOnce, Now, Played, play, rounds, files_made, delta_name, acked_turns, steps_of, after_steps, Trail, StandsIn, made_once, output_no_event, status_no_event, delta_named, delta_same, after_no_step, acked_steps_none, Strikes, Takes, Held, IsOpen, but_pages, name_of, Told, IsReady, Plays, EndsBy, RunsInTurn, PlaysInTurn, told_turns, not_free, or_false}
+use Rattle.std.proofs.Common.{◌≡◌, inl, inr, ℕ, List, [], ◌∷◌, ◌++◌, Bool, false, refl, sym, ap, subst, ◌∙◌, arith, Contains, Result, Ok, Err, IsErr, IsErrAnd}
+use Rattle.nb_session.proofs.Common.{true≢false, append-nil, decide, is_delta, World, HostFault, RunError, GaveNothing, weaker, untouched_fewer, is_free_name, IsMaking, MadeFile, AreAmong, IsNoneOf, NamesOnce, Now, Played, play, rounds, files_made, delta_name, acked_turns, steps_of, after_steps, Trail, StandsIn, made_once, output_no_event, status_no_event, delta_named, delta_same, after_no_step, acked_steps_none, Strikes, Takes, Held, IsOpen, but_pages, name_of, Told, IsReady, Plays, EndsBy, RunsInTurn, PlaysInTurn, told_turns, not_free, or_false, begun_turns}
 use Rattle.nb_change.proofs.ResultLaws.{passed_on}
 use Rattle.nb_session.proofs.GiftLaws.{given_nothing}
 use Rattle.nb_session.proofs.PlayLaws.{Leads, behind, trail_after, after_none, no_file, no_made, plays_by, plays_then, plays_failed}
@@ -8,7 +8,7 @@ use Rattle.nb_session.proofs.ToldLaws.{told_among}
 use Rattle.nb_session.proofs.ReadyLaws.{free_same, beside_other}
 
 -- Pages go out of a database that was ready: no turn is taken.
-module _ (old new : World) (before after : Held) (t : Trail) (now : Now) (ready : IsReady old before t now) (struck : Strikes old new (name_of before) t []) (same : but_pages after ≡ but_pages before) (gave : GaveNothing old new) where
+module _ (old new : World) (before after : Held) (t : Trail) (now : Now) (ready : IsReady old before t now) (struck : Strikes old new (name_of before) t []) (same : but_pages after ≡ but_pages before) (gave : GaveNothing old new) (still : t.earlier ≡ [] → new.files ≡ old.files) where
   named : name_of after ≡ name_of before
   named = ap (λ (h : Held). name_of h) same
 
@@ -17,16 +17,18 @@ module _ (old new : World) (before after : Held) (t : Trail) (now : Now) (ready 
     stops = weaker old new _ _ struck.moments (λ files said is. record {
       out = record { part = []; is = is.output ∙ sym (append-nil old.said); front = refl };
       count = 0;
-      front = record { most = omega arith; acknowledged = omega (arith, acked_steps_none []) };
+      front = record { most = omega arith; acknowledged = omega (arith, acked_steps_none []); unsaid = omega arith };
       database = subst (λ (u : Trail). StandsIn (name_of before) u files) (sym (after_no_step t)) is.has;
       each = λ n bytes there. absurd (no_file n bytes there);
       whole = λ n bytes there. absurd (no_made (acked_turns [] 0) n bytes there);
+      begun = λ n bytes there. absurd (no_made (begun_turns [] 0) n bytes there);
       others = λ m other. is.others m (λ own. other (inl own));
     });
     left = λ n bytes file there. absurd (no_file n bytes there);
     apart = λ n bytes there. absurd (no_file n bytes there);
     others = untouched_fewer old new _ _ struck.others (λ m other own. other (inl own));
     others_read = λ m other. struck.others_read m (λ own. other (inl own));
+    unchanged = λ settled all. still settled;
   }
 
   module _ (opened : IsOpen new after t) where
@@ -52,14 +54,13 @@ module _ (old new : World) (before after : Held) (t : Trail) (now : Now) (ready 
       known = λ m plain none. known m plain ∙ ready.known m plain none;
     }
 
-    pub out_played : (t.earlier ≡ [] → new.files ≡ old.files) → Plays (Ok false) old new before after t now ([], now) []
-    out_played still = plays_by (Ok false) old new before after t now ([], now) [] out_leads named (record {
+    pub out_played : Plays (Ok false) old new before after t now ([], now) []
+    out_played = plays_by (Ok false) old new before after t now ([], now) [] out_leads named (record {
       ready = subst (λ (u : Trail). IsReady new after u now) (sym (after_none t)) ready_out;
       said = struck.said ∙ sym (append-nil old.said) ∙ ap (λ (l : List ℕ). old.said ++ l) (sym output_no_event);
       status = status_no_event;
       given = given_nothing old new now.given now.given gave refl;
       kept = λ n bytes there. absurd (no_made 0 n bytes there);
-      unchanged = λ settled all. still settled;
     })
 
   pub out_failed : (e : RunError) → Plays (Err e) old new before after t now ([], now) []
@@ -103,12 +104,12 @@ module _ (old mid new : World) (a b c : Held) (t : Trail) (now : Now) (plays : P
       let ready = plays.done.ready in
       let out = takes (trail_after t nothing) ready.opened in
       then_out old mid new a b c t now nothing [] once_none has_none false plays
-      (out_played mid new b c (trail_after t nothing) now ready out.left same gave out.done (still (trail_after t nothing) ready.opened))
+      (out_played mid new b c (trail_after t nothing) now ready out.left same gave (still (trail_after t nothing) ready.opened) out.done)
 
-  last_failed : (e : RunError) → ((u : Trail) → IsOpen mid b u → Strikes mid new (name_of b) u []) → Plays (Err e) old new a c t now ([], now) []
-  last_failed e struck =
+  last_failed : (e : RunError) → ((u : Trail) → IsOpen mid b u → Strikes mid new (name_of b) u []) → ((u : Trail) → IsOpen mid b u → u.earlier ≡ [] → new.files ≡ mid.files) → Plays (Err e) old new a c t now ([], now) []
+  last_failed e struck still =
       let ready = plays.done.ready in
-      then_failed old mid new a b c t now nothing [] once_none has_none false plays e (out_failed mid new b c (trail_after t nothing) now ready (struck (trail_after t nothing) ready.opened) same gave e)
+      then_failed old mid new a b c t now nothing [] once_none has_none false plays e (out_failed mid new b c (trail_after t nothing) now ready (struck (trail_after t nothing) ready.opened) same gave (still (trail_after t nothing) ready.opened) e)
 
 -- so it is behind turns that came to their end, of which none is left
 none_left : (told : Told) (rest : List ℕ) (old mid new : World) (a b c : Held) (t : Trail) (now : Now) (refused : Bool) (result : Result Bool RunError) → EndsBy (Ok refused) told rest old mid a b t now
@@ -166,23 +167,24 @@ module _ {H : Type 0} (world : H → World) (old mid new : H) (e0 e1 e2 : Held) 
         whole = record {
           how_often = first.whole.how_often;
           plays = then_out (world old) (world mid) (world new) e0 e1 e2 t now played (files_made (play order now).0) once has a first.whole.plays
-              (out_played (world mid) (world new) e1 e2 (trail_after t played) played.1 ready out.left same gave out.done (still (trail_after t played) ready.opened));
+              (out_played (world mid) (world new) e1 e2 (trail_after t played) played.1 ready out.left same gave (still (trail_after t played) ready.opened) out.done);
           finished = first.whole.finished;
         };
         in_turn = runs_on (Ok a) (λ plays. last_out (world first.in_turn.mid) (world mid) (world new) first.in_turn.between e1 e2 far_trail far_now plays same gave takes still);
         guids = λ some. gave.guids ∙ first.guids some;
       }
 
-  pub whole_stopped : (e : RunError) → ((u : Trail) → IsOpen (world mid) e1 u → Strikes (world mid) (world new) (name_of e1) u []) → PlaysInTurn world (Err e) old new e0 e2 t told now schedule
-  whole_stopped e struck =
+  pub whole_stopped : (e : RunError) → ((u : Trail) → IsOpen (world mid) e1 u → Strikes (world mid) (world new) (name_of e1) u [])
+      → ((u : Trail) → IsOpen (world mid) e1 u → u.earlier ≡ [] → (world new).files ≡ (world mid).files) → PlaysInTurn world (Err e) old new e0 e2 t told now schedule
+  whole_stopped e struck still =
       let ready = first.whole.plays.done.ready in
       record {
         whole = record {
           how_often = first.whole.how_often;
           plays = then_failed (world old) (world mid) (world new) e0 e1 e2 t now played (files_made (play order now).0) once has a first.whole.plays e
-              (out_failed (world mid) (world new) e1 e2 (trail_after t played) played.1 ready (struck (trail_after t played) ready.opened) same gave e);
+              (out_failed (world mid) (world new) e1 e2 (trail_after t played) played.1 ready (struck (trail_after t played) ready.opened) same gave (still (trail_after t played) ready.opened) e);
           finished = first.whole.finished;
         };
-        in_turn = runs_on (Err e) (λ plays. last_failed (world first.in_turn.mid) (world mid) (world new) first.in_turn.between e1 e2 far_trail far_now plays same gave e struck);
+        in_turn = runs_on (Err e) (λ plays. last_failed (world first.in_turn.mid) (world mid) (world new) first.in_turn.between e1 e2 far_trail far_now plays same gave e struck still);
         guids = tt;
       }

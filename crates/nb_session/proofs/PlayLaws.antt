@@ -1,6 +1,6 @@
 -- Turns after turns.
 use Rattle.std.proofs.Common.{◌≡◌, inl, inr, ℕ, zero, suc, List, [], ◌∷◌, ◌++◌, take, Bool, false, refl, sym, ap, subst, ◌∙◌, arith, append_assoc, max, Contains, Result, Ok, Err, IfOk, true, ◌||◌, if◌then◌else◌}
-use Rattle.nb_session.proofs.Common.{list_all, true≢false, append-nil, Contains-append_cases, File, World, Leaves, Untouched, IsTimely, AtEachMoment, RunError, weaker, untouched_joined, untouched_fewer, untouched_begun, MadeFile, AreAmong, IsNoneOf, NamesOnce, Event, Now, Played, replies_of, files_made, output, status_of, Step, settles, made, steps_in, steps_of, after_step, after_steps, acked_turns, Stroke, Trail, StandsIn, made_append, output_append, status_events, output_no_event, status_no_event, steps_none, steps_append, after_steps_append, after_no_step, acked_steps_none, status_or, IsKept, Held, name_of, Touched, AreKept, IsReady, has_only_told, only_told, StopLeft, PlayedOut, Plays, both_true, Contains-append_left, Contains-append_right}
+use Rattle.nb_session.proofs.Common.{list_all, true≢false, append-nil, Contains-append_cases, File, World, Leaves, Untouched, IsTimely, AtEachMoment, RunError, weaker, untouched_joined, untouched_fewer, untouched_begun, MadeFile, AreAmong, IsNoneOf, NamesOnce, Event, Now, Played, replies_of, files_made, output, status_of, Step, settles, made, steps_in, steps_of, after_step, after_steps, acked_turns, Stroke, Trail, StandsIn, made_append, output_append, status_events, output_no_event, status_no_event, steps_none, steps_append, after_steps_append, after_no_step, acked_steps_none, status_or, IsKept, Held, name_of, Touched, AreKept, IsReady, has_only_told, only_told, StopLeft, PlayedOut, Plays, both_true, Contains-append_left, Contains-append_right, begun_turns}
 use Rattle.std.proofs.lemmas.List.Folds.{list_all-append}
 use Rattle.nb_change.specs.Changes.{Other}
 use Rattle.nb_change.proofs.MomentLaws.{started, joined}
@@ -14,70 +14,6 @@ behind p q = (p.0 ++ q.0, q.1)
 -- the trail after turns
 abbrev pub trail_after : Trail → Played → Trail
 trail_after t p = after_steps t (steps_of p.0)
-
--- What holds of turns however they end.
-pub record Leads (old new : World) (name : List ℕ) (t : Trail) (events : List Event) (made : List MadeFile) : Type 0 where
-  pub stops : AtEachMoment old new (StopLeft old name t events made)
-  pub left : (n bytes : List ℕ) (file : File) → Contains made (n, bytes) → Leaves new n file → FileLeft old n bytes file
-  pub apart : AreApart name made
-  pub others : Untouched old new (Other (Touched name made))
-  pub others_read : (m : List ℕ) → Other (Touched name made) m → new.files m ≡ old.files m
-
--- the files that are made are among these
-pub leads_wider : (old new : World) (name : List ℕ) (t : Trail) (es : List Event) (few many : List MadeFile) → AreAmong few many → NamesOnce many → AreApart name many → Leads old new name t es few → Leads old new name t es many
-leads_wider old new name t es few many among once apart leads = record {
-  stops = weaker old new _ _ leads.stops (λ files said left. stop_wider name few many among once apart old t es files said left);
-  left = left_more name few many among once apart old new leads.left leads.others;
-  apart = apart;
-  others = untouched_fewer old new _ _ leads.others (others_fewer name few many among);
-  others_read = λ m other. leads.others_read m (others_fewer name few many among m other);
-}
-
--- more turns would have come
-leads_more : (old new : World) (name : List ℕ) (t : Trail) (es fs : List Event) (made : List MadeFile) → Leads old new name t es made → Leads old new name t (es ++ fs) made
-leads_more old new name t es fs made leads = record {
-  stops = weaker old new _ _ leads.stops (λ files said left. stop_more old name t es fs made files said left);
-  left = leads.left;
-  apart = leads.apart;
-  others = leads.others;
-  others_read = leads.others_read;
-}
-
--- Turns after turns, which leave the files that those made whole. No two of all files have the same name.
-module _ (old mid new : World) (name : List ℕ) (t : Trail) (es fs : List Event) (made more : List MadeFile) (once : NamesOnce (made ++ more)) where
-  abbrev all : List MadeFile
-  all = made ++ more
-
-  all_apart : AreApart name made → AreApart name more → AreApart name all
-  all_apart first second n bytes there own = elim (Contains-append_cases made more (n, bytes) there) [ inl one ↦ first n bytes one own | inr two ↦ second n bytes two own ]
-
-  leads_then : mid.said ≡ old.said ++ output es → ((n bytes : List ℕ) → Contains (files_made es) (n, bytes) → Stays mid name more n bytes)
-      → Leads old mid name t es made → Leads mid new name (after_steps t (steps_of es)) fs more → Leads old new name t (es ++ fs) all
-  leads_then said stays first second =
-      let apart : AreApart name all = all_apart first.apart second.apart in
-      let front : Leads old mid name t es all = leads_wider old mid name t es made all (Contains-append_left made more) once apart first in
-      let rest : Leads mid new name (after_steps t (steps_of es)) fs all = leads_wider mid new name (after_steps t (steps_of es)) fs more all (Contains-append_right made more) once apart second in
-      record {
-        stops = joined old mid new _ _ _ front.stops second.stops
-            (λ files s left. stop_more old name t es fs all files s left)
-            (λ files s left. stop_then old mid name t es fs more all (Contains-append_right made more) once apart files s said front.others front.left stays left);
-        left = λ n bytes file there leaves. elim (rest.left n bytes file there leaves) [ inl before ↦ front.left n bytes file there before | inr is ↦ inr is ];
-        apart = apart;
-        others = untouched_joined old mid new _ front.others rest.others;
-        others_read = λ m other. rest.others_read m other ∙ front.others_read m other;
-      }
-
-module _ (result : Result Bool RunError) (old new : World) (before after : Held) (t : Trail) (now : Now) (p : Played) where
-  leads_of : (made : List MadeFile) → Plays result old new before after t now p made → Leads old new (name_of before) t p.0 made
-  leads_of made plays = record { stops = plays.stops; left = plays.left; apart = plays.apart; others = plays.others; others_read = plays.others_read }
-
-  pub plays_by : (made : List MadeFile) → Leads old new (name_of before) t p.0 made → name_of after ≡ name_of before → IfOk result (λ refused. PlayedOut refused old new after t now p)
-      → Plays result old new before after t now p made
-  plays_by made leads name done = record { stops = leads.stops; left = leads.left; apart = leads.apart; others = leads.others; others_read = leads.others_read; name = name; done = done }
-
-  -- the files that they make are among these
-  pub plays_wider : (few many : List MadeFile) → AreAmong few many → NamesOnce many → AreApart (name_of before) many → Plays result old new before after t now p few → Plays result old new before after t now p many
-  plays_wider few many among once apart plays = plays_by many (leads_wider old new (name_of before) t p.0 few many among once apart (leads_of few plays)) plays.name plays.done
 
 -- After turns that only told something a settled point is one still.
 no_stroke_told : (e : Event) → only_told e ≡ true → e.strokes ≡ []
@@ -103,6 +39,76 @@ told_settled (e ∷ es) t settled told =
     let both = both_true (only_told e) (list_all only_told es) told in
     subst (λ (u : Trail). u.earlier ≡ []) (sym (after_steps_append t (steps_in e) (steps_of es))) (told_settled es (after_steps t (steps_in e)) (after_told e t settled both.0) both.1)
 
+-- What holds of turns however they end.
+pub record Leads (old new : World) (name : List ℕ) (t : Trail) (events : List Event) (made : List MadeFile) : Type 0 where
+  pub stops : AtEachMoment old new (StopLeft old name t events made)
+  pub left : (n bytes : List ℕ) (file : File) → Contains made (n, bytes) → Leaves new n file → FileLeft old n bytes file
+  pub apart : AreApart name made
+  pub others : Untouched old new (Other (Touched name made))
+  pub others_read : (m : List ℕ) → Other (Touched name made) m → new.files m ≡ old.files m
+  pub unchanged : t.earlier ≡ [] → list_all only_told events ≡ true → new.files ≡ old.files
+
+-- the files that are made are among these
+pub leads_wider : (old new : World) (name : List ℕ) (t : Trail) (es : List Event) (few many : List MadeFile) → AreAmong few many → NamesOnce many → AreApart name many → Leads old new name t es few → Leads old new name t es many
+leads_wider old new name t es few many among once apart leads = record {
+  stops = weaker old new _ _ leads.stops (λ files said left. stop_wider name few many among once apart old t es files said left);
+  left = left_more name few many among once apart old new leads.left leads.others;
+  apart = apart;
+  others = untouched_fewer old new _ _ leads.others (others_fewer name few many among);
+  others_read = λ m other. leads.others_read m (others_fewer name few many among m other);
+  unchanged = leads.unchanged;
+}
+
+-- more turns would have come
+leads_more : (old new : World) (name : List ℕ) (t : Trail) (es fs : List Event) (made : List MadeFile) → Leads old new name t es made → Leads old new name t (es ++ fs) made
+leads_more old new name t es fs made leads = record {
+  stops = weaker old new _ _ leads.stops (λ files said left. stop_more old name t es fs made files said left);
+  left = leads.left;
+  apart = leads.apart;
+  others = leads.others;
+  others_read = leads.others_read;
+  unchanged = λ settled all. leads.unchanged settled (both_true (list_all only_told es) (list_all only_told fs) (sym (list_all-append only_told es fs) ∙ all)).0;
+}
+
+-- Turns after turns, which leave the files that those made whole. No two of all files have the same name.
+module _ (old mid new : World) (name : List ℕ) (t : Trail) (es fs : List Event) (made more : List MadeFile) (once : NamesOnce (made ++ more)) where
+  abbrev all : List MadeFile
+  all = made ++ more
+
+  all_apart : AreApart name made → AreApart name more → AreApart name all
+  all_apart first second n bytes there own = elim (Contains-append_cases made more (n, bytes) there) [ inl one ↦ first n bytes one own | inr two ↦ second n bytes two own ]
+
+  leads_then : mid.said ≡ old.said ++ output es → ((n bytes : List ℕ) → Contains (files_made es) (n, bytes) → Stays mid name more n bytes)
+      → Leads old mid name t es made → Leads mid new name (after_steps t (steps_of es)) fs more → Leads old new name t (es ++ fs) all
+  leads_then said stays first second =
+      let apart : AreApart name all = all_apart first.apart second.apart in
+      let front : Leads old mid name t es all = leads_wider old mid name t es made all (Contains-append_left made more) once apart first in
+      let rest : Leads mid new name (after_steps t (steps_of es)) fs all = leads_wider mid new name (after_steps t (steps_of es)) fs more all (Contains-append_right made more) once apart second in
+      record {
+        stops = joined old mid new _ _ _ front.stops second.stops
+            (λ files s left. stop_more old name t es fs all files s left)
+            (λ files s left. stop_then old mid name t es fs more all (Contains-append_right made more) once apart files s said front.others front.left stays left);
+        left = λ n bytes file there leaves. elim (rest.left n bytes file there leaves) [ inl before ↦ front.left n bytes file there before | inr is ↦ inr is ];
+        apart = apart;
+        others = untouched_joined old mid new _ front.others rest.others;
+        others_read = λ m other. rest.others_read m other ∙ front.others_read m other;
+        unchanged = λ settled all.
+            let both = both_true (list_all only_told es) (list_all only_told fs) (sym (list_all-append only_told es fs) ∙ all) in
+            second.unchanged (told_settled es t settled both.0) both.1 ∙ first.unchanged settled both.0;
+      }
+
+module _ (result : Result Bool RunError) (old new : World) (before after : Held) (t : Trail) (now : Now) (p : Played) where
+  leads_of : (made : List MadeFile) → Plays result old new before after t now p made → Leads old new (name_of before) t p.0 made
+  leads_of made plays = record { stops = plays.stops; left = plays.left; apart = plays.apart; others = plays.others; others_read = plays.others_read; unchanged = plays.unchanged }
+
+  pub plays_by : (made : List MadeFile) → Leads old new (name_of before) t p.0 made → name_of after ≡ name_of before → IfOk result (λ refused. PlayedOut refused old new after t now p)
+      → Plays result old new before after t now p made
+  plays_by made leads name done = record { stops = leads.stops; left = leads.left; apart = leads.apart; others = leads.others; others_read = leads.others_read; unchanged = leads.unchanged; name = name; done = done }
+
+  -- the files that they make are among these
+  pub plays_wider : (few many : List MadeFile) → AreAmong few many → NamesOnce many → AreApart (name_of before) many → Plays result old new before after t now p few → Plays result old new before after t now p many
+  plays_wider few many among once apart plays = plays_by many (leads_wider old new (name_of before) t p.0 few many among once apart (leads_of few plays)) plays.name plays.done
+
 -- no turn yet
 pub after_none : (t : Trail) → after_steps t (steps_of []) ≡ t
 after_none t = ap (after_steps t) steps_none ∙ after_no_step t
@@ -123,16 +129,18 @@ plays_none old held t now timely ready = record {
   stops = started old _ timely (λ files said is. record {
     out = record { part = []; is = is.output ∙ sym (append-nil old.said); front = refl };
     count = 0;
-    front = record { most = omega arith; acknowledged = omega (arith, acked_steps_none []) };
+    front = record { most = omega arith; acknowledged = omega (arith, acked_steps_none []); unsaid = omega arith };
     database = subst (λ (u : Trail). StandsIn (name_of held) u files) (sym (after_no_step t)) (ready.opened.files.left files is.left);
     each = λ n bytes there. absurd (no_file n bytes there);
     whole = λ n bytes there. absurd (no_made (acked_turns [] 0) n bytes there);
+    begun = λ n bytes there. absurd (no_made (begun_turns [] 0) n bytes there);
     others = λ m other. is.left m;
   });
   left = λ n bytes file there leaves. inl leaves;
   apart = λ n bytes there. absurd (no_file n bytes there);
   others = untouched_begun old _;
   others_read = λ m other. refl;
+  unchanged = λ settled all. refl;
   name = refl;
   done = record {
     ready = subst (λ (u : Trail). IsReady old held u now) (sym (after_none t)) ready;
@@ -140,7 +148,6 @@ plays_none old held t now timely ready = record {
     status = status_no_event;
     given = given_nothing old old now.given now.given (record { guids = refl; times = refl }) refl;
     kept = λ n bytes there. absurd (no_made 0 n bytes there);
-    unchanged = λ settled all. refl;
   };
 }
 
@@ -185,9 +192,6 @@ module _ (old mid new : World) (e0 e1 e2 : Held) (t : Trail) (now : Now) (p q : 
         ∙ ap (λ (x : ℕ). max (if a then 1 else 0) x) second.done.status ∙ status_or a b;
     given = given_joined old mid new now.given p.1.given q.1.given first.done.given second.done.given;
     kept = kept_then a (Ok b) first second second.done.kept;
-    unchanged = λ settled all.
-        let both = both_true (list_all only_told p.0) (list_all only_told q.0) (sym (list_all-append only_told p.0 q.0) ∙ all) in
-        second.done.unchanged (told_settled p.0 t settled both.0) both.1 ∙ first.done.unchanged settled both.0;
   })
 
   -- the second ends early

@@ -1,7 +1,8 @@
 -- How what a crash leaves goes on from turn to turn.
-use Rattle.std.proofs.Common.{◌≡◌, ◌⊎◌, inl, inr, ℕ, ◌+◌, ◌-◌, ◌≤◌, List, ◌++◌, length, take, sym, ap, subst, ◌∙◌, arith, append_assoc, length-append, length-take, Contains, Some}
-use Rattle.nb_session.proofs.Common.{take-append-add, take-append-le, Contains-append_cases, File, Files, World, Leaves, Untouched, IsDurable, Remade, left_before, MadeFile, AreAmong, NamesOnce, Event, files_made, output, Step, steps_of, after_steps, acked_turns, acked_steps, Trail, StandsIn, front_more, front_behind, steps_length, steps_front, steps_behind, after_steps_append, turns_front, turns_behind, acked_steps_front, acked_steps_behind, turns_most, made_append, OfFiles, IsUnfinishedOr, Touched, MadeLeft, StopLeft, AreWhole}
+use Rattle.std.proofs.Common.{◌≡◌, ◌⊎◌, inl, inr, ℕ, ◌+◌, ◌≤◌, List, ◌++◌, length, take, sym, ap, subst, ◌∙◌, arith, append_assoc, length-append, length-take, Contains, Some}
+use Rattle.nb_session.proofs.Common.{take-append-add, take-append-le, Contains-append_cases, File, Files, World, Leaves, Untouched, IsDurable, Remade, left_before, MadeFile, AreAmong, NamesOnce, Event, files_made, output, Step, steps_of, after_steps, acked_turns, acked_steps, Trail, StandsIn, front_more, front_behind, steps_length, steps_front, steps_behind, after_steps_append, turns_front, turns_behind, acked_steps_front, acked_steps_behind, turns_most, made_append, OfFiles, IsUnfinishedOr, Touched, MadeLeft, StopLeft, AreWhole, begun_turns, open_steps}
 use Rattle.nb_change.specs.Changes.{Other}
+use Rattle.nb_session.proofs.HowFarLaws.{begun_front, begun_behind, begun_most, open_front, open_behind}
 use Rattle.nb_session.proofs.MadeLaws.{named_tells, made_grow}
 
 -- none of the files is one of the database's two
@@ -44,6 +45,7 @@ module _ (name : List ℕ) (few many : List MadeFile) (among : AreAmong few many
       database = left.database;
       each = each_more old files left.each left.others;
       whole = left.whole;
+      begun = left.begun;
       others = λ n other. left.others n (others_fewer n other);
     }
 
@@ -54,15 +56,22 @@ part_fits part all is = omega (arith, ap length is, length-take (length part) al
 abbrev acked_files : List Event → (said : ℕ) → List MadeFile
 acked_files es said = files_made (take (acked_turns es said) es)
 
+-- the files of the turns that have begun once so many steps were made
+abbrev begun_files : List Event → (count : ℕ) → List MadeFile
+begun_files es count = files_made (take (begun_turns es count) es)
+
+-- of the second list none are among them as long as no more steps were made than those of the first
+begun_files_front : (es fs : List Event) (count : ℕ) → count ≤ length (steps_of es) → begun_files (es ++ fs) count ≡ begun_files es count
+begun_files_front es fs count low = ap (λ n. files_made (take n (es ++ fs))) (begun_front es fs count low) ∙ ap files_made (take-append-le (begun_turns es count) es fs (begun_most es count))
+
 -- as long as no more is said than the lines of the first turns, they are those of these turns
 files_front : (es fs : List Event) (said : ℕ) → said ≤ length (output es) → acked_files (es ++ fs) said ≡ acked_files es said
 files_front es fs said low = ap (λ n. files_made (take n (es ++ fs))) (turns_front es fs said low) ∙ ap files_made (take-append-le (acked_turns es said) es fs (turns_most es said))
 
--- and after them all at most all of the first, and those of the second
-files_behind : (es fs : List Event) (said : ℕ) → AreAmong (acked_files (es ++ fs) (length (output es) + said)) (files_made es ++ acked_files fs said)
-files_behind es fs said =
-    subst (AreAmong (acked_files (es ++ fs) (length (output es) + said))) (ap files_made (take-append-add es fs (acked_turns fs said)) ∙ made_append es (take (acked_turns fs said) fs))
-    (made_grow (es ++ fs) (acked_turns (es ++ fs) (length (output es) + said)) (length es + acked_turns fs said) (turns_behind es fs said))
+-- and of more turns than all of the first they are at most all of the first, and those of the second
+files_behind : (es fs : List Event) (turns more : ℕ) → turns ≤ length es + more → AreAmong (files_made (take turns (es ++ fs))) (files_made es ++ files_made (take more fs))
+files_behind es fs turns more most =
+    subst (AreAmong (files_made (take turns (es ++ fs)))) (ap files_made (take-append-add es fs more) ∙ made_append es (take more fs)) (made_grow (es ++ fs) turns (length es + more) most)
 
 -- more events come after
 pub stop_more : (old : World) (name : List ℕ) (t : Trail) (es fs : List Event) (made : List MadeFile) (files : Files) (said : List ℕ) → StopLeft old name t es made files said → StopLeft old name t (es ++ fs) made files said
@@ -72,10 +81,15 @@ stop_more old name t es fs made files said left =
     record {
       out = record { part = left.out.part; is = left.out.is; front = front_more es fs left.out.part left.out.front };
       count = left.count;
-      front = record { most = omega (arith, steps_length es fs, left.front.most); acknowledged = omega (arith, low, left.front.acknowledged) };
+      front = record {
+        most = omega (arith, steps_length es fs, left.front.most);
+        acknowledged = omega (arith, low, left.front.acknowledged);
+        unsaid = omega (arith, open_front es fs (length left.out.part), left.front.unsaid);
+      };
       database = subst (λ (ss : List Step). StandsIn name (after_steps t ss) files) (sym (steps_front es fs left.count left.front.most)) left.database;
       each = left.each;
       whole = subst (λ (ms : List MadeFile). AreWhole ms files) (sym (files_front es fs (length left.out.part) fits)) left.whole;
+      begun = subst (λ (ms : List MadeFile). AreWhole ms files) (sym (begun_files_front es fs left.count left.front.most)) left.begun;
       others = left.others;
     }
 
@@ -97,6 +111,7 @@ module _ (old mid : World) (name : List ℕ) (t : Trail) (es fs : List Event) (m
       let long : length part ≡ length (output es) + length left.out.part = length-append (output es) left.out.part in
       let low = acked_steps_behind es fs (length left.out.part) in
       let acked_is : acked_steps (es ++ fs) (length part) ≡ acked_steps (es ++ fs) (length (output es) + length left.out.part) = ap (acked_steps (es ++ fs)) long in
+      let open_is : open_steps (es ++ fs) (length part) ≡ open_steps (es ++ fs) (length (output es) + length left.out.part) = ap (open_steps (es ++ fs)) long in
       let is : after_steps (after_steps t (steps_of es)) (take left.count (steps_of fs)) ≡ after_steps t (take (length (steps_of es) + left.count) (steps_of (es ++ fs))) =
       sym (after_steps_append t (steps_of es) (take left.count (steps_of fs))) ∙ ap (after_steps t) (sym (steps_behind es fs left.count)) in
       record {
@@ -106,13 +121,21 @@ module _ (old mid : World) (name : List ℕ) (t : Trail) (es fs : List Event) (m
           front = front_behind es fs left.out.part left.out.front;
         };
         count = length (steps_of es) + left.count;
-        front = record { most = omega (arith, steps_length es fs, left.front.most); acknowledged = omega (arith, low, acked_is, left.front.acknowledged) };
+        front = record {
+          most = omega (arith, steps_length es fs, left.front.most);
+          acknowledged = omega (arith, low, acked_is, left.front.acknowledged);
+          unsaid = omega (arith, open_behind es fs (length left.out.part), open_is, left.front.unsaid);
+        };
         database = subst (λ (u : Trail). StandsIn name u files) is left.database;
         each = λ n bytes there. elim (each_more name made all among once apart mid files left.each left.others n bytes there) [ inl leaves ↦ back n bytes (files n) there leaves | inr is ↦ inr is ];
-        whole = λ n bytes there. elim (Contains-append_cases (files_made es) (acked_files fs (length left.out.part)) (n, bytes)
-            (files_behind es fs (length left.out.part) (n, bytes) (subst (λ (k : ℕ). Contains (acked_files (es ++ fs) k) (n, bytes)) long there))) [
-              | inl first ↦ (let one = stays n bytes first in stays_whole mid name made n bytes (files n) one (left.others n one.other))
-              | inr second ↦ left.whole n bytes second
-            ];
+        whole = whole_then (acked_turns (es ++ fs) (length part)) (acked_turns fs (length left.out.part)) (omega (arith, turns_behind es fs (length left.out.part), ap (acked_turns (es ++ fs)) long)) left.whole;
+        begun = whole_then (begun_turns (es ++ fs) (length (steps_of es) + left.count)) (begun_turns fs left.count) (begun_behind es fs left.count) left.begun;
         others = λ n other. left_before old mid _ same n (files n) other (left.others n (others_fewer name made all among n other));
       }
+    where
+      -- the files of the first are whole, and those of so many turns of the second
+      whole_then : (turns more : ℕ) → turns ≤ length es + more → AreWhole (files_made (take more fs)) files → AreWhole (files_made (take turns (es ++ fs))) files
+      whole_then turns more most second n bytes there = elim (Contains-append_cases (files_made es) (files_made (take more fs)) (n, bytes) (files_behind es fs turns more most (n, bytes) there)) [
+        | inl first ↦ (let one = stays n bytes first in stays_whole mid name made n bytes (files n) one (left.others n one.other))
+        | inr later ↦ second n bytes later
+      ]

@@ -58,17 +58,24 @@ MadeLeft old made files = (name bytes : List ℕ) → Contains made (name, bytes
 abbrev pub AreKept : World → List MadeFile → Type 0
 AreKept w made = (name bytes : List ℕ) → Contains made (name, bytes) → IsKept w name bytes
 
--- What a crash leaves while a turn makes its strokes, and files: the database after a front of the strokes, and the files.
-pub record TurnLeft (old : World) (name : List ℕ) (t : Trail) (strokes : List Stroke) (made : List MadeFile) (files : Files) : Type 0 where
+-- these files are whole
+abbrev pub AreWhole : List MadeFile → Files → Type 0
+AreWhole made files = (name bytes : List ℕ) → Contains made (name, bytes) → files name ≡ Some bytes
+
+-- What a crash leaves while a turn makes its operations, and files: the database after a prefix of the operations, and the files. Those that the
+-- turn leaves whole are so before its first operation stands.
+pub record TurnLeft (old : World) (name : List ℕ) (t : Trail) (strokes : List Stroke) (made whole : List MadeFile) (files : Files) : Type 0 where
   pub database : Reached after_stroke (StandsIn name) t strokes files
   pub each : MadeLeft old made files
+  pub whole_first : StandsIn name t files ⊎ AreWhole whole files
 
 -- The strokes of a turn are made in order, and what it is to say is answered. Once it has ended with a value or a refusal the database is
 -- open after its steps, and the file that the turn made whole is kept for good. Where it only tells something no file has changed, also where a call of
 -- the host failed in it. As many pages may be in memory as before.
 pub record Acts {T : Type 0} (reply : T → Option Reply) (result : Result T Fault) (old new : World) (before after : Held) (t : Trail) (now : Now) (session : ℕ) (turn : Turn) (made : List MadeFile) : Type 0 where
   pub says : Says reply result (outcome session turn now).reply
-  pub left : Changes old new (Touched (name_of before) made) (TurnLeft old (name_of before) t (outcome session turn now).strokes made)
+  pub left : Changes old new (Touched (name_of before) made)
+      (TurnLeft old (name_of before) t (outcome session turn now).strokes made (files_made (event_of session turn (outcome session turn now) ∷ [])))
   pub opened : WhereEnded result (IsOpen new after (after_steps t (steps_in (event_of session turn (outcome session turn now)))))
   pub running : WhereEnded result (after.running ≡ (outcome session turn now).running)
   pub given : WhereEnded result (WasGiven old new now.given (outcome session turn now).given)

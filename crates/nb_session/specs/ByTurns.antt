@@ -11,6 +11,7 @@ use Rattle.nb_session.specs.InTurn.{HasNone}
 use Rattle.nb_session.specs.Others.{LeavesOthers}
 use Rattle.nb_session.specs.Replies.{only_told}
 use Rattle.nb_session.specs.Steps.{touching_by}
+use Rattle.nb_session.specs.Stops.{IsSaid}
 
 -- the files that the next turn of a session may touch: the database's two, and those that it may make
 abbrev pub OfTurn : (session : ℕ) → Now → Names
@@ -40,13 +41,21 @@ abbrev pub StillInLast : (rest : List ℕ) → Now → (old new : World) → Typ
 StillInLast [] now old new = Unit {0}
 StillInLast (session ∷ rest) now old new = list_all only_told (one_turn session now).0 ≡ true → new.files ≡ old.files
 
--- The turns of a schedule and then of rounds, to the end of all or up to one that ended early. After them what waits was written out, or not all of it.
-pub record GoesByTurns {H : Type 0} (world : H → World) (told : List Event → List Event) (old new : H) (now : Now) (schedule : List ℕ) : Type 0 where
+-- a prefix of what is told of the turn that ended early was said, and after all turns nothing
+abbrev pub SaidInLast : (told : List Event → List Event) → (rest : List ℕ) → Now → (old new : World) → Type 0
+SaidInLast told [] now old new = new.said ≡ old.said
+SaidInLast told (session ∷ rest) now old new = IsSaid old (told (one_turn session now).0) new.said
+
+-- The turns of a schedule and then of rounds, to the end of all, or up to one that ended early where the run did. After them what waits was written
+-- out, or not all of it.
+pub record GoesByTurns {H : Type 0} (world : H → World) (early : Type 0) (told : List Event → List Event) (old new : H) (now : Now) (schedule : List ℕ) : Type 0 where
   pub how_often : ℕ
   pub front : List ℕ
   pub rest : List ℕ
   pub is : schedule ++ rounds how_often ≡ front ++ rest
+  pub to_end : early ⊎ (rest ≡ [])
   pub mid : H
   pub taken : ByTurns world told front old mid now
   pub last : LeavesOthers (world mid) (world new) (OfLast rest (play front now).1)
   pub still : StillInLast rest (play front now).1 (world mid) (world new)
+  pub said : SaidInLast told rest (play front now).1 (world mid) (world new)

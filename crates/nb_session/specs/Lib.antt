@@ -1,4 +1,5 @@
 pub mod Ready
+pub mod HowFar
 pub mod Stops
 pub mod InTurn
 pub mod Todo

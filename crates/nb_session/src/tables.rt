@@ -73,8 +73,8 @@ pub(crate) fn do_checks<H: Host>(
 {
     match statement {
         Statement::Check => {
-            let report = check(alloc, host, engine)?;
-            let pages = report.pages(alloc)?;
+            let findings = check(alloc, host, engine)?;
+            let pages = findings.leaked.pages(alloc)?;
             Ok(Reply::Leaked { pages })
         }
         Statement::Reclaim => {

@@ -45,7 +45,8 @@ returns-in_err-write_out-clause-plays g c tells =
           let grown = c.play.ensures.grows now t tells ready begins making in
           whole_passed g.H.Host.world c.args.host.now c.write_out.new.host c.args.engine.now c.write_out.new.self t c.args.told now c.args.script.now.schedule _ c.from_residual-in_err-write_out.result c.from_residual-in_err-write_out.ensures
           (whole_stopped g.H.Host.world c.args.host.now c.play.new.host c.write_out.new.host c.args.engine.now c.play.new.engine c.write_out.new.self t c.args.told now c.args.script.now.schedule making c.in_ok-refused.refused
-          (played.1 now t ready begins making (foretold_still old mid new now.given played.0 grown out.gave foretold)) out.same out.gave Device (λ u opened. (out.takes u tells opened).left)),
+          (played.1 now t ready begins making (foretold_still old mid new now.given played.0 grown out.gave foretold)) out.same out.gave Device (λ u opened. (out.takes u tells opened).left)
+          (λ u opened settled. ap (λ host. (g.H.Host.world host).files) (out.at_settled u tells opened settled).2)),
     )
 
 pub returns-in_err-write_out-clause-grows : goal.returns-in_err-write_out-clause-grows
