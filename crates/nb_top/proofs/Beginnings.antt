@@ -119,8 +119,8 @@ module _ (old : World) (account : Account) (given : Given) (plan : Plan) (tellin
 module _ {H : Type 0} (world : H → World) (old mid : H) (account : Account) (given : Given) (plan : Plan) (telling : Telling) (askable : IsAskable plan) (beside : OpensBeside (world old) (world mid) account given plan) (held : Held)
     (is : FirstDone (world old) (world mid) account given plan telling askable held) where
   pub script_by_turns : (early ended : Type 0) → (ended → early) → (new : H)
-      → TurnsFrom world ended (told_later telling held.files.count) mid new (script_now (world old) account given plan telling askable (world mid) held is) plan.schedule → ScriptByTurns world early old new plan telling account given
+      → TurnsFrom world ended plan.first (told_later telling held.files.count) mid new (script_now (world old) account given plan telling askable (world mid) held is) plan.schedule → ScriptByTurns world early old new plan telling account given
   unfolding script_now
   script_by_turns early ended so new turns =
       script_turns world early account given plan telling old mid new is.first.now ended so is.first.goes_on beside
-      (subst (λ (n : ℕ). TurnsFrom world ended (told_later telling n) mid new is.first.now plan.schedule) is.counted turns)
+      (subst (λ (n : ℕ). TurnsFrom world ended plan.first (told_later telling n) mid new is.first.now plan.schedule) is.counted turns)

@@ -9,7 +9,7 @@ use Rattle.nb_top.proofs.QuietRuns.{given_from}
 use Rattle.nb_top.proofs.ToldLaws.{later_files, told_begins, told_cons, told_first_made, told_steps, performed_told}
 
 -- it makes no stroke
-opens_without : (e : Event) → only_opens e ≡ true → e.strokes ≡ []
+pub opens_without : (e : Event) → only_opens e ≡ true → e.strokes ≡ []
 opens_without e only = by_made e.made only
   where
     by : (ss : List Stroke) → elim ss as (λ z. Bool) [ [] ↦ elim e.reply as (λ z. Bool) [ None ↦ true | Some reply ↦ only_tells reply ] | s ∷ rest ↦ false ] ≡ true → ss ≡ []
@@ -22,7 +22,7 @@ opens_without e only = by_made e.made only
     by_made (Some f) is = absurd (true≢false (sym is))
 
 -- what is told of it says nothing of its strokes
-told_strokes : (telling : Telling) (e : Event) → (told_first telling e).strokes ≡ e.strokes
+pub told_strokes : (telling : Telling) (e : Event) → (told_first telling e).strokes ≡ e.strokes
 told_strokes All e = refl
 told_strokes Quietly e = refl
 told_strokes WithSize e = refl
@@ -133,6 +133,7 @@ module _ (old : World) (account : Account) (given : Given) (plan : Plan) (tellin
           let its : Contains (made n) (m, bytes) = subst (λ (files : List MadeFile). Contains files (m, bytes)) (made_is n) there in
           ⊎_elim (λ was. inl (left_before old mid _ alone m (files m) (apart m bytes its) was)) inr (left.each m bytes its);
       whole = left.whole;
+      begun = left.begun;
       others = λ m other none. left_before old mid _ alone m (files m) other (left.others m (outside n m other none));
     }
 
@@ -146,12 +147,15 @@ module _ (old : World) (account : Account) (given : Given) (plan : Plan) (tellin
     -- what reads then
     module _ (timely : IsTimely new) (reads : (m : List ℕ) → Leaves new m (new.files m)) where
       reads_behind : (n : ℕ) → AtEachMoment mid new (StopLeft mid (name_of held) (settled start) (events n) (made n)) → ((m : List ℕ) → Other (Touched (name_of held) (made n)) m → new.files m ≡ mid.files m)
-          → RunReads old new account (Some first.target) (events n)
-      reads_behind n behind beside =
+          → (list_all only_told (later n) ≡ true → new.files ≡ mid.files) → RunReads old new account (Some first.target) (events n)
+      reads_behind n behind beside same =
           let here : StopLeft mid (name_of held) (settled start) (events n) (made n) new.files new.said = behind.each new.files new.said (timely.counts_now mid.moment new.files behind.later reads) in
           record {
             others = λ m other none. beside m (λ one. outside n m other none (subst (λ (k : List ℕ). Touched k (made n) m) named one)) ∙ read m other;
             database = inl (here.count, subst (λ (m : List ℕ). StandsIn m (after_steps (settled start) (take here.count (steps_of (events n)))) new.files) named here.database);
+            unchanged = λ only.
+                let both = both_true (only_opens first_one) (list_all only_told (later n)) only in
+                same both.1 ∙ opens (sym (told_strokes telling (first_event plan.first_session first.strokes first.reply)) ∙ opens_without first_one both.0);
           }
 
     -- the turns ended early
@@ -163,7 +167,7 @@ module _ (old : World) (account : Account) (given : Given) (plan : Plan) (tellin
       performed = performed plays.how_often plays.finished;
       opened = inl (opened_with plays.how_often small);
       stops = with_target plays.how_often old new (stops_behind plays.how_often plays.plays.apart plays.plays.stops);
-      reads = reads_with plays.how_often new (reads_behind timely reads plays.how_often plays.plays.stops plays.plays.others_read);
+      reads = reads_with plays.how_often new (reads_behind timely reads plays.how_often plays.plays.stops plays.plays.others_read plays.unchanged);
       finished = tt;
     }
 
@@ -176,7 +180,7 @@ module _ (old : World) (account : Account) (given : Given) (plan : Plan) (tellin
       performed = performed n plays.finished;
       opened = inl (opened_with n small);
       stops = with_target n old new (stops_behind n plays.plays.apart plays.plays.stops);
-      reads = reads_with n new (reads_behind timely reads n plays.plays.stops plays.plays.others_read);
+      reads = reads_with n new (reads_behind timely reads n plays.plays.stops plays.plays.others_read plays.unchanged);
       finished = subst (λ (d : Option Target). Finished status old new account d (events n) given (turns plan first.now n).1.given) (sym (target_is n)) its_end;
     }
       where
@@ -200,7 +204,4 @@ module _ (old : World) (account : Account) (given : Given) (plan : Plan) (tellin
           database = ended;
           kept = plays.plays.done.kept;
           guids = λ more. plays.guids more ∙ ap (λ (l : List (List ℕ)). l ++ guids_in (strokes_of (turns plan first.now n).0)) gave.guids ∙ ap (λ (l : List (List ℕ)). old.guids ++ l) (guids_are n);
-          unchanged = λ only.
-              let both = both_true (only_opens first_one) (list_all only_told (later n)) only in
-              plays.unchanged both.1 ∙ opens (sym (told_strokes telling (first_event plan.first_session first.strokes first.reply)) ∙ opens_without first_one both.0);
         }

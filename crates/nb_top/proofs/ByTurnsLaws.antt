@@ -1,8 +1,8 @@
 -- A run turn by turn, put together from the calls that it makes.
-use Rattle.std.proofs.Common.{◌≡◌, inl, inr, ℕ, List, [], ◌∷◌, ◌++◌, sym, ap, subst, ◌∙◌, Bool, true, false, not, Option, None, Some, Result, Ok, Err, IsErr}
-use Rattle.nb_top.proofs.Common.{World, LeavesAll, IsTimely, Refusal, FileExists, RunError, Only, Quiet, Plain, Account, with_entry, Cause, is_free_entry, not_free, generated, Given, output, Event, Now, Played, opening, play, rounds, files_made, Trail, OfFiles, Held, name_of, Plan, script_of, LeavesOthers, SaysLine, Plays, leaves_line, leaves_quiet, leaves_then, Status, Telling, Sparingly, EndsEarly, ReadByTurns, RunByTurns, ScriptByTurns, TakesTold, TurnsFrom, WrittenByTurns, EndsAs, pages_first, told_later, Request, ToRun, ToGenerate, no_err}
+use Rattle.std.proofs.Common.{◌≡◌, inl, inr, ⊎_elim, ℕ, List, [], ◌∷◌, ◌++◌, sym, ap, subst, ◌∙◌, Bool, true, false, not, Option, None, Some, Result, Ok, Err, IsErr}
+use Rattle.nb_top.proofs.Common.{World, LeavesAll, IsTimely, Refusal, FileExists, RunError, Only, Quiet, Plain, Account, with_entry, Cause, is_free_entry, not_free, generated, Given, output, Event, Now, Played, opening, play, rounds, files_made, Trail, OfFiles, Held, name_of, Plan, script_of, IsSaid, LeavesOthers, SaysLine, Statement, OpenDb, Plays, leaves_line, leaves_quiet, leaves_then, Status, Telling, Sparingly, EndsEarly, ReadByTurns, RunByTurns, ScriptByTurns, StillWhereOpened, TakesTold, TurnsFrom, WrittenByTurns, EndsAs, pages_first, told_later, Request, ToRun, ToGenerate, no_err}
 use Rattle.nb_model.specs.Run.{one_turn}
-use Rattle.nb_session.specs.ByTurns.{ByTurns, GoesByTurns}
+use Rattle.nb_session.specs.ByTurns.{ByTurns, GoesByTurns, SaidInLast}
 use Rattle.nb_session.specs.Todo.{PlaysInTurn}
 use Rattle.nb_session.specs.Told.{told_events}
 use Rattle.nb_session.specs.declared.told.Told.{Told}
@@ -38,17 +38,38 @@ module _ {H : Type 0} (world : H → World) (f g : List Event → List Event) (s
     told_so order taken.0 new (one_turn x now).1 taken.2,
   )
 
-  goes_told : (old new : H) (now : Now) (schedule : List ℕ) → GoesByTurns world f old new now schedule → GoesByTurns world g old new now schedule
-  goes_told old new now schedule goes = record {
+  said_so : (rest : List ℕ) (now : Now) (old new : World) → SaidInLast f rest now old new → SaidInLast g rest now old new
+  said_so [] now old new said = said
+  said_so (x ∷ rest) now old new said = subst (λ (events : List Event). IsSaid old events new.said) (same (one_turn x now).0) said
+
+  goes_told : (early : Type 0) (old new : H) (now : Now) (schedule : List ℕ) → GoesByTurns world early f old new now schedule → GoesByTurns world early g old new now schedule
+  goes_told early old new now schedule goes = record {
     how_often = goes.how_often;
     front = goes.front;
     rest = goes.rest;
     is = goes.is;
+    to_end = goes.to_end;
     mid = goes.mid;
     taken = told_so goes.front old goes.mid now goes.taken;
     last = goes.last;
     still = goes.still;
+    said = said_so goes.rest (play goes.front now).1 (world goes.mid) (world new) goes.said;
   }
+
+-- a run ended early where its turns did
+goes_early : {H : Type 0} (world : H → World) (told : List Event → List Event) (ended early : Type 0) → (ended → early) → (old new : H) (now : Now) (schedule : List ℕ) → GoesByTurns world ended told old new now schedule → GoesByTurns world early told old new now schedule
+goes_early world told ended early so old new now schedule goes = record {
+  how_often = goes.how_often;
+  front = goes.front;
+  rest = goes.rest;
+  is = goes.is;
+  to_end = ⊎_elim (λ e. inl (so e)) inr goes.to_end;
+  mid = goes.mid;
+  taken = goes.taken;
+  last = goes.last;
+  still = goes.still;
+  said = goes.said;
+}
 
 -- Turns that sessions told are told so.
 pub told_as : {H : Type 0} (world : H → World) → ((h : H) → IsTimely (world h)) → ((h : H) → LeavesAll (world h) (world h).files) → (result : Result Bool RunError) (old new : H) (before after : Held) (t : Trail) (how : Told) (telling : Telling) (pages : ℕ)
@@ -64,42 +85,68 @@ told_as world timely reads result old new before after t how telling pages now s
         finished = plays.whole.finished;
         guids = plays.guids;
       };
-      turns = goes_told world (told_events how) (told_later telling pages) same old new now schedule (goes_by world timely reads how result old new before after t now schedule named plays);
+      turns = goes_told world (told_events how) (told_later telling pages) same (IsErr result) old new now schedule (goes_by world timely reads how result old new before after t now schedule named plays);
     }
 
 -- What opening does to other files, where the sessions go on after it, and to all files, where they don't.
 abbrev pub OpensBeside : (old mid : World) → Account → Given → Plan → Type 0
-OpensBeside old mid account given plan = elim (opening account given plan.sessions plan.first_session plan.first).now as (λ now. Type 0) [ None ↦ mid.files ≡ old.files | Some now ↦ LeavesOthers old mid (OfFiles now.name) ]
+OpensBeside old mid account given plan = elim (opening account given plan.sessions plan.first_session plan.first).now as (λ now. Type 0) [ None ↦ mid.files ≡ old.files | Some now ↦ LeavesOthers old mid (OfFiles now.name) × StillWhereOpened plan.first old mid ]
+
+-- a call that changes nothing
+still_opened : (first : Statement) (old new : World) → new.files ≡ old.files → StillWhereOpened first old new
+still_opened (OpenDb name cache) old new same = same
+still_opened other old new same = tt
+
+-- and one after the other
+still_then : (first : Statement) (old mid new : World) → StillWhereOpened first old mid → StillWhereOpened first mid new → StillWhereOpened first old new
+still_then (OpenDb name cache) old mid new before behind = behind ∙ before
+still_then other old mid new before behind = tt
 
 pub beside_quiet : (old mid : World) (account : Account) (given : Given) (plan : Plan) → Quiet old mid → OpensBeside old mid account given plan
 beside_quiet old mid account given plan quiet = by (opening account given plan.sessions plan.first_session plan.first).now
   where
-    by : (now : Option Now) → elim now as (λ z. Type 0) [ None ↦ mid.files ≡ old.files | Some n ↦ LeavesOthers old mid (OfFiles n.name) ]
+    by : (now : Option Now) → elim now as (λ z. Type 0) [ None ↦ mid.files ≡ old.files | Some n ↦ LeavesOthers old mid (OfFiles n.name) × StillWhereOpened plan.first old mid ]
     by None = quiet.still.files
-    by (Some n) = leaves_quiet old mid (OfFiles n.name) quiet
+    by (Some n) = (leaves_quiet old mid (OfFiles n.name) quiet, still_opened plan.first old mid quiet.still.files)
 
 pub beside_now : (old mid : World) (account : Account) (given : Given) (plan : Plan) (now : Now) → (opening account given plan.sessions plan.first_session plan.first).now ≡ Some now → LeavesOthers old mid (OfFiles now.name)
-    → OpensBeside old mid account given plan
-beside_now old mid account given plan now goes_on leaves = subst (λ (n : Option Now). elim n as (λ z. Type 0) [ None ↦ mid.files ≡ old.files | Some x ↦ LeavesOthers old mid (OfFiles x.name) ]) (sym goes_on) leaves
+    → StillWhereOpened plan.first old mid → OpensBeside old mid account given plan
+beside_now old mid account given plan now goes_on leaves still =
+    subst (λ (n : Option Now). elim n as (λ z. Type 0) [ None ↦ mid.files ≡ old.files | Some x ↦ LeavesOthers old mid (OfFiles x.name) × StillWhereOpened plan.first old mid ]) (sym goes_on) (leaves, still)
 
 pub beside_none : (old mid : World) (account : Account) (given : Given) (plan : Plan) → (opening account given plan.sessions plan.first_session plan.first).now ≡ None → mid.files ≡ old.files → OpensBeside old mid account given plan
-beside_none old mid account given plan ends same = subst (λ (n : Option Now). elim n as (λ z. Type 0) [ None ↦ mid.files ≡ old.files | Some x ↦ LeavesOthers old mid (OfFiles x.name) ]) (sym ends) same
+beside_none old mid account given plan ends same = subst (λ (n : Option Now). elim n as (λ z. Type 0) [ None ↦ mid.files ≡ old.files | Some x ↦ LeavesOthers old mid (OfFiles x.name) × StillWhereOpened plan.first old mid ]) (sym ends) same
 
 -- The calls of a script, and what comes before them.
 module _ {H : Type 0} (world : H → World) (early : Type 0) (account : Account) (given : Given) (plan : Plan) (telling : Telling) where
   abbrev By : (old new : H) → Option Now → Type 0
-  By old new now = elim now as (λ z. Type 0) [ None ↦ (world new).files ≡ (world old).files | Some n ↦ TurnsFrom world early (told_later telling (pages_first account plan.first)) old new n plan.schedule ]
+  By old new now = elim now as (λ z. Type 0) [ None ↦ (world new).files ≡ (world old).files | Some n ↦ TurnsFrom world early plan.first (told_later telling (pages_first account plan.first)) old new n plan.schedule ]
 
   abbrev first_now : Option Now
   first_now = (opening account given plan.sessions plan.first_session plan.first).now
+
+  -- turns behind calls that leave other files alone, and all where a database is opened
+  turns_behind : (old mid new : H) (now : Now) (ended : Type 0) → (ended → early) → LeavesOthers (world old) (world mid) (OfFiles now.name) → StillWhereOpened plan.first (world old) (world mid)
+      → TurnsFrom world ended plan.first (told_later telling (pages_first account plan.first)) mid new now plan.schedule → TurnsFrom world early plan.first (told_later telling (pages_first account plan.first)) old new now plan.schedule
+  turns_behind old mid new now ended so leaves still (inl goes) = inl (record {
+    opened = goes.opened;
+    leaves = leaves_then (world old) (world mid) (world goes.opened) (OfFiles now.name) leaves goes.leaves;
+    still = still_then plan.first (world old) (world mid) (world goes.opened) still goes.still;
+    goes = goes_early world (told_later telling (pages_first account plan.first)) ended early so goes.opened new now plan.schedule goes.goes;
+  })
+  turns_behind old mid new now ended so leaves still (inr ends) = inr (record {
+    ended = so ends.ended;
+    leaves = leaves_then (world old) (world mid) (world new) (OfFiles now.name) leaves ends.leaves;
+    still = still_then plan.first (world old) (world mid) (world new) still ends.still;
+  })
 
   -- it ended early while the database was opened
   pub script_early : (old new : H) → early → OpensBeside (world old) (world new) account given plan → ScriptByTurns world early old new plan telling account given
   script_early old new ends beside = by first_now beside
     where
-      by : (now : Option Now) → elim now as (λ z. Type 0) [ None ↦ (world new).files ≡ (world old).files | Some n ↦ LeavesOthers (world old) (world new) (OfFiles n.name) ] → By old new now
+      by : (now : Option Now) → elim now as (λ z. Type 0) [ None ↦ (world new).files ≡ (world old).files | Some n ↦ LeavesOthers (world old) (world new) (OfFiles n.name) × StillWhereOpened plan.first (world old) (world new) ] → By old new now
       by None same = same
-      by (Some n) leaves = inr (ends, leaves)
+      by (Some n) both = inr (record { ended = ends; leaves = both.0; still = both.1 })
 
   -- its first statement was refused
   pub script_none : (old new : H) → first_now ≡ None → (world new).files ≡ (world old).files → ScriptByTurns world early old new plan telling account given
@@ -107,40 +154,42 @@ module _ {H : Type 0} (world : H → World) (early : Type 0) (account : Account)
 
   -- its turns were taken after it
   pub script_turns : (old mid new : H) (now : Now) (ended : Type 0) → (ended → early) → first_now ≡ Some now → OpensBeside (world old) (world mid) account given plan
-      → TurnsFrom world ended (told_later telling (pages_first account plan.first)) mid new now plan.schedule → ScriptByTurns world early old new plan telling account given
+      → TurnsFrom world ended plan.first (told_later telling (pages_first account plan.first)) mid new now plan.schedule → ScriptByTurns world early old new plan telling account given
   script_turns old mid new now ended so goes_on beside turns = subst (By old new) (sym goes_on) (by turns)
     where
-      first : LeavesOthers (world old) (world mid) (OfFiles now.name)
-      first = subst (λ (n : Option Now). elim n as (λ z. Type 0) [ None ↦ (world mid).files ≡ (world old).files | Some x ↦ LeavesOthers (world old) (world mid) (OfFiles x.name) ]) goes_on beside
+      first : LeavesOthers (world old) (world mid) (OfFiles now.name) × StillWhereOpened plan.first (world old) (world mid)
+      first = subst (λ (n : Option Now). elim n as (λ z. Type 0) [ None ↦ (world mid).files ≡ (world old).files | Some x ↦ LeavesOthers (world old) (world mid) (OfFiles x.name) × StillWhereOpened plan.first (world old) (world mid) ]) goes_on beside
 
-      by : TurnsFrom world ended (told_later telling (pages_first account plan.first)) mid new now plan.schedule → TurnsFrom world early (told_later telling (pages_first account plan.first)) old new now plan.schedule
-      by (inl goes) = inl (record { opened = goes.opened; leaves = leaves_then (world old) (world mid) (world goes.opened) (OfFiles now.name) first goes.leaves; goes = goes.goes })
-      by (inr ends) = inr (so ends.0, leaves_then (world old) (world mid) (world new) (OfFiles now.name) first ends.1)
+      by : TurnsFrom world ended plan.first (told_later telling (pages_first account plan.first)) mid new now plan.schedule → TurnsFrom world early plan.first (told_later telling (pages_first account plan.first)) old new now plan.schedule
+      by turns = turns_behind old mid new now ended so first.0 first.1 turns
 
   pub script_quietly : (old mid new : H) → Quiet (world old) (world mid) → ScriptByTurns world early mid new plan telling account given → ScriptByTurns world early old new plan telling account given
   script_quietly old mid new quiet turns = by first_now turns
     where
       by : (now : Option Now) → By mid new now → By old new now
       by None same = same ∙ quiet.still.files
-      by (Some n) (inl goes) = inl (record {
-        opened = goes.opened;
-        leaves = leaves_then (world old) (world mid) (world goes.opened) (OfFiles n.name) (leaves_quiet (world old) (world mid) (OfFiles n.name) quiet) goes.leaves;
-        goes = goes.goes;
-      })
-      by (Some n) (inr ends) = inr (ends.0, leaves_then (world old) (world mid) (world new) (OfFiles n.name) (leaves_quiet (world old) (world mid) (OfFiles n.name) quiet) ends.1)
+      by (Some n) turns = turns_behind old mid new n early (λ e. e) (leaves_quiet (world old) (world mid) (OfFiles n.name) quiet) (still_opened plan.first (world old) (world mid) quiet.still.files) turns
 
   -- nothing happened
   pub script_undone : (old new : H) → early → Quiet (world old) (world new) → ScriptByTurns world early old new plan telling account given
   script_undone old new ends quiet = script_early old new ends (beside_quiet (world old) (world new) account given plan quiet)
 
 -- The reply of a first statement, and the turns after it.
-module _ {H : Type 0} (world : H → World) (timely : (h : H) → IsTimely (world h)) (reads : (h : H) → LeavesAll (world h) (world h).files) (told : List Event → List Event) (now : Now) (schedule : List ℕ) where
-  pub reply_unsaid_by : {S E : Type 0} (said : Result S E) (line : List ℕ) (early : Type 0) → early → (old new : H) → SaysLine said (world old) (world new) line → TurnsFrom world early told old new now schedule
-  reply_unsaid_by said line early ends old new says = inr (ends, leaves_line said (world old) (world new) line (OfFiles now.name) (timely new) (reads new) says)
+module _ {H : Type 0} (world : H → World) (timely : (h : H) → IsTimely (world h)) (reads : (h : H) → LeavesAll (world h) (world h).files) (first : Statement) (told : List Event → List Event) (now : Now) (schedule : List ℕ) where
+  pub reply_unsaid_by : {S E : Type 0} (said : Result S E) (line : List ℕ) (early : Type 0) → early → (old new : H) → SaysLine said (world old) (world new) line → TurnsFrom world early first told old new now schedule
+  reply_unsaid_by said line early ends old new says = inr (record {
+    ended = ends;
+    leaves = leaves_line said (world old) (world new) line (OfFiles now.name) (timely new) (reads new) says;
+    still = still_opened first (world old) (world new) says.still.files;
+  })
 
-  pub reply_said_by : {S E : Type 0} (said : Result S E) (line : List ℕ) (early : Type 0) → (old mid new : H) → SaysLine said (world old) (world mid) line → GoesByTurns world told mid new now schedule → TurnsFrom world early told old new now schedule
-  reply_said_by said line early old mid new says goes =
-      inl (record { opened = mid; leaves = leaves_line said (world old) (world mid) line (OfFiles now.name) (timely mid) (reads mid) says; goes = goes })
+  pub reply_said_by : {S E : Type 0} (said : Result S E) (line : List ℕ) (early : Type 0) → (old mid new : H) → SaysLine said (world old) (world mid) line → GoesByTurns world early told mid new now schedule → TurnsFrom world early first told old new now schedule
+  reply_said_by said line early old mid new says goes = inl (record {
+    opened = mid;
+    leaves = leaves_line said (world old) (world mid) line (OfFiles now.name) (timely mid) (reads mid) says;
+    still = still_opened first (world old) (world mid) says.still.files;
+    goes = goes;
+  })
 
 -- What is asked for, after calls that change nothing.
 module _ {H : Type 0} (world : H → World) (early : Type 0) (old mid new : H) (quiet : Quiet (world old) (world mid)) (account : Account) (given : Given) where

@@ -133,6 +133,7 @@ unfoldable pub use Rattle.nb_script.specs.Scripts.{of_lines, order_in, script_of
 pub use Rattle.nb_script.specs.Scripts.{IsAnswer, Numbered, Plan, or_bad, started, with_statement}
 pub use Rattle.nb_script.specs.Words.{Bytes, is_given}
 pub use Rattle.nb_session.proofs.GiftLaws.{foretold_itself, given_joined, given_nothing, grows_joined, grows_none}
+pub use Rattle.nb_session.proofs.HowFarLaws.{begun_none, open_front, open_one}
 pub use Rattle.nb_session.proofs.NameLaws.{begun_asked, begun_plain, made_named}
 pub use Rattle.nb_session.proofs.OthersLaws.{leaves_among, leaves_changes, leaves_line, leaves_quiet, leaves_then, now_left}
 pub use Rattle.nb_session.proofs.ReadyLaws.{free_same, own_entry}
@@ -140,6 +141,8 @@ pub use Rattle.nb_session.proofs.SaysLaws.{says_other}
 pub use Rattle.nb_session.proofs.StopLaws.{AreApart}
 pub use Rattle.nb_session.proofs.ToldLaws.{status_unsaid}
 pub use Rattle.nb_session.specs.Acts.{AreKept, MadeLeft, Touched}
+unfoldable pub use Rattle.nb_session.specs.HowFar.{begun_turns, open_turns}
+pub use Rattle.nb_session.specs.HowFar.{open_steps}
 pub use Rattle.nb_session.specs.MadeNames.{AnyAsks, AnySessionAsks, Asks, ScriptMakes}
 pub use Rattle.nb_session.specs.Others.{LeavesOthers, OthersLeft}
 pub use Rattle.nb_session.specs.Ready.{IsReady}
@@ -149,11 +152,11 @@ pub use Rattle.nb_session.specs.Stops.{IsSaid, PlayedOut, Plays, StopLeft}
 pub use Rattle.nb_state.proofs.ShownLaws.{shown, shown_settled}
 pub use Rattle.nb_state.specs.Beginnings.{Attaches, CreateAnswers, Creates, IsAttached}
 pub use Rattle.nb_state.specs.Open.{Held, IsOpen, NoPageWaits, name_of}
-pub use Rattle.nb_top.specs.ByTurns.{AskedByTurns, EndsEarly, ReadByTurns, RunByTurns, RunsOpened, ScriptByTurns, TakesTold, TurnsFrom, WrittenByTurns}
+pub use Rattle.nb_top.specs.ByTurns.{AskedByTurns, EndsEarly, ReadByTurns, RunByTurns, RunsOpened, ScriptByTurns, StillWhereOpened, TakesTold, TurnsFrom, WrittenByTurns}
 pub use Rattle.nb_top.specs.Ends.{EndsAs}
 pub use Rattle.nb_top.specs.Goes.{Goes, IsDone}
 pub use Rattle.nb_top.specs.OneTurn.{AreOfKept, DoesTurn, FileLeft, FitsDeed, HoldsSpan, IsAsWas, IsDoneFor, IsOnItsWay, OfName, OneTurn, Read, TakesFiles, TakesKept, TurnEnded, TurnLeft, TurnStands, Was, behind, fixing, folding, leaves_all, merging, one_turn, planning, restoring}
-pub use Rattle.nb_top.specs.Performed.{EndsIn, Finished, GoesTo, HasSmallScn, HoldsUnder, IsEnded, IsFileRead, IsPerformed, IsReadRun, IsScriptRun, IsSure, IsUnasked, IsUnbegun, IsUndone, IsWrittenRun, Knows, KnowsAsked, KnowsNames, KnowsOpened, MayBeGiven, Performs, PerformsRun, PlaysOpened, PlaysTold, ReadsAsked, RunLeft, RunReads, RunStands, RunsTo, StandsAfter, StandsAsked, Target, begins_refused, cache_asked, first_event, is_all, kept_after, only_opens, opened_reply, pages_first, played_behind, refused_at, refused_job, run_in, script_made, seen_after, target_asked, target_named, target_of, told, told_first, told_later, told_turns}
+pub use Rattle.nb_top.specs.Performed.{EndsIn, Finished, GoesTo, HasSmallScn, HoldsUnder, IsEnded, IsFileRead, IsPerformed, IsReadRun, IsScriptRun, IsSure, IsUnasked, IsUnbegun, IsUndone, IsWrittenRun, Knows, KnowsAsked, KnowsNames, KnowsOpened, MayBeGiven, Performs, PerformsRun, PlaysOpened, PlaysTold, ReadsAsked, RunLeft, RunReads, RunStands, RunsTo, StandsAfter, StandsAsked, StandsWithin, Target, begins_refused, cache_asked, first_event, is_all, kept_after, only_opens, opened_reply, pages_first, played_behind, refused_at, refused_job, run_in, script_made, seen_after, target_asked, target_named, target_of, told, told_first, told_later, told_turns}
 pub use Rattle.nb_top.specs.Requests.{Asked, Does, FitsAsk, FitsJob, IsAskedBy, IsReadJob, Request, Runs, ToGenerate, ToRun, attached, plan_of, request_asked, request_of, script_in, to_plan, to_run}
 pub use Rattle.nb_top.specs.Served.{IsRefusedWith, IsServed, ServedAs, Serves, TurnsTo, reply_told, status_told}
 pub use Rattle.nb_top.specs.Shown.{BreaksAt, IfShown, IsShownOf}

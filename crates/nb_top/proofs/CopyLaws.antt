@@ -5,10 +5,10 @@ use Rattle.nb_top.proofs.OpenLaws.{none_shown, shown_entry}
 use Rattle.nb_top.proofs.WorldLaws.{stands_from, none_beside, not_beside}
 
 -- A database that has no difference file is that of its main file, in the normal state.
-record IsAlone (bytes : List ℕ) (b : Base) : Type 0 where
-  formed : not_database bytes ≡ None
-  normal : state_of bytes ≡ normal_state
-  is : b ≡ base_of (image_in bytes)
+pub record IsAlone (bytes : List ℕ) (b : Base) : Type 0 where
+  pub formed : not_database bytes ≡ None
+  pub normal : state_of bytes ≡ normal_state
+  pub is : b ≡ base_of (image_in bytes)
 
 with_none : (name bytes : List ℕ) (b : Base) → owner_with name bytes None ≢ Ok b
 unfolding owner_with
@@ -23,7 +23,7 @@ in_state (suc k) name bytes b e = absurd (by (k == 2) e)
     by true h = cc
     by false h = with_none name bytes b h
 
-opens_alone : (name bytes : List ℕ) (b : Base) → owner name (Some bytes) None ≡ Ok b → IsAlone bytes b
+pub opens_alone : (name bytes : List ℕ) (b : Base) → owner name (Some bytes) None ≡ Ok b → IsAlone bytes b
 opens_alone name bytes b e = by (not_database bytes) refl
   where
     by : (c : Cause) → not_database bytes ≡ c → IsAlone bytes b

@@ -1,6 +1,6 @@
 -- A run whose first statement creates its database.
 use Rattle.std.proofs.Common.{◌≡◌, ◌≢◌, inl, inr, ⊎_elim, ℕ, List, [], ◌∷◌, ◌++◌, length, take, true, false, refl, sym, ap, subst, ◌∙◌, arith, Bool, None, Some, Result, Ok, Err, Contains, IfOk}
-use Rattle.nb_top.proofs.Common.{true≢false, append-nil, take-append-le, take_all, is_free_file, fresh, Files, is_delta, World, Leaves, AtEachMoment, Fault, Refused, Refusal, FileExists, RunError, ChangedLeft, Only, weaker, untouched_fewer, is_free_name, Quiet, Pages, Statement, CreateDb, Base, IsBase, base_of, Account, is_free_entry, IsMaking, Image, MadeFile, IsNoneOf, Given, delta_name, Event, IsRun, Opening, base_now, files_made, opening, rounds, Step, steps_in, steps_of, Trail, ShowsIn, StandsIn, settled, created, not_created, run_ends, no_main, acked_steps_none, steps_append, steps_length, steps_one, shows_settled, IsWell, OfFiles, Creates, CreateAnswers, Held, IsOpen, IsAskable, FitsFirst, Plan, MadeLeft, IsSaid, leaves_among, leaves_changes, cache_asked, KnowsNames, MayBeGiven, ReadsAsked, RunReads, RunsTo, HasSmallScn, first_event, opened_reply, pages_first, refused_at, seen_after, target_of, Telling, ToRun}
+use Rattle.nb_top.proofs.Common.{true≢false, append-nil, take-append-le, take_all, is_free_file, fresh, Files, is_delta, World, Leaves, AtEachMoment, Fault, Refused, Refusal, FileExists, RunError, ChangedLeft, Only, weaker, untouched_fewer, is_free_name, Quiet, Pages, Statement, CreateDb, Base, IsBase, base_of, Account, is_free_entry, IsMaking, Image, MadeFile, IsNoneOf, Given, delta_name, Event, IsRun, Opening, base_now, files_made, opening, rounds, Step, steps_in, steps_of, Trail, ShowsIn, StandsIn, settled, created, not_created, run_ends, no_main, acked_steps_none, steps_append, steps_length, steps_one, shows_settled, IsWell, OfFiles, Creates, CreateAnswers, Held, IsOpen, IsAskable, FitsFirst, Plan, MadeLeft, IsSaid, leaves_among, leaves_changes, cache_asked, KnowsNames, MayBeGiven, ReadsAsked, RunReads, RunsTo, HasSmallScn, first_event, opened_reply, pages_first, refused_at, seen_after, target_of, StillWhereOpened, Telling, ToRun, both_true, list_all, only_opens, only_told}
 use Rattle.nb_model.specs.declared.reply.Reply.TheVariants.{Refused as RefusedReply}
 use Rattle.nb_model.proofs.FreshImageLaws.{fresh_length}
 use Rattle.nb_model.proofs.WellLaws.{fresh_well_base}
@@ -10,8 +10,8 @@ use Rattle.nb_top.proofs.QuietRuns.{left_quietly}
 use Rattle.nb_top.proofs.ReadsLaws.{reads_quiet}
 use Rattle.nb_top.proofs.FirstLaws.{First, first_created, first_strikes, created_base, turns}
 use Rattle.nb_top.proofs.FirstReady.{IsBehind, apart_play, base_name, begins_making, first_ready}
-use Rattle.nb_top.proofs.MadeRuns.{made_behind, none_yet}
-use Rattle.nb_top.proofs.BegunRuns.{Left, events, first_one, first_fails}
+use Rattle.nb_top.proofs.MadeRuns.{made_behind, none_begun, none_first, none_yet, open_first}
+use Rattle.nb_top.proofs.BegunRuns.{Left, events, first_one, first_fails, opens_without, told_strokes}
 use Rattle.nb_top.proofs.BegunRuns.{later as later_told}
 use Rattle.nb_top.proofs.ByTurnsLaws.{OpensBeside, beside_none, beside_now}
 use Rattle.nb_top.proofs.Beginnings.{Beginning, FirstRefused, FirstDone}
@@ -133,10 +133,11 @@ module _ (old : World) (account : Account) (given : Given) (plan : Plan) (tellin
         was is = record {
           out = out;
           count = 0;
-          front = record { most = omega arith; acknowledged = omega (arith, acked_steps_none (es n)) };
+          front = record { most = omega arith; acknowledged = omega (arith, acked_steps_none (es n)); unsaid = omega arith };
           database = inr (record { none = refl; unsaid = refl; main = inl is; delta = beside });
           each = each;
           whole = λ m bytes there. absurd (none_yet (es n) (m, bytes) there);
+          begun = λ m bytes there. absurd (none_begun (es n) (m, bytes) there);
           others = unasked;
         }
 
@@ -144,10 +145,11 @@ module _ (old : World) (account : Account) (given : Given) (plan : Plan) (tellin
         unfinished is = record {
           out = out;
           count = 0;
-          front = record { most = omega arith; acknowledged = omega (arith, acked_steps_none (es n)) };
+          front = record { most = omega arith; acknowledged = omega (arith, acked_steps_none (es n)); unsaid = omega arith };
           database = inr (record { none = refl; unsaid = refl; main = inr (refl, is); delta = beside });
           each = each;
           whole = λ m bytes there. absurd (none_yet (es n) (m, bytes) there);
+          begun = λ m bytes there. absurd (none_begun (es n) (m, bytes) there);
           others = unasked;
         }
 
@@ -158,17 +160,25 @@ module _ (old : World) (account : Account) (given : Given) (plan : Plan) (tellin
           front = record {
             most = omega (arith, steps_length (one ∷ []) (later n), ap length (steps_one one));
             acknowledged = omega (arith, acked_steps_none (es n));
+            unsaid = open_first one (later n) 0;
           };
           database = inl (subst (λ (t : Trail). StandsIn name t files) (sym (made_seen n)) (shows_settled name (base_of image) (files name) (files (delta_name name)) is));
           each = each;
           whole = λ m bytes there. absurd (none_yet (es n) (m, bytes) there);
+          begun = λ m bytes there. absurd (none_first one (later n) (told_first_made telling (first_event plan.first_session first.strokes first.reply)) (m, bytes) there);
           others = unasked;
         }
 
     -- what reads then
     reads_creating : (mid : World) (n : ℕ) → ((m : List ℕ) → m ≢ name → mid.files m ≡ old.files m) → CreateReads old name image mid.files → RunReads old mid account (Some first.target) (es n)
     unfolding first_created
-    reads_creating mid n beside reads = record { others = λ m other none. beside m (λ e. other (inl e)); database = by reads }
+    reads_creating mid n beside reads = record {
+      others = λ m other none. beside m (λ e. other (inl e));
+      database = by reads;
+      unchanged = λ only.
+          let both = both_true (only_opens one) (list_all only_told (later n)) only in
+          absurd (first_strikes account given plan name size raw cache first_is free (sym (told_strokes telling (first_event plan.first_session first.strokes first.reply)) ∙ opens_without one both.0));
+    }
       where
         none_beside : mid.files (delta_name name) ≡ old.files (delta_name name)
         none_beside = beside (delta_name name) (no_main name name plain)
@@ -207,6 +217,7 @@ module _ (old : World) (account : Account) (given : Given) (plan : Plan) (tellin
             let own : name ≡ one.now.name = sym one.name_is in
             beside_now old mid account given plan one.now one.goes_on
             (leaves_among old mid (Only name) (OfFiles one.now.name) (λ m same. inl (same ∙ own)) (leaves_changes old mid (Only name) _ creates.left))
+            (subst (λ (s : Statement). StillWhereOpened s old mid) (sym first_is) tt)
         by_free false is = beside_none old mid account given plan (taken_ends is) (creates.taken (knows ∙ is)).still.files
 
         fails : (e : RunError) → RunsTo (Err e) old mid (Ok (ToRun plan telling)) account given

@@ -1,12 +1,12 @@
 -- A run whose script is written first: what a crash leaves of both, and what stands at the end.
-use Rattle.std.proofs.Common.{◌≡◌, ◌≢◌, ◌⊎◌, ⊎_elim, inl, inr, ℕ, zero, suc, ◌≤◌, List, [], ◌∷◌, ◌++◌, length, take, true, false, true≢false, refl, sym, ap, subst, ◌∙◌, arith, Bool, not, Option, Some, None, is_some, Result, Ok, Err, IfOk, OnOk, Contains}
-use Rattle.nb_top.proofs.Common.{append-nil, is_free_file, File, Files, with_file, is_delta, World, Leaves, LeavesAll, IsTimely, AtEachMoment, Refusal, FileExists, RunError, Changes, ChangedLeft, Only, Remade, GaveNothing, left_with, joined, left_before, weaker, decide, with_file-same, is_free_name, Quiet, Plain, Entry, Account, is_free_entry, not_free, generated, line_text, MadeFile, IsNoneOf, Given, output, status_after, status_of, delta_name, guids_in, Event, files_made, replies_of, strokes_of, Step, made, steps_of, after_steps, acked_steps, acked_turns, Stroke, base_in, Trail, StandsIn, settled, output-quiet, entry_same, entry_other, no_main, acked_steps_none, status_refused, IsKept, IsUnfinishedOr, Plan, script_of, SaysLine, creates_its_own, generated_text, text_in_use, Status, Sparingly, number_of, EndsIn, Finished, ReadsAsked, RunReads, HasSmallScn, IsEnded, IsPerformed, IsReadRun, IsUnasked, Knows, KnowsNames, KnowsOpened, MayBeGiven, RunLeft, RunsTo, StandsAsked, Target, begins_refused, refused_at, script_made, seen_after, target_named, target_of, Request, ToGenerate, ToRun, free_same}
+use Rattle.std.proofs.Common.{◌≡◌, ◌≢◌, ◌⊎◌, ⊎_elim, inl, inr, ℕ, zero, suc, ◌-◌, ◌≤◌, List, [], ◌∷◌, ◌++◌, length, take, true, false, true≢false, refl, sym, ap, subst, ◌∙◌, arith, Bool, not, Option, Some, None, is_some, Result, Ok, Err, IfOk, OnOk, Contains}
+use Rattle.nb_top.proofs.Common.{append-nil, is_free_file, File, Files, with_file, is_delta, World, Leaves, LeavesAll, IsTimely, AtEachMoment, Refusal, FileExists, RunError, Changes, ChangedLeft, Only, Remade, GaveNothing, left_with, joined, left_before, weaker, decide, with_file-same, is_free_name, Quiet, Plain, Entry, Account, is_free_entry, not_free, generated, line_text, MadeFile, IsNoneOf, Given, output, status_after, status_of, delta_name, guids_in, Event, files_made, replies_of, strokes_of, Step, made, steps_of, after_steps, acked_steps, acked_turns, Stroke, base_in, Trail, StandsIn, settled, output-quiet, entry_same, entry_other, no_main, acked_steps_none, status_refused, IsKept, IsUnfinishedOr, Plan, script_of, SaysLine, creates_its_own, generated_text, text_in_use, Status, Sparingly, number_of, EndsIn, Finished, ReadsAsked, RunReads, HasSmallScn, IsEnded, IsPerformed, IsReadRun, IsUnasked, Knows, KnowsNames, KnowsOpened, MayBeGiven, RunLeft, RunsTo, StandsAsked, Target, begins_refused, refused_at, script_made, seen_after, target_named, target_of, Request, ToGenerate, ToRun, begun_turns, free_same, open_steps, open_turns}
 use Rattle.nb_change.proofs.SettledLaws.{durable_is}
 use Rattle.nb_page.proofs.FreeLaws.{is_free_name-false}
 use Rattle.nb_model.specs.declared.reply.Reply.TheVariants.{Refused}
 use Rattle.nb_ended.specs.declared.status.Status.TheVariants.{Refused as RefusedStatus}
 use Rattle.nb_top.proofs.GeneratedEvents.{IsApart, SomeRun, its_database, its_target, read_run, script_apart, some_run, with_script}
-use Rattle.nb_top.proofs.MadeRuns.{first_or, none_yet}
+use Rattle.nb_top.proofs.MadeRuns.{first_or, no_file, none_begun, none_yet}
 use Rattle.nb_top.proofs.QuietRuns.{given_from, left_quietly, runs_quietly}
 use Rattle.nb_top.proofs.ReadsLaws.{reads_quiet}
 use Rattle.nb_top.proofs.RefusedRuns.{refused_runs}
@@ -57,6 +57,19 @@ module _ (name bytes : List ℕ) (es : List Event) where
       by zero c = inr c
       by (suc n) c = first_or (name, bytes) file (files_made (take (suc n) es)) c
 
+  -- how many steps may have been made
+  steps_open : (said : ℕ) → open_steps all said ≡ open_steps es said
+  unfolding open_turns steps_of made
+  steps_open said = refl
+
+  -- of the files of turns that have begun, the first is that of the script
+  begun_then : (count : ℕ) (file : MadeFile) → Contains (files_made (take (begun_turns all count) all)) file → (file ≡ (name, bytes)) ⊎ Contains (files_made (take (begun_turns es count) es)) file
+  unfolding begun_turns files_made made
+  begun_then zero file there = absurd (no_file file there)
+  begun_then (suc n) file there =
+      let same : suc n - 0 ≡ suc n = omega arith in
+      first_or (name, bytes) file (files_made (take (begun_turns es (suc n)) es)) (subst (λ (k : ℕ). Contains {X = MadeFile} ((name, bytes) ∷ files_made (take (begun_turns es k) es)) file) same there)
+
 -- The file was made, and then a run made these events, none of which makes a file of its name.
 module _ (old mid : World) (account : Account) (name bytes : List ℕ) (plain : is_delta name ≡ false) (written : Changes old mid (Only name) (Remade old name (IsUnfinishedOr bytes)))
     (target : Option Target) (apart : IsApart target name) (es : List Event) (none : IsNoneOf (files_made es) name) where
@@ -100,13 +113,14 @@ module _ (old mid : World) (account : Account) (name bytes : List ℕ) (plain : 
   left_writing files said left = record {
     out = record { part = []; is = left.output ∙ sym (append-nil old.said); front = refl };
     count = 0;
-    front = record { most = omega arith; acknowledged = omega (arith, acked_steps_none whole) };
+    front = record { most = omega arith; acknowledged = omega (arith, acked_steps_none whole); unsaid = omega arith };
     database = by target apart;
     each = λ m b is. ⊎_elim
         (λ own. subst (λ (n : List ℕ). Remade old n (IsUnfinishedOr b) files) (sym own.0) (subst (λ (x : List ℕ). Remade old name (IsUnfinishedOr x) files) (sym own.1) left.has))
         (λ one. inl (left.others m (other_made m b one)))
         (there m b is);
     whole = λ m b is. absurd (none_yet whole (m, b) is);
+    begun = λ m b is. absurd (none_begun whole (m, b) is);
     others = λ m off made_none. left.others m (others_then m made_none).0;
   }
     where
@@ -119,7 +133,11 @@ module _ (old mid : World) (account : Account) (name bytes : List ℕ) (plain : 
   script_unwritten = weaker old mid _ _ written.moments left_writing
 
   pub script_unread : RunReads old mid account target whole
-  script_unread = record { others = λ m off made_none. written.others_read m (others_then m made_none).0; database = by target apart }
+  script_unread = record {
+    others = λ m off made_none. written.others_read m (others_then m made_none).0;
+    database = by target apart;
+    unchanged = λ only. absurd (true≢false (sym only));
+  }
     where
       by : (t : Option Target) → IsApart t name → ReadsAsked old mid account t whole
       by None off = tt
@@ -159,6 +177,7 @@ module _ (old mid : World) (account : Account) (name bytes : List ℕ) (plain : 
       front = record {
         most = subst (λ (ss : List Step). left.count ≤ length ss) (sym (steps_are name bytes es)) left.front.most;
         acknowledged = subst (λ (k : ℕ). k ≤ left.count) (sym (steps_acked name bytes es (length left.out.part))) left.front.acknowledged;
+        unsaid = subst (λ (k : ℕ). left.count ≤ k) (sym (steps_open name bytes es (length left.out.part))) left.front.unsaid;
       };
       database = asked_then files (length left.out.part) left.count left.database;
       each = λ m b is. ⊎_elim
@@ -169,6 +188,10 @@ module _ (old mid : World) (account : Account) (name bytes : List ℕ) (plain : 
           (λ own. ap files (ap (λ (f : MadeFile). f.0) own) ∙ its_file files said left ∙ ap Some (sym (ap (λ (f : MadeFile). f.1) own)))
           (λ one. left.whole m b one)
           (whole_then name bytes es (length left.out.part) (m, b) is);
+      begun = λ m b is. ⊎_elim
+          (λ own. ap files (ap (λ (f : MadeFile). f.0) own) ∙ its_file files said left ∙ ap Some (sym (ap (λ (f : MadeFile). f.1) own)))
+          (λ one. left.begun m b one)
+          (begun_then name bytes es left.count (m, b) is);
       others = λ m off made_none. let both = others_then m made_none in before m (files m) both.0 (left.others m off both.1);
     }
 
@@ -176,6 +199,7 @@ module _ (old mid : World) (account : Account) (name bytes : List ℕ) (plain : 
     script_reads new reads = record {
       others = λ m off made_none. let both = others_then m made_none in reads.others m off both.1 ∙ written.others_read m both.0;
       database = by target apart reads.database;
+      unchanged = λ only. absurd (true≢false (sym only));
     }
       where
         by : (t : Option Target) → IsApart t name → ReadsAsked mid new then t es → ReadsAsked old new account t whole
@@ -217,7 +241,6 @@ module _ (old mid : World) (account : Account) (name bytes : List ℕ) (plain : 
             (λ own. subst (λ (n : List ℕ). IsKept new n b) (sym own.0) (subst (λ (x : List ℕ). IsKept new name x) (sym own.1) script_kept))
             (λ one. done.kept m b one)
             (there m b is);
-        unchanged = λ only. absurd (true≢false (sym only));
         guids = λ more. done.guids more ∙ ap (λ (l : List (List ℕ)). l ++ guids_in (strokes_of es)) gave.guids ∙ ap (λ (ss : List Stroke). old.guids ++ guids_in ss) (sym strokes_are);
       }
         where

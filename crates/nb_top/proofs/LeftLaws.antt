@@ -1,7 +1,7 @@
 -- What a crash leaves at the moments of a run.
 use Rattle.std.proofs.Common.{◌≡◌, inl, inr, ⊎_elim, ℕ, List, [], ◌++◌, length, refl, sym, ap, ◌∙◌, arith, Option, None, Some}
 use Rattle.nb_top.proofs.Common.{append-nil, Files, World, Leaves, Untouched, IsNow, left_before, Account, delta_name, Event, acked_steps_none, RunLeft, StandsAsked, Target}
-use Rattle.nb_top.proofs.MadeRuns.{none_yet}
+use Rattle.nb_top.proofs.MadeRuns.{none_begun, none_yet}
 
 -- before anything is done, what a crash leaves is as it was
 first_asked : (old : World) (account : Account) (target : Option Target) (events : List Event) (files : Files) → ((n : List ℕ) → Leaves old n (files n)) → StandsAsked old account target events 0 0 files
@@ -13,10 +13,11 @@ pub left_first : (old : World) (account : Account) (target : Option Target) (eve
 left_first old account target events files said is = record {
   out = record { part = []; is = is.output ∙ sym (append-nil old.said); front = refl };
   count = 0;
-  front = record { most = omega arith; acknowledged = omega (arith, acked_steps_none events) };
+  front = record { most = omega arith; acknowledged = omega (arith, acked_steps_none events); unsaid = omega arith };
   database = first_asked old account target events files is.left;
   each = λ name bytes there. inl (is.left name);
   whole = λ name bytes there. absurd (none_yet events (name, bytes) there);
+  begun = λ name bytes there. absurd (none_begun events (name, bytes) there);
   others = λ m unasked none. is.left m;
 }
 
@@ -45,5 +46,6 @@ left_before_all old mid same silent account target events files said left = reco
   database = asked_before old mid same account target events (length left.out.part) left.count files left.database;
   each = λ name bytes there. ⊎_elim (λ was. inl (left_before old mid _ same name (files name) tt was)) inr (left.each name bytes there);
   whole = left.whole;
+  begun = left.begun;
   others = λ m unasked none. left_before old mid _ same m (files m) tt (left.others m unasked none);
 }

@@ -49,6 +49,7 @@ pub mod GeneratedEvents
 pub mod GeneratedSure
 pub mod Turns
 pub mod TurnsStand
+pub mod RowLaws
 pub mod Restored
 pub mod Fixed
 pub mod MergeTurns
@@ -62,4 +63,11 @@ pub mod FoldRecords
 pub mod FoldStands
 pub mod Planned
 pub mod Lists
+pub mod ForcedRuns
+pub mod MergedAlready
+pub mod StoppedMerges
+pub mod NamedFiles
+pub mod NamedChains
+pub mod NamedParts
+pub mod NamedRuns
 mod Common

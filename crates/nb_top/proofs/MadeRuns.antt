@@ -1,6 +1,14 @@
 -- The files that events make, and events that make none.
-use Rattle.std.proofs.Common.{◌≡◌, ◌⊎◌, inl, inr, ℕ, zero, suc, List, [], ◌∷◌, take, sym, ap, subst, arith, Contains, Option, Some, None}
-use Rattle.nb_top.proofs.Common.{MadeFile, IsNoneOf, Event, files_made, acked_turns, turns_before}
+use Rattle.std.proofs.Common.{◌≡◌, ◌⊎◌, inl, inr, ℕ, zero, suc, ◌-◌, ◌≤◌, List, [], ◌∷◌, length, take, refl, sym, ap, subst, ◌∙◌, arith, Contains, Option, Some, None}
+use Rattle.nb_top.proofs.Common.{MadeFile, IsNoneOf, Event, files_made, acked_turns, turns_before, steps_in, steps_of, steps_one, begun_none, begun_turns, open_front, open_one, open_steps}
+
+-- the steps of the first turn may be made before its line is said
+pub open_first : (e : Event) (es : List Event) (said : ℕ) → length (steps_in e) ≤ open_steps (e ∷ es) said
+open_first e es said = omega (arith, ap length (steps_one e), open_one e said, open_front (e ∷ []) es said)
+
+-- so all steps of one that is alone
+pub open_alone : (e : Event) (said : ℕ) → length (steps_of (e ∷ [])) ≤ open_steps (e ∷ []) said
+open_alone e said = omega (arith, open_one e said)
 
 pub no_file : (file : MadeFile) → Contains {X = MadeFile} [] file → ⊥
 no_file file there = omega (arith, there.1)
@@ -32,6 +40,22 @@ none_made e none = none_front e none 1
 -- before a line is said, no turn is acknowledged that makes one
 pub none_yet : (es : List Event) (file : MadeFile) → Contains (files_made (take (acked_turns es 0) es)) file → ⊥
 none_yet es file there = no_event 0 file (subst (λ (n : ℕ). Contains (files_made (take n es)) file) (turns_before es) there)
+
+-- before a step is made, no turn has begun that makes one
+pub none_begun : (es : List Event) (file : MadeFile) → Contains (files_made (take (begun_turns es 0) es)) file → ⊥
+none_begun es file there = no_event 0 file (subst (λ (n : ℕ). Contains (files_made (take n es)) file) (begun_none es) there)
+
+-- nor is it where the first turn alone has made its steps, and makes none
+pub none_first : (e : Event) (es : List Event) → e.made ≡ None → (file : MadeFile) → Contains (files_made (take (begun_turns (e ∷ es) (length (steps_in e))) (e ∷ es))) file → ⊥
+unfolding begun_turns files_made
+none_first e es none file there = by (length (steps_in e)) refl there
+  where
+    by : (n : ℕ) → length (steps_in e) ≡ n → Contains (files_made (take (begun_turns (e ∷ es) n) (e ∷ es))) file → ⊥
+    by zero is there = no_file file there
+    by (suc n) is there =
+        let done : suc n - length (steps_in e) ≡ 0 = omega (arith, is) in
+        none_front e none 1 file
+        (subst (λ (k : ℕ). Contains (files_made (take (suc k) (e ∷ es))) file) (ap (begun_turns es) done ∙ begun_none es) there)
 
 -- no name is that of a file that it makes
 pub none_alone : (e : Event) → e.made ≡ None → (m : List ℕ) → IsNoneOf (files_made (e ∷ [])) m

@@ -23,7 +23,7 @@ module _ (old mid : World) (db name : List ℕ) (result : Result ℕ Fault) (doe
   on_way : (was : File → Type 0) (files : Files) → ApplyLeft was old db name files → (was (files db) ⊎ job.half files) ⊎ job.done files
   on_way was files (inl as_was) = inl (inl as_was)
   on_way was files (inr (bytes, c, m, inl half)) = inl (inr (bytes, c, m, half))
-  on_way was files (inr (bytes, c, m, inr shows)) = inr (bytes, c, m, shows)
+  on_way was files (inr (bytes, c, m, inr merged_to)) = inr (bytes, c, m, merged_to)
 
   idle : leaves_all turn ≡ true → Quiet old mid
   idle is = by (turn_is old.files db name)
@@ -36,7 +36,7 @@ module _ (old mid : World) (db name : List ℕ) (result : Result ℕ Fault) (doe
   answers (Ok count) done =
       served_as (Pages count) (only count done.contents) mid job turn (done_turn old.files db name done.bytes done.contents done.mergeable ∙ ap (λ (n : ℕ). only n done.contents) (sym done.counted)) refl refl refl
       (λ some. record {
-        now = (done.bytes, done.contents, done.mergeable, done.shows);
+        now = (done.bytes, done.contents, done.mergeable, done.now);
         left = λ files leaves. (done.bytes, done.contents, done.mergeable, done.left files leaves);
       })
     where
@@ -92,7 +92,7 @@ module _ (old : World) (account : Account) (db name : List ℕ) (stands : Stands
   shown bytes c m files done =
       let same : IsSame done.0 bytes done.1 c = same_merge done.0 bytes done.1 c done.2 m in
       subst (λ (image : Image). ShowsIn db (base_of image) files) (image_is bytes c m)
-      (subst (λ (d : Contents). ShowsIn db (base_with bytes d) files) same.level (subst (λ (l : List ℕ). ShowsIn db (base_with l done.1) files) same.standby done.3))
+      (subst (λ (d : Contents). ShowsIn db (base_with bytes d) files) same.level (subst (λ (l : List ℕ). ShowsIn db (base_with l done.1) files) same.standby done.3.shows))
 
   gives : (files : Files) → sound_job.done files → sound_job.gives account.kept files
   gives files done bytes c m = record { backup = (takes bytes c m).backup; kept_as = (takes bytes c m).kept_as; shows = shown bytes c m files done }

@@ -1,13 +1,13 @@
 -- The first reply of a run is said, if it says one, and then turns are taken.
 use Rattle.std.proofs.Common.{◌≡◌, ℕ, List, [], ◌∷◌, ◌++◌, Bool, false, length, take, refl, sym, ap, subst, ◌∙◌, arith, None, Result, Ok, Err, IfOk}
-use Rattle.nb_top.proofs.Common.{IsErr, take_all, Files, World, RunError, weaker, untouched_fewer, is_free_name, Base, IsMaking, MadeFile, NamesOnce, output, status_of, guids_in, Event, Now, Played, base_now, begun, replies_of, files_made, rounds, strokes_of, after_steps, steps_in, steps_of, acked_turns, Trail, StandsIn, settled, made_once, steps_one, acked_steps_most, Held, name_of, IsAskable, Plan, IsReady, FrontSaid, SaysLine, StopLeft, PlayedOut, Plays, given_nothing, AreApart, Telling, PlaysOpened, PlaysTold, played_behind, told_turns, take_self, no_err}
+use Rattle.nb_top.proofs.Common.{IsErr, take_all, Files, World, RunError, weaker, untouched_fewer, is_free_name, Base, IsMaking, MadeFile, NamesOnce, output, status_of, guids_in, Event, Now, Played, base_now, begun, replies_of, files_made, rounds, strokes_of, after_steps, steps_in, steps_of, acked_turns, Trail, StandsIn, settled, made_once, steps_one, acked_steps_most, Held, name_of, IsAskable, Plan, IsReady, FrontSaid, SaysLine, StopLeft, PlayedOut, Plays, given_nothing, AreApart, Telling, PlaysOpened, PlaysTold, begun_turns, played_behind, told_turns, take_self, no_err}
 use Rattle.nb_host.specs.Calls.{IsStill}
 use Rattle.nb_state.proofs.MakesLaws.{still_open}
 use Rattle.nb_session.proofs.PlayLaws.{plays_then, plays_failed, plays_cut, plays_wider}
 use Rattle.nb_session.proofs.EndLaws.{HasEnd, turns_end}
 use Rattle.nb_top.proofs.FirstLaws.{turns}
 use Rattle.nb_top.proofs.FirstReady.{apart_play}
-use Rattle.nb_top.proofs.MadeRuns.{no_file, none_front, none_made}
+use Rattle.nb_top.proofs.MadeRuns.{no_file, none_front, none_made, open_alone}
 
 -- a result that is a failure
 pub opened_err : (result : Result Bool RunError) (P : Result Bool RunError → Type 0) → IsErr result → ((e : RunError) → P (Err e)) → P result
@@ -45,10 +45,11 @@ module _ (old mid new : World) (held after : Held) (start : Base) (now : Now) (p
       record {
         out = record { part = part; is = front.is; front = take_self front.count line ∙ ap (take (length part)) (sym output_is) };
         count = length (steps_of (event ∷ []));
-        front = record { most = omega arith; acknowledged = acked_steps_most (event ∷ []) (length part) };
+        front = record { most = omega arith; acknowledged = acked_steps_most (event ∷ []) (length part); unsaid = open_alone event (length part) };
         database = subst (λ (t : Trail). StandsIn (name_of held) t files) all_steps (ready.opened.files.left files front.left);
         each = λ n bytes there. absurd (no_file (n, bytes) there);
         whole = λ n bytes there. absurd (none_front event unmade (acked_turns (event ∷ []) (length part)) (n, bytes) there);
+        begun = λ n bytes there. absurd (none_front event unmade (begun_turns (event ∷ []) (length (steps_of (event ∷ [])))) (n, bytes) there);
         others = λ m other. front.left m;
       }
 
@@ -59,6 +60,7 @@ module _ (old mid new : World) (held after : Held) (start : Base) (now : Now) (p
     apart = λ n bytes there. absurd (no_file (n, bytes) there);
     others = untouched_fewer old mid _ _ says.still.left (λ m other. tt);
     others_read = λ m other. ap (λ (f : Files). f m) says.still.files;
+    unchanged = λ settled only. says.still.files;
     name = refl;
     done = out;
   }
@@ -85,7 +87,7 @@ module _ (old mid new : World) (held after : Held) (start : Base) (now : Now) (p
             (subst (λ (n : List ℕ). AreApart n files) (sym ready.named) (apart_play plan askable now todo making (plan.schedule ++ rounds end.how_often)))
             (plays_cut old mid held held (settled start) now one more.0 more.1 [] e (plays_one (Err e) tt));
         finished = end.finished;
-        unchanged = tt;
+        unchanged = λ only. says.still.files;
         guids = tt;
       }
 
@@ -100,7 +102,6 @@ module _ (old mid new : World) (held after : Held) (start : Base) (now : Now) (p
     status = fine;
     given = given_nothing old mid now.given now.given says.gave refl;
     kept = λ n bytes there. absurd (none_made event unmade (n, bytes) there);
-    unchanged = λ settled only. says.still.files;
   })
 
   -- turns after it
@@ -115,7 +116,7 @@ module _ (old mid new : World) (held after : Held) (start : Base) (now : Now) (p
             (λ n bytes there. absurd (none_made event unmade (n, bytes) there)) false refused (reply_said fine said)
             (subst (λ (t : Trail). Plays (Ok refused) mid new held after t now more files) (sym trail_is) whole.plays);
         finished = whole.finished;
-        unchanged = λ only. whole.plays.done.unchanged refl only ∙ says.still.files;
+        unchanged = λ only. whole.plays.unchanged refl only ∙ says.still.files;
         guids = λ some. whole.guids some ∙ ap (λ (l : List (List ℕ)). l ++ guids_in (strokes_of (behind_it whole.how_often).0)) says.gave.guids;
       }
   reply_said_then fine said (Err e) whole =
@@ -127,6 +128,6 @@ module _ (old mid new : World) (held after : Held) (start : Base) (now : Now) (p
             (λ n bytes there. absurd (none_made event unmade (n, bytes) there)) false e (reply_said fine said)
             (subst (λ (t : Trail). Plays (Err e) mid new held after t now more files) (sym trail_is) whole.plays);
         finished = whole.finished;
-        unchanged = tt;
+        unchanged = λ only. whole.plays.unchanged refl only ∙ says.still.files;
         guids = tt;
       }

@@ -82,7 +82,7 @@ module _ (account : Account) (given : Given) (events : List Event) (last : Accou
   number_makes number name None done = written_makes number name done
 
   -- A run makes the files that its statements ask for, and that of a script which it writes.
-  performed_makes : (files : Files) (asked : Result Request Refusal) → IsPerformed files asked account given events last left → MayTouch asked f.0
+  pub performed_makes : (files : Files) (asked : Result Request Refusal) → IsPerformed files asked account given events last left → MayTouch asked f.0
   performed_makes files (Err refusal) done = refusal_makes account given events last left f 0 refusal done.0 there
   performed_makes files (Ok (ToRun plan telling)) done = inr (script_makes account given events last left f plan telling done there)
   performed_makes files (Ok (ToGenerate number name)) done = inr (number_makes number name (not_free name (account.entry name)) done)

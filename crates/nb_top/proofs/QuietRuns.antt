@@ -39,7 +39,6 @@ module _ (old mid new : World) (account : Account) (target : Option Target) (eve
     gave = given_from old mid new given left (quiet_gave old mid quiet) done.gave;
     database = done.database;
     kept = done.kept;
-    unchanged = λ only. done.unchanged only ∙ quiet.still.files;
     guids = λ more. done.guids more ∙ ap (λ (l : List (List ℕ)). l ++ guids_in (strokes_of events)) quiet.guids;
   }
   finished_quietly (Err e) given left done = tt

@@ -12,7 +12,7 @@ module _ (old new : World) (quiet : Quiet old new) (account : Account) (target :
   asked (Some t) = inr (record { main = inl (same t.name); delta = same (delta_name t.name) })
 
   pub reads_quiet : RunReads old new account target events
-  reads_quiet = record { others = λ m unasked none. same m; database = asked target }
+  reads_quiet = record { others = λ m unasked none. same m; database = asked target; unchanged = λ only. quiet.still.files }
 
 -- Nothing happened before it.
 module _ (old mid new : World) (quiet : Quiet old mid) (account : Account) (target : Option Target) (events : List Event) where
@@ -28,4 +28,8 @@ module _ (old mid new : World) (quiet : Quiet old mid) (account : Account) (targ
   })
 
   pub reads_quietly : RunReads mid new account target events → RunReads old new account target events
-  reads_quietly reads = record { others = λ m unasked none. reads.others m unasked none ∙ before m; database = asked_then target reads.database }
+  reads_quietly reads = record {
+    others = λ m unasked none. reads.others m unasked none ∙ before m;
+    database = asked_then target reads.database;
+    unchanged = λ only. reads.unchanged only ∙ quiet.still.files;
+  }

@@ -1,8 +1,8 @@
 -- A run that is refused at once.
 use Rattle.std.proofs.Common.{◌≡◌, inl, ℕ, List, [], ◌∷◌, ◌++◌, length, take, refl, sym, ap, subst, ◌∙◌, arith, Result, Ok, Err, IfOk, OnOk, Option, None}
-use Rattle.nb_top.proofs.Common.{append-nil, Files, World, AtEachMoment, Refusal, RunError, weaker, Account, line_text, Given, guids_in, Event, strokes_of, steps_of, acked_turns, status_after, output_one, status_one, acked_steps_most, FrontSaid, SaysLine, given_nothing, Status, number_of, RunLeft, RunReads, RunsTo, Finished, HasSmallScn, IsPerformed, Target, first_event, target_of, Request, ToRun, ToGenerate, take_self}
+use Rattle.nb_top.proofs.Common.{append-nil, Files, World, AtEachMoment, Refusal, RunError, weaker, Account, line_text, Given, guids_in, Event, strokes_of, steps_of, acked_turns, status_after, output_one, status_one, acked_steps_most, FrontSaid, SaysLine, given_nothing, Status, number_of, RunLeft, RunReads, RunsTo, Finished, HasSmallScn, IsPerformed, Target, first_event, target_of, Request, ToRun, ToGenerate, begun_turns, take_self}
 use Rattle.nb_model.specs.declared.reply.Reply.TheVariants.{Refused}
-use Rattle.nb_top.proofs.MadeRuns.{none_front, none_made}
+use Rattle.nb_top.proofs.MadeRuns.{none_front, none_made, open_alone}
 
 module _ (old new : World) (session : ℕ) (refusal : Refusal) (account : Account) (given : Given) (asked : Result Request Refusal) where
   abbrev event : Event
@@ -24,10 +24,11 @@ module _ (old new : World) (session : ℕ) (refusal : Refusal) (account : Accoun
       record {
         out = record { part = part; is = front.is; front = take_self front.count (line_text session (Refused refusal)) ∙ ap (take (length part)) (sym (output_one event (Refused refusal) refl)) };
         count = length (steps_of (event ∷ []));
-        front = record { most = omega arith; acknowledged = acked_steps_most (event ∷ []) (length part) };
+        front = record { most = omega arith; acknowledged = acked_steps_most (event ∷ []) (length part); unsaid = open_alone event (length part) };
         database = tt;
         each = λ n bytes there. absurd (none_made event refl (n, bytes) there);
         whole = λ n bytes there. absurd (none_front event refl (acked_turns (event ∷ []) (length part)) (n, bytes) there);
+        begun = λ n bytes there. absurd (none_front event refl (begun_turns (event ∷ []) (length (steps_of (event ∷ [])))) (n, bytes) there);
         others = λ m unasked none. front.left m;
       }
 
@@ -38,7 +39,7 @@ module _ (old new : World) (session : ℕ) (refusal : Refusal) (account : Accoun
 
   -- no file reads otherwise
   refused_reads : {S E : Type 0} (told : Result S E) → SaysLine told old new (line_text session (Refused refusal)) → RunReads old new account None (event ∷ [])
-  refused_reads told says = record { others = λ m unasked none. ap (λ (f : Files). f m) says.still.files; database = tt }
+  refused_reads told says = record { others = λ m unasked none. ap (λ (f : Files). f m) says.still.files; database = tt; unchanged = λ only. says.still.files }
 
   refused_finished : {S E : Type 0} (told : Result S E) (result : Result Status RunError) → SaysLine told old new (line_text session (Refused refusal)) → IfOk result (λ status. number_of status ≡ status_after (Refused refusal))
       → OnOk result (new.said ≡ old.said ++ line_text session (Refused refusal)) → IfOk result (λ status. Finished status old new account None (event ∷ []) given given)
@@ -48,7 +49,6 @@ module _ (old new : World) (session : ℕ) (refusal : Refusal) (account : Accoun
     gave = given_nothing old new given given says.gave refl;
     database = tt;
     kept = λ n bytes there. absurd (none_made event refl (n, bytes) there);
-    unchanged = λ only. says.still.files;
     guids = λ more. says.gave.guids ∙ none_given;
   }
   refused_finished told (Err e) says number said = tt

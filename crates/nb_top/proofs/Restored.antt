@@ -40,7 +40,7 @@ module _ (old mid : World) (account : Account) (db : List ℕ) (names : List (Li
       let made = answer.1 in
       served_as (Pages count) (only count made.links) mid job turn (done_turn old.files account db names made.links (sym knows ∙ answer.0) made.accepted ∙ ap (λ (n : ℕ). only n made.links) (sym made.counted)) refl refl refl
       (λ some. record {
-        now = (made.links, made.accepted, made.shows);
+        now = (made.links, made.accepted, made.now);
         left = λ files leaves. (made.links, made.accepted, made.left files leaves);
       })
     where
@@ -90,7 +90,7 @@ module _ (old : World) (account : Account) (db : List ℕ) (names : List (List �
         backup = kept.backup;
         kept_as = kept.kept_as;
         shows = subst (λ (image : Image). ShowsIn db (base_of (fixed image)) files) kept.image
-            (subst (λ (ls : List Link). ShowsIn db (base_from ls) files) (ok_same done.0 links (verdict old.files names) done.1 accepted) done.2);
+            (subst (λ (ls : List Link). ShowsIn db (base_from ls) files) (ok_same done.0 links (verdict old.files names) done.1 accepted) done.2.shows);
       }
 
   -- it isn't refused: the name was free, and the files are a chain
@@ -121,7 +121,7 @@ module _ (old : World) (account : Account) (db : List ℕ) (names : List (List �
       free = λ files half_way now_free. was_free.0;
       base = base_from links;
       well = subst (λ (image : Image). IsWellBaseIn account.kept (base_of (fixed image))) (sym kept.image) (restored_well old.files account kept.backup stands.now kept.kept_as.there).base;
-      shows = λ files made. subst (λ (ls : List Link). ShowsIn db (base_from ls) files) (ok_same made.0 links (verdict old.files names) made.1 accepted) made.2;
+      shows = λ files made. subst (λ (ls : List Link). ShowsIn db (base_from ls) files) (ok_same made.0 links (verdict old.files names) made.1 accepted) made.2.shows;
       entries = λ n. made_entries account db (fixed (applied links)) n ∙ ap (λ (a : Account). a.entry n) (sym behind);
       kept = made_kept account db (fixed (applied links)) ∙ ap (λ (a : Account). a.kept) (sym behind);
       gives = gives;

@@ -14,11 +14,11 @@ use Rattle.nb_top.proofs.ToldLaws.{told_files, told_steps, told_begins}
 use Rattle.nb_top.proofs.WellRuns.{IsWellRun, IsWellBehind, rest_well}
 
 -- an event with a refusal begins no run
-refused_begins : (o : Opening) (session : ℕ) (refusal : Refusal) (account : Account) (events rest : List Event) → events ≡ o.event ∷ rest → o ≡ refused_opening session (Refused refusal) account → begins_refused events ≡ true
+pub refused_begins : (o : Opening) (session : ℕ) (refusal : Refusal) (account : Account) (events rest : List Event) → events ≡ o.event ∷ rest → o ≡ refused_opening session (Refused refusal) account → begins_refused events ≡ true
 refused_begins o session refusal account events rest is refused = ap begins_refused is ∙ ap (λ (x : Opening). begins_refused (x.event ∷ rest)) refused
 
 -- an event that makes no file, before others
-files_behind : (events rest : List Event) (e : Event) → events ≡ e ∷ rest → e.made ≡ None → files_made events ≡ files_made rest
+pub files_behind : (events rest : List Event) (e : Event) → events ≡ e ∷ rest → e.made ≡ None → files_made events ≡ files_made rest
 files_behind events rest e is none = ap files_made is ∙ made_behind e rest none
 
 -- the steps of a first event
@@ -27,7 +27,7 @@ created_steps : (session : ℕ) (image : Image) (reply : Reply) (rest : List Eve
 unfolding steps_of made
 created_steps session image reply rest = refl
 
-opened_steps : (session : ℕ) (reply : Reply) (rest : List Event) → steps_of (record { session = session; strokes = []; reply = Some reply; made = None; syncs = true } ∷ rest) ≡ settles ∷ steps_of rest
+pub opened_steps : (session : ℕ) (reply : Reply) (rest : List Event) → steps_of (record { session = session; strokes = []; reply = Some reply; made = None; syncs = true } ∷ rest) ≡ settles ∷ steps_of rest
 unfolding steps_of made
 opened_steps session reply rest = refl
 
@@ -39,7 +39,7 @@ made_keeps : (b : Base) (image : Image) → records_after b (strokes_in (makes (
 unfolding strokes_in records_after records_of
 made_keeps b image = refl
 
-none_keeps : (b : Base) → records_after b (strokes_in []) ≡ []
+pub none_keeps : (b : Base) → records_after b (strokes_in []) ≡ []
 unfolding strokes_in records_after
 none_keeps b = refl
 

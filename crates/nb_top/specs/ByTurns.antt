@@ -9,6 +9,8 @@ use Rattle.nb_host.specs.World.{World}
 use Rattle.nb_host.specs.declared.refusals.Refusal.{Refusal}
 use Rattle.nb_host.specs.declared.faults.RunError.{RunError}
 use Rattle.nb_change.specs.Changes.{Only}
+use Rattle.nb_model.specs.declared.statement.Statement.{Statement}
+use Rattle.nb_model.specs.declared.statement.Statement.TheVariants.{OpenDb}
 use Rattle.nb_model.specs.Account.{Plain, Account, Base, with_entry}
 use Rattle.nb_model.specs.Causes.{not_free}
 use Rattle.nb_model.specs.Generated.{generated}
@@ -34,21 +36,34 @@ EndsEarly (Ok Memory) = Unit {0}
 EndsEarly (Ok other) = ⊥
 EndsEarly (Err stop) = Unit {0}
 
--- The database was created or opened, and its first reply said, with every other file left alone. Then the turns were taken.
-pub record OpensAndGoes {H : Type 0} (world : H → World) (told : List Event → List Event) (old new : H) (now : Now) (schedule : List ℕ) : Type 0 where
+-- opening a database changes no byte; a statement that creates one may
+abbrev pub StillWhereOpened : (first : Statement) → (old new : World) → Type 0
+StillWhereOpened (OpenDb name cache) old new = new.files ≡ old.files
+StillWhereOpened other old new = Unit {0}
+
+-- The database was created or opened, and its first reply said, with every other file left alone, and with no byte changed where it was opened.
+-- Then the turns were taken.
+pub record OpensAndGoes {H : Type 0} (world : H → World) (early : Type 0) (first : Statement) (told : List Event → List Event) (old new : H) (now : Now) (schedule : List ℕ) : Type 0 where
   pub opened : H
   pub leaves : LeavesOthers (world old) (world opened) (OfFiles now.name)
-  pub goes : GoesByTurns world told opened new now schedule
+  pub still : StillWhereOpened first (world old) (world opened)
+  pub goes : GoesByTurns world early told opened new now schedule
 
--- So it was, or it ended early, before the first turn.
-abbrev pub TurnsFrom : {H : Type 0} → (world : H → World) → (early : Type 0) → (told : List Event → List Event) → (old new : H) → Now → (schedule : List ℕ) → Type 0
-TurnsFrom world early told old new now schedule = OpensAndGoes world told old new now schedule ⊎ (early × LeavesOthers (world old) (world new) (OfFiles now.name))
+-- It ended early, before the first turn: every other file was left alone, and no byte changed where the database was to be opened.
+pub record OpensEarly {H : Type 0} (world : H → World) (early : Type 0) (first : Statement) (old new : H) (now : Now) : Type 0 where
+  pub ended : early
+  pub leaves : LeavesOthers (world old) (world new) (OfFiles now.name)
+  pub still : StillWhereOpened first (world old) (world new)
+
+-- one or the other
+abbrev pub TurnsFrom : {H : Type 0} → (world : H → World) → (early : Type 0) → (first : Statement) → (told : List Event → List Event) → (old new : H) → Now → (schedule : List ℕ) → Type 0
+TurnsFrom world early first told old new now schedule = OpensAndGoes world early first told old new now schedule ⊎ OpensEarly world early first old new now
 
 -- So it is of a script. Where its first statement is refused no byte changes.
 abbrev pub ScriptByTurns : {H : Type 0} → (world : H → World) → (early : Type 0) → (old new : H) → Plan → Telling → Account → Given → Type 0
 ScriptByTurns world early old new plan telling account given = elim (opening account given plan.sessions plan.first_session plan.first).now as (λ now. Type 0) [
   | None ↦ (world new).files ≡ (world old).files
-  | Some now ↦ TurnsFrom world early (told_later telling (pages_first account plan.first)) old new now plan.schedule
+  | Some now ↦ TurnsFrom world early plan.first (told_later telling (pages_first account plan.first)) old new now plan.schedule
 ]
 
 -- of one that is read
@@ -83,9 +98,9 @@ AskedByTurns world early old new (Does deed) account given = Unit {0}
 -- The script's turns were taken and told: what is said of all of them, and of each.
 pub record TakesTold {H : Type 0} (world : H → World) (result : Result Bool RunError) (old new : H) (before after : Held) (t : Trail) (telling : Telling) (pages : ℕ) (now : Now) (schedule : List ℕ) : Type 0 where
   pub whole : PlaysTold result (world old) (world new) before after t telling pages now schedule
-  pub turns : GoesByTurns world (told_later telling pages) old new now schedule
+  pub turns : GoesByTurns world (IsErr result) (told_later telling pages) old new now schedule
 
 -- The reply of the first statement was said, and then they were taken.
 pub record RunsOpened {H : Type 0} (world : H → World) (result : Result Bool RunError) (old new : H) (before after : Held) (start : Base) (first : Event) (telling : Telling) (pages : ℕ) (now : Now) (plan : Plan) : Type 0 where
   pub whole : PlaysOpened result (world old) (world new) before after start first telling pages now plan
-  pub turns : TurnsFrom world (IsErr result) (told_later telling pages) old new now plan.schedule
+  pub turns : TurnsFrom world (IsErr result) plan.first (told_later telling pages) old new now plan.schedule

@@ -4,8 +4,12 @@ pub mod Standing
 pub mod OneTurn
 pub mod Served
 pub mod Performed
+pub mod Rows
 pub mod Worlds
 pub mod Touched
 pub mod Goes
 pub mod Shown
 pub mod ByTurns
+pub mod Forced
+pub mod Stopped
+pub mod Among

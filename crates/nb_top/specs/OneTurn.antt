@@ -34,10 +34,10 @@ use Rattle.nb_fold.specs.Folding.{bytes_for, first_head, folded, last_head}
 use Rattle.nb_fold.specs.Verdict.{chained, fold_turn}
 use Rattle.nb_gather.specs.Making.{IsUnfinished}
 use Rattle.nb_fixup.specs.Fixup.{IsFixable, IsFixed}
-use Rattle.nb_inplace.specs.Apply.{IsHalfIn, base_with}
+use Rattle.nb_inplace.specs.Apply.{IsHalfIn, IsMergedTo}
 use Rattle.nb_inplace.specs.Verdict.{IsMergeable}
 use Rattle.nb_restore.specs.Kept.{AreKept, last_guid}
-use Rattle.nb_restore.specs.Restore.{base_from}
+use Rattle.nb_restore.specs.Restore.{IsRestoredTo}
 use Rattle.nb_session.specs.Stops.{IsSaid}
 use Rattle.nb_ended.specs.Numbers.{number_of}
 use Rattle.nb_ended.specs.declared.status.Status.{Status}
@@ -83,15 +83,15 @@ pub record TakesKept (kept : List Kept) (bytes : List ℕ) (c : Contents) : Type
   pub kept_as : IsKeptAs kept c.head.guid backup
   pub restored : state_of bytes ≡ normal_state → guid_of bytes ≢ nil
 
--- A chain is restored: half way the name of the target is free, and then it is the database that the chain gives. A chain of kept backups
--- gives the image that the begin of its last one kept, in the normal state.
+-- A chain is restored: half way the name of the target is free, and then it is the database that the chain gives, as long as level 0 or the last
+-- page of a level reaches. A chain of kept backups gives the image that the begin of its last one kept, in the normal state.
 abbrev pub restoring : Files → (db : List ℕ) (names : List (List ℕ)) → OneTurn
 restoring files db names = record {
   name = Some db;
   knows = λ account. is_free_name files db ≡ is_free_entry (account.entry db);
   turn = λ account. restore_turn files account db names;
   half = λ now. is_free_file (now db) ≡ true;
-  done = λ now. (links : List Link) × (verdict files names ≡ Ok links) × ShowsIn db (base_from links) now;
+  done = λ now. (links : List Link) × (verdict files names ≡ Ok links) × IsRestoredTo db links now;
   takes = λ kept. (links : List Link) → verdict files names ≡ Ok links → AreKept kept links;
   gives = λ kept now. (links : List Link) → verdict files names ≡ Ok links → ShowsKept kept (last_guid links) fixed db now;
 }
@@ -109,7 +109,7 @@ fixing files db = record {
 }
 
 -- A level file is merged into a standby: half way the standby is in the applying state, with the level file's GUID pending, and the same file
--- finishes it. The level file of a kept backup gives the image that the begin of that backup kept, in the normal state, read-only and with nothing
+-- finishes it. Then it is as long as it was, or as the last page of the level file reaches. The level file of a kept backup gives the image that the begin of that backup kept, in the normal state, read-only and with nothing
 -- pending. It is asked that the standby names the backup that it was restored from; of a merge that was begun the files tell that themselves.
 abbrev pub merging : Files → (db name : List ℕ) → OneTurn
 merging files db name = record {
@@ -117,7 +117,7 @@ merging files db name = record {
   knows = λ account. account.entry db ≡ entry_in files db;
   turn = λ account. apply_turn files db name;
   half = λ now. (bytes : List ℕ) × (c : Contents) × IsMergeable files db name bytes c × IsHalfIn db bytes c now;
-  done = λ now. (bytes : List ℕ) × (c : Contents) × IsMergeable files db name bytes c × ShowsIn db (base_with bytes c) now;
+  done = λ now. (bytes : List ℕ) × (c : Contents) × IsMergeable files db name bytes c × IsMergedTo db bytes c now;
   takes = λ kept. (bytes : List ℕ) (c : Contents) → IsMergeable files db name bytes c → TakesKept kept bytes c;
   gives = λ kept now. (bytes : List ℕ) (c : Contents) → IsMergeable files db name bytes c → ShowsKept kept c.head.guid as_standby db now;
 }

@@ -3,8 +3,9 @@
 -- The words ask for the run of a script, which may be written first, for a restore, for a fixup, or for a refusal. Each tells the events of
 -- the run one by one: whose turn, which strokes, which reply.
 -- Whatever stops the run, at each moment a front of its lines was said, and both files of its database can be opened and hold what may be
--- left after a front of its steps, with each acknowledged one among them. A file that a backup or a copy makes, or that of a script which
--- is written, is as it was, unfinished or whole, and whole once that is acknowledged. No other file changes. At its end all lines were said,
+-- left after a front of its steps, with each acknowledged one among them, and none past the first turn whose line wasn't said whole. A file
+-- that a backup or a copy makes, or that of a script which is written, is as it was, unfinished or whole, and whole once that is acknowledged,
+-- and before the first step of the turn that makes it whole. No other file changes. At its end all lines were said,
 -- all steps stand, and all files are whole. Where the files stood for an account with the records of its backups, and the GUIDs that the outside gives are new, they stand for
 -- one at each moment, with the records of the backups that have begun by then.
 use Rattle.std.specs.Prelude.{◌≡◌, ◌≢◌, ◌⊎◌, ℕ, ◌<◌, ◌≤◌, List, [], ◌∷◌, ◌++◌, length, take, Bool, true, false, ◌&&◌, Option, None, Some, Result, Ok, Err, IfOk}
@@ -49,8 +50,9 @@ use Rattle.nb_gen.specs.Texts.{generated_first}
 use Rattle.nb_script.specs.Scripts.{Plan, script_of}
 use Rattle.nb_state.specs.Does.{only_tells}
 use Rattle.nb_session.specs.Replies.{is_refusal, only_told}
-use Rattle.nb_session.specs.Acts.{MadeLeft, AreKept as AreFilesKept}
-use Rattle.nb_session.specs.Stops.{IsSaid, IsFront, AreWhole, Plays}
+use Rattle.nb_session.specs.Acts.{MadeLeft, AreKept as AreFilesKept, AreWhole}
+use Rattle.nb_session.specs.HowFar.{begun_turns}
+use Rattle.nb_session.specs.Stops.{IsSaid, IsFront, Plays}
 use Rattle.nb_ended.specs.Numbers.{number_of}
 use Rattle.nb_ended.specs.declared.status.Status.{Status}
 use Rattle.nb_ended.specs.declared.status.Status.TheVariants.{Device, Memory}
@@ -227,9 +229,14 @@ abbrev pub StandsAsked : (old : World) → Account → Option Target → List Ev
 StandsAsked old account None events said count files = Unit {0}
 StandsAsked old account (Some target) events said count files = StandsIn target.name (seen_after account target.name (take count (steps_of events))) files ⊎ IsUnbegun old target said count files
 
+-- The database is left as after some of the steps of these turns, with no stroke of a later one.
+abbrev pub StandsWithin : (old : World) → Account → Option Target → List Event → (said : ℕ) → Files → Type 0
+StandsWithin old account target events said files = (count : ℕ) × (count ≤ length (steps_of events)) × StandsAsked old account target events said count files
+
 -- At a moment of a run: a front of its lines was said, and a crash leaves the database after so many of its steps, with each
--- acknowledged one among them. A file that the run makes is as it was, unfinished or whole, and whole once its turn is acknowledged. Other
--- files are as a crash would have left them before.
+-- acknowledged one among them, and none past the first turn whose line wasn't said whole. A file that the run makes is as it was, unfinished or
+-- whole, and whole once its turn is acknowledged, or a step of that turn or of a later one stands. Other files are as a crash would have left
+-- them before.
 pub record RunLeft (old : World) (account : Account) (target : Option Target) (events : List Event) (files : Files) (said : List ℕ) : Type 0 where
   pub out : IsSaid old events said
   pub count : ℕ
@@ -237,6 +244,7 @@ pub record RunLeft (old : World) (account : Account) (target : Option Target) (e
   pub database : StandsAsked old account target events (length out.part) count files
   pub each : MadeLeft old (files_made events) files
   pub whole : AreWhole (files_made (take (acked_turns events (length out.part)) events)) files
+  pub begun : AreWhole (files_made (take (begun_turns events count) events)) files
   pub others : (m : List ℕ) → IsUnasked target m → IsNoneOf (files_made events) m → Leaves old m (files m)
 
 -- The premise of what follows: the files stand for the account as the run begins, and the GUIDs that its backups take are new. The GUIDs are
@@ -271,15 +279,14 @@ only_tell [] = true
 only_tell (e ∷ es) = only_opens e && list_all only_told es
 
 -- A run to its end: all of its lines were said, the status is the one that they give, just what the run asks for was given, the database
--- stands after all of its steps, and each file that it made is whole and kept for good. Where its turns only told something no file has
--- changed. Where more GUIDs could have been given, just those of the backups that it began were given, in order.
+-- stands after all of its steps, and each file that it made is whole and kept for good. Where more GUIDs could have been given, just those of
+-- the backups that it began were given, in order.
 pub record Finished (status : Status) (old new : World) (account : Account) (target : Option Target) (events : List Event) (given left : Given) : Type 0 where
   pub said : new.said ≡ old.said ++ output events
   pub ended : number_of status ≡ status_of (replies_of events)
   pub gave : WasGiven old new given left
   pub database : EndsIn new account target events
   pub kept : AreFilesKept new (files_made events)
-  pub unchanged : only_tell events ≡ true → new.files ≡ old.files
   pub guids : left.guids ≢ [] → new.guids ≡ old.guids ++ guids_in (strokes_of events)
 
 -- The run hasn't begun to change its database: both files read as before. Only where the run creates the database, its main file may also
@@ -294,10 +301,11 @@ ReadsAsked old new account None events = Unit {0}
 ReadsAsked old new account (Some target) events = ((count : ℕ) × StandsIn target.name (seen_after account target.name (take count (steps_of events))) new.files) ⊎ ReadsUnbegun old new target
 
 -- What reads after a run, however it ended: each file but the database's two and those that the run makes reads as before, and so do the two where
--- the run hasn't begun.
+-- the run hasn't begun. Where its turns only tell something no byte of any file has changed.
 pub record RunReads (old new : World) (account : Account) (target : Option Target) (events : List Event) : Type 0 where
   pub others : (m : List ℕ) → IsUnasked target m → IsNoneOf (files_made events) m → new.files m ≡ old.files m
   pub database : ReadsAsked old new account target events
+  pub unchanged : only_tell events ≡ true → new.files ≡ old.files
 
 -- each GUID that may be given has 16 bytes
 abbrev pub MayBeGiven : Given → Type 0
@@ -392,7 +400,7 @@ pub record PlaysOpened (result : Result Bool RunError) (old new : World) (before
   pub how_often : ℕ
   pub plays : Plays result old new before after (settled start) now (played_behind first (told_turns telling pages (play (plan.schedule ++ rounds how_often) now))) (files_made (play (plan.schedule ++ rounds how_often) now).0)
   pub finished : AreFinished (play (plan.schedule ++ rounds how_often) now).1.todo
-  pub unchanged : IfOk result (λ refused. list_all only_told (told_later telling pages (play (plan.schedule ++ rounds how_often) now).0) ≡ true → new.files ≡ old.files)
+  pub unchanged : list_all only_told (told_later telling pages (play (plan.schedule ++ rounds how_often) now).0) ≡ true → new.files ≡ old.files
   pub guids : IfOk result (λ refused. (play (plan.schedule ++ rounds how_often) now).1.given.guids ≢ [] → new.guids ≡ old.guids ++ guids_in (strokes_of (play (plan.schedule ++ rounds how_often) now).0))
 
 -- what is read of a script's file: its bytes, or that it isn't there or is too long

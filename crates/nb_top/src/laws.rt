@@ -1,29 +1,50 @@
 // Laws of the whole program: each is a public function with an empty body, whose contract is the law. They show that what a run is
 // promised on holds where a first run begins and where the next one begins after a crash, and that a job is what it asks for.
-ghost use Rattle.std.specs.Prelude.{◌≡◌, ℕ, ◌+◌, ◌^◌, ◌<◌, List, [], Some, Result, Ok, Contains, IsTrue, false};
+ghost use Rattle.std.specs.Prelude.{◌≡◌, ◌⊎◌, ℕ, ◌+◌, ◌^◌, ◌<◌, List, [], ◌∷◌, ◌++◌, length, Option, Some, Result, Ok, Contains, IsTrue, false, ◌≢◌, true};
+ghost use Rattle.std.specs.List.{AllByRecursion};
+ghost use Rattle.nb_fields.specs.Fresh.{fresh};
 ghost use Rattle.nb_host.specs.Files.{Files, with_file};
-ghost use Rattle.nb_host.specs.Crash.{LeavesAll};
+ghost use Rattle.nb_host.specs.Crash.{IsDurable, LeavesAll};
+ghost use Rattle.nb_host.specs.Names.{is_delta};
 ghost use Rattle.nb_host.specs.Moments.{AtEachMoment};
 ghost use Rattle.nb_host.specs.declared.refusals.Refusal.{Refusal};
 ghost use Rattle.nb_mem.specs.declared.entry.Entry.{Entry};
 ghost use Rattle.nb_mem.specs.Histories.{files_of, guids_behind, world_of};
 ghost use Rattle.nb_mem.specs.Outcomes.{IsLeft, placed};
-ghost use Rattle.nb_model.specs.Account.{Account, Kept};
+ghost use Rattle.nb_model.specs.Account.{Account, Base, Kept};
+ghost use Rattle.nb_model.specs.Image.{page_at, is_forced};
+ghost use Rattle.nb_model.specs.Steps.{AreForced};
+ghost use Rattle.nb_model.specs.Strokes.{Stroke, make};
+ghost use Rattle.nb_model.specs.Trail.{IsBehindFirst};
 ghost use Rattle.nb_model.specs.Jobs.{IsAttaching, turn_of};
-ghost use Rattle.nb_model.specs.NewGuids.{AreNew};
+ghost use Rattle.nb_model.specs.Levels.{Contents};
+ghost use Rattle.nb_model.specs.NewGuids.{AreNew, guids_in};
 ghost use Rattle.nb_model.specs.Outcomes.{Given};
-ghost use Rattle.nb_model.specs.Run.{Event};
+ghost use Rattle.nb_model.specs.Owner.{delta_name};
+ghost use Rattle.nb_model.specs.Restoring.{Link, verdict};
+ghost use Rattle.nb_model.specs.Run.{Event, strokes_of};
 ghost use Rattle.nb_model.specs.Stands.{Stands};
+ghost use Rattle.nb_model.specs.Trail.{ShowsIn};
 ghost use Rattle.nb_model.specs.declared.job.Ask.{Ask};
 ghost use Rattle.nb_model.specs.declared.job.Deed.{Deed};
+ghost use Rattle.nb_model.specs.declared.job.Deed.TheVariants.{Apply, Restore};
 ghost use Rattle.nb_model.specs.declared.job.Job.TheVariants.{Attach, Turn};
+ghost use Rattle.nb_inplace.specs.Verdict.{IsMergeable};
+ghost use Rattle.nb_page.specs.Free.{is_free_name};
+ghost use Rattle.nb_restore.specs.Kept.{AreKept, last_guid};
+ghost use Rattle.nb_script.specs.Scripts.{Plan};
 ghost use Rattle.nb_ended.specs.declared.status.Status.{Status};
+ghost use Rattle.nb_top.specs.Among.{AreClosed, FollowOn, GoOnAlone, HoldTheirs, RestoresKept, StandAlone, among, is_among, only_of, with_deltas};
+ghost use Rattle.nb_top.specs.Forced.{AreForcedIn, PrefixLeft, StandsWhole};
 ghost use Rattle.nb_top.specs.Goes.{IsRun};
 ghost use Rattle.nb_top.specs.OneTurn.{DoesTurn, leaves_all, one_turn};
-ghost use Rattle.nb_top.specs.Performed.{IsPerformed, IsSure, KnowsAsked, PerformsRun};
-ghost use Rattle.nb_top.specs.Requests.{Does, Request, Runs, attached, request_asked, request_of};
+ghost use Rattle.nb_top.specs.Performed.{IsPerformed, IsSure, KnowsAsked, PerformsRun, RunLeft, StandsWithin, Target, Finished, HasSmallScn, MayBeGiven, target_of};
+ghost use Rattle.nb_top.specs.Requests.{Does, Request, Runs, attached, request_asked, request_of, ToRun};
+ghost use Rattle.nb_top.specs.Rows.{IsNewPage};
 ghost use Rattle.nb_top.specs.Standing.{HoldsKept, NextMayBegin, StandsFor};
-ghost use Rattle.nb_top.specs.Touched.{OfAsked, TouchesOnly};
+ghost use Rattle.nb_top.specs.Stopped.{FinishesMerge, IsOnWay, KeepsMerged};
+ghost use Rattle.nb_top.specs.declared.telling.Telling.{Telling};
+ghost use Rattle.nb_top.specs.Touched.{MayTouch, OfAsked, TouchesOnly};
 ghost use Rattle.nb_top.specs.Worlds.{AreCopies, ArePlain, HaveNames, LeaveNames, NameNone, StartsFrom, account_of, empty, no_files};
 
 use nb_host::Host;
@@ -71,6 +92,18 @@ pub fn names_stay_names<H: Host>(_before: &H, _behind: &H)
     ensures starts { (files : Files) → HaveNames files → StartsFrom (H.world _behind.now) files → LeaveNames (H.world _behind.now) }
 {}
 
+/// The file of a backup stands before its row. A turn that makes a file whole, as the close of a backup does before it writes the row of its level,
+/// has that file first: at each moment of a run what a crash leaves has that file whole, or its database has no stroke of that turn, and so no row
+/// that it writes. So where the database has a page that it has only since that turn, such as the page of the history with that row, the file is
+/// whole, and no later level goes on from a backup without a file.
+pub fn a_row_stands_with_its_file<H: Host>(_before: &H)
+    ensures file { (account : Account) (target : Option Target) (before behind : List Event) (closing : Event) (name bytes : List ℕ) (files : Files) (said : List ℕ) → closing.made ≡ Some (name, bytes)
+        → (left : RunLeft (H.world _before.now) account target (before ++ closing ∷ behind) files said) → (files name ≡ Some bytes) ⊎ StandsWithin (H.world _before.now) account target before (length left.out.part) files }
+    ensures row { (account : Account) (t : Target) (before behind : List Event) (closing : Event) (name bytes : List ℕ) (files : Files) (said : List ℕ) → closing.made ≡ Some (name, bytes)
+        → RunLeft (H.world _before.now) account (Some t) (before ++ closing ∷ behind) files said → (b : Base) (p : ℕ) → ShowsIn t.name b files → p < length b.image
+        → IsNewPage (H.world _before.now) account t.name before p (page_at b.image p) → files name ≡ Some bytes }
+{}
+
 /// A run may begin where files were copied to, as backups to another machine. Copies of files that stand for an account, under whatever
 /// names and without a difference file, stand for one with the same records. So what is promised of restoring kept backups is promised there.
 pub fn a_run_may_begin_on_copies<H: Host>(_host: &H)
@@ -115,4 +148,82 @@ pub fn a_job_attaches()
 pub fn a_job_takes_its_turn()
     ensures { (files : Files) (deed : Deed) (name : List ℕ) (turn : Event) (account : Account) → turn_of files account deed ≡ Some (name, turn)
         → (request_of files (Turn deed) ≡ Does deed) × ((one_turn files deed).name ≡ Some name) × ((one_turn files deed).turn account ≡ turn) }
+{}
+
+/// With forced writes on a crash leaves a prefix. Where a run writes each page with forced writes on, in a run that creates its database from the
+/// creation on, then at each moment of it a crash leaves the database as it is after a prefix of the run's operations, each acknowledged one among
+/// them, and nothing in between; or the run hasn't begun to change it. At the run's end all its operations are there, whatever a crash leaves.
+/// So it is where forced writes were on as the run began, or it creates its database, and it writes no page 0.
+pub fn forced_writes_leave_a_prefix<H: Host>(_before: &H, _behind: &H)
+    ensures moment { (account : Account) (target : Target) (events : List Event) (files : Files) (said : List ℕ) → RunLeft (H.world _before.now) account (Some target) events files said → AreForcedIn account target events
+        → PrefixLeft (H.world _before.now) account target events files said }
+    ensures moments { (status : Status) (asked : Result Request Refusal) (account : Account) (given : Given) (target : Target) (performs : PerformsRun status (H.world _before.now) (H.world _behind.now) asked account given)
+        → target_of asked performs.events ≡ Some target → AreForcedIn account target performs.events → AtEachMoment (H.world _before.now) (H.world _behind.now) (PrefixLeft (H.world _before.now) account target performs.events) }
+    ensures ended { IsTrue H.tells → (status : Status) (asked : Result Request Refusal) (account : Account) (given : Given) (target : Target) (performs : PerformsRun status (H.world _before.now) (H.world _behind.now) asked account given)
+        → target_of asked performs.events ≡ Some target → AreForcedIn account target performs.events
+        → Finished status (H.world _before.now) (H.world _behind.now) account (target_of asked performs.events) performs.events given performs.left → StandsWhole (H.world _behind.now) account target performs.events }
+    ensures opened { (b : Base) (strokes : List Stroke) → is_forced b.image ≡ true → AllByRecursion IsBehindFirst strokes → AreForced b strokes }
+    ensures created { (b : Base) (size raw : ℕ) (strokes : List Stroke) → AllByRecursion IsBehindFirst strokes → AreForced b (make (fresh size raw) ∷ strokes) }
+{}
+
+/// A merge in place that was stopped is finished by the same file in the next run. Where the standby and the level file were kept for good as the first run
+/// began, and it was stopped at any moment, then a run of the same job on what the crash left that comes to its end says its reply and leaves the
+/// standby merged, for good; or the standby was merged already, and is so still. The level file reads the same, since the first run touches the
+/// standby alone. So it is over any list of runs that are stopped: the merge is on its way at each moment of each, and one that comes to its end has
+/// done it.
+pub fn a_stopped_merge_is_finished<H: Host>(_before: &H, _stopped: &H, _again: &H, _behind: &H)
+    ensures runs { IsTrue H.tells → (db name bytes : List ℕ) (c : Contents) (first second : Status) → IsMergeable (H.world _before.now).files db name bytes c
+        → IsDurable (H.world _before.now) db ((H.world _before.now).files db) → IsDurable (H.world _before.now) (delta_name db) ((H.world _before.now).files (delta_name db)) → IsDurable (H.world _before.now) name ((H.world _before.now).files name)
+        → IsRun H.world H.tells first _before.now _stopped.now (Does (Apply db name))
+        → (left : Files) (said : List ℕ) → (H.world _stopped.now).left_since (H.world _before.now).moment left said → StartsFrom (H.world _again.now) left
+        → IsRun H.world H.tells second _again.now _behind.now (Does (Apply db name)) → second ≢ Status.Device → second ≢ Status.Memory
+        → FinishesMerge second (H.world _again.now) (H.world _behind.now) db bytes c ⊎ KeepsMerged (H.world _again.now) (H.world _behind.now) db bytes c }
+    ensures begins { (files : Files) (db name bytes : List ℕ) (c : Contents) → IsMergeable files db name bytes c → IsOnWay files db name bytes c files }
+    ensures stopped { IsTrue H.tells → (start : Files) (db name bytes : List ℕ) (c : Contents) (status : Status) → IsMergeable start db name bytes c → IsOnWay start db name bytes c (H.world _again.now).files
+        → IsDurable (H.world _again.now) db ((H.world _again.now).files db) → IsDurable (H.world _again.now) (delta_name db) ((H.world _again.now).files (delta_name db)) → IsDurable (H.world _again.now) name ((H.world _again.now).files name)
+        → IsRun H.world H.tells status _again.now _behind.now (Does (Apply db name)) → AtEachMoment (H.world _again.now) (H.world _behind.now) (λ files said. IsOnWay start db name bytes c files) }
+    ensures reads { IsTrue H.tells → (start : Files) (db name bytes : List ℕ) (c : Contents) (status : Status) → IsMergeable start db name bytes c → IsOnWay start db name bytes c (H.world _again.now).files
+        → IsRun H.world H.tells status _again.now _behind.now (Does (Apply db name)) → IsOnWay start db name bytes c (H.world _behind.now).files }
+    ensures finishes { IsTrue H.tells → (start : Files) (db name bytes : List ℕ) (c : Contents) (status : Status) → IsMergeable start db name bytes c → IsOnWay start db name bytes c (H.world _again.now).files
+        → IsDurable (H.world _again.now) db ((H.world _again.now).files db) → IsDurable (H.world _again.now) (delta_name db) ((H.world _again.now).files (delta_name db)) → IsDurable (H.world _again.now) name ((H.world _again.now).files name)
+        → IsRun H.world H.tells status _again.now _behind.now (Does (Apply db name)) → status ≢ Status.Device → status ≢ Status.Memory
+        → FinishesMerge status (H.world _again.now) (H.world _behind.now) db bytes c ⊎ KeepsMerged (H.world _again.now) (H.world _behind.now) db bytes c }
+    ensures starts { (files : Files) (name : List ℕ) → StartsFrom (H.world _again.now) files → IsDurable (H.world _again.now) name ((H.world _again.now).files name) }
+{}
+
+/// A chain that is named restores to the kept image, whatever stands under other names, as a damaged database or a foreign chain. Where the files of the
+/// chain hold kept records, those follow on records, and the name is free, then a run that restores them leaves at each moment the name as it was,
+/// or free, or with the image that the begin of the last backup kept, in the normal state; and with that for good, where it came to its end. Then the
+/// database and the files of the chain stand, alone, where those were kept for good, so that the next run may begin. Files that stand for an abstract
+/// state hold its records so, and those follow on records.
+pub fn a_named_chain_restores<H: Host>(_before: &H, _behind: &H)
+    ensures restores { IsTrue H.tells → (status : Status) (db : List ℕ) (names : List (List ℕ)) (kept : List Kept) (links : List Link) (words : List (List ℕ)) → request_asked (H.world _before.now).files words ≡ Does (Restore db names)
+        → IsRun H.world H.tells status _before.now _behind.now (Does (Restore db names)) → FollowOn kept → HoldTheirs kept names (H.world _before.now).files → verdict (H.world _before.now).files names ≡ Ok links
+        → AreKept kept links → is_free_name (H.world _before.now).files db ≡ true → RestoresKept status (H.world _before.now) (H.world _behind.now) kept (last_guid links) db }
+    ensures alone { IsTrue H.tells → (status : Status) (db : List ℕ) (names : List (List ℕ)) (kept : List Kept) (links : List Link) (words : List (List ℕ)) → request_asked (H.world _before.now).files words ≡ Does (Restore db names)
+        → IsRun H.world H.tells status _before.now _behind.now (Does (Restore db names)) → FollowOn kept → HoldTheirs kept names (H.world _before.now).files → verdict (H.world _before.now).files names ≡ Ok links
+        → AreKept kept links → is_free_name (H.world _before.now).files db ≡ true → status ≢ Status.Device → status ≢ Status.Memory
+        → ((n : List ℕ) → Contains (delta_name db ∷ names) n → IsDurable (H.world _before.now) n ((H.world _before.now).files n)) → (H.world _before.now).files (delta_name db) ≡ None
+        → (account : Account) × StandAlone (db ∷ (delta_name db ∷ names)) (H.world _behind.now) account × (account.kept ≡ kept) }
+    ensures follow { (files : Files) (account : Account) → Stands files account → FollowOn account.kept }
+    ensures hold { (files : Files) (account : Account) (names : List (List ℕ)) → Stands files account → AllByRecursion (λ (name : List ℕ). is_delta name ≡ false) names → HoldTheirs account.kept names files }
+{}
+
+/// The next run may begin for the database that it names, under the files that it names, whatever stands under other names. Where the files of certain names,
+/// taken alone, stand for an abstract state, and they have all files that the run of a script may touch, then at each moment what a crash leaves of them
+/// stands, alone, with the records of the backups that have begun by then; and so do they after the run, however it ended, so that a further one may
+/// begin. So they do in a host that starts again from what a crash left, or from files with whatever else under other names, and where all files stand,
+/// for names that have a difference file exactly where they have its database.
+pub fn the_next_run_may_begin_alone<H: Host>(_before: &H, _behind: &H)
+    ensures runs { IsTrue H.tells → (names : List (List ℕ)) (plan : Plan) (telling : Telling) (alone : Account) (given : Given) (status : Status) (target : Target)
+        (performs : PerformsRun status (H.world _before.now) (H.world _behind.now) (Ok (ToRun plan telling)) (account_of (H.world _before.now).files alone.kept) given) (words : List (List ℕ))
+        → request_asked (H.world _before.now).files words ≡ Runs (Ok (ToRun plan telling)) → MayBeGiven given
+        → target_of (Ok (ToRun plan telling)) performs.events ≡ Some target → ((m : List ℕ) → MayTouch (Ok (ToRun plan telling)) m → is_among names m ≡ true) → StandAlone names (H.world _before.now) alone
+        → AreNew (H.world _before.now) alone.kept (guids_in (strokes_of performs.events)) → HasSmallScn (account_of (H.world _before.now).files alone.kept) (Some target)
+        → GoOnAlone names (H.world _before.now) (H.world _behind.now) (account_of (H.world _before.now).files alone.kept) target performs.events }
+    ensures starts { (names : List (List ℕ)) (files : Files) (kept : List Kept) → HoldsKept (among names files) kept → StartsFrom (H.world _before.now) files
+        → (account : Account) × StandAlone names (H.world _before.now) account × (account.kept ≡ kept) }
+    ensures beside { (names : List (List ℕ)) (files others : Files) (kept : List Kept) → HoldsKept (among names files) kept → ((m : List ℕ) → is_among names m ≡ true → others m ≡ files m) → HoldsKept (among names others) kept }
+    ensures closed { (names : List (List ℕ)) → AllByRecursion (λ (name : List ℕ). is_delta name ≡ false) names → AreClosed (with_deltas names) }
+    ensures part { IsTrue H.tells → (names : List (List ℕ)) (account : Account) → AreClosed names → StandsFor (H.world _before.now) account → StandAlone names (H.world _before.now) (only_of names account) }
 {}

@@ -49,4 +49,4 @@ returns-in_ok-broken-in-Err-clause-shown g c =
     let refusal = c.in-Err.refusal in
     let is = settled_refusal c.in_ok-names.field-0 refusal (λ r. c.read_list.result ≡ Err (Refused r)) c.in-Err.is c.in_ok-names.ensures.refusal in
     let read = subst (λ answer. Says (list_of c.args.bytes.now) answer) is c.read_list.ensures.exact in
-    subst (λ r. IsShownOf c.refuse.result c.in_ok-broken-in-Err.field-0 (to_plan c.args.keep r)) (sym read) (shown_by c.refuse.result _ refusal c.in_ok-broken-in-Err.ensures)
+    subst (λ r. IsShownOf c.refuse.result c.in_ok-broken-in-Err.field-0 (to_plan c.args.keep r)) (sym read) (shown_by c.refuse.result _ refusal c.in_ok-broken-in-Err.ensures.names)

@@ -21,7 +21,7 @@ returns-in_err-say_opened-clause-plays g c tells = (
       (λ e. record {
         whole = reply_unsaid old new new held held start now plan c.requires.askable ready todo making (told_first telling done) telling pages (told_first_made telling done) _ (told_output plan.first_session strokes plan.first held.files.count held.files.state telling)
             (ap (after_steps (settled start)) (told_first_steps telling done) ∙ trail) c.say_opened.result (c.say_opened.ensures.line tells) e;
-        turns = reply_unsaid_by g.H.Host.world g.met.H.Host.timely (λ h. g.met.H.Host.reads_left h tells) (told_later telling pages) now plan.schedule c.say_opened.result _ (IsErr {T = Bool} {E = RunError} (Err e)) refl c.args.host.now c.say_opened.new.host (c.say_opened.ensures.line tells);
+        turns = reply_unsaid_by g.H.Host.world g.met.H.Host.timely (λ h. g.met.H.Host.reads_left h tells) plan.first (told_later telling pages) now plan.schedule c.say_opened.result _ (IsErr {T = Bool} {E = RunError} (Err e)) refl c.args.host.now c.say_opened.new.host (c.say_opened.ensures.line tells);
       }),
 )
 
@@ -46,7 +46,7 @@ returns-clause-plays g c tells = (
       record {
         whole = reply_said_then old mid new held c.take_told.new.engine start now plan c.requires.askable ready todo making (told_first telling done) telling pages (told_first_made telling done) _ (told_output plan.first_session strokes plan.first held.files.count held.files.state telling)
             (ap (after_steps (settled start)) (told_first_steps telling done) ∙ trail) c.say_opened.result says (told_status plan.first_session strokes plan.first held.files.count held.files.state telling) said c.take_told.result taken.whole;
-        turns = reply_said_by g.H.Host.world g.met.H.Host.timely (λ h. g.met.H.Host.reads_left h tells) (told_later telling pages) now plan.schedule c.say_opened.result _ _ c.args.host.now c.say_opened.new.host c.take_told.new.host says taken.turns;
+        turns = reply_said_by g.H.Host.world g.met.H.Host.timely (λ h. g.met.H.Host.reads_left h tells) plan.first (told_later telling pages) now plan.schedule c.say_opened.result _ _ c.args.host.now c.say_opened.new.host c.take_told.new.host says taken.turns;
       },
 )
 
