@@ -1,6 +1,5 @@
 // What the standard error says after a run.
 use crate::beside::End;
-use crate::changed::script_in;
 use crate::done::show_done;
 use crate::look::look_at;
 use crate::reading::ReadOnly;
@@ -9,7 +8,7 @@ use nb_advice::{Refused, advice, complaint, shortage, standing, wrong_bytes, wro
 use nb_ended::{Broken, Status};
 use nb_host::Name;
 use nb_model::{Job, Statement};
-use nb_script::MOST_BYTES;
+use nb_script::{MOST_BYTES, Script};
 use std::alloc::{AllocError, Global};
 use std::io;
 
@@ -149,13 +148,9 @@ fn show_standing<V: ReadOnly + Eprint>(
     }
 }
 
-/// What the cache of a script asks for, where it can be read.
-fn shortage_of<V: ReadOnly>(alloc: Global, files: &V, job: &Job) -> Option<String> {
-    let Job::Run { script } = job else {
-        return None;
-    };
-    let script = script_in(alloc, files, script)?;
-    let (cache, page_size) = match script.first() {
+/// What the cache of a script asks for, where it was read.
+fn shortage_of<V: ReadOnly>(alloc: Global, files: &V, script: Option<&Script>) -> Option<String> {
+    let (cache, page_size) = match script?.first() {
         Statement::CreateDb {
             cache,
             page_size,
@@ -219,7 +214,7 @@ pub fn explain<V: ReadOnly + Eprint>(
         }
         (Status::Device, Some(job)) => show_standing(alloc, rt, job, told, end.before.state),
         (Status::Memory, Some(job)) => {
-            show_shortage(rt, shortage_of(alloc, rt, job));
+            show_shortage(rt, shortage_of(alloc, rt, end.before.script.as_ref()));
             show_standing(alloc, rt, job, told, end.before.state);
         }
         (Status::Memory, None) => show_shortage(rt, None),

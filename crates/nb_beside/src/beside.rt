@@ -1,11 +1,12 @@
 // What the program does beside a run.
-ghost use Rattle.std.specs.Prelude.{◌≡◌, ℕ, List, Option, None};
+ghost use Rattle.std.specs.Prelude.{◌≡◌, ℕ, List, Option, None, IfOk, IsTrue};
 ghost use Rattle.nb_host.specs.Calls.{IsSilent, IsStill};
 ghost use Rattle.nb_host.specs.Causes.{CountsFault};
 ghost use Rattle.nb_host.specs.Moments.{Passes};
+ghost use Rattle.nb_beside.specs.Changed.{IsHeld, IsScriptOf, changed_by};
 
 use crate::after::{Told, explain, say};
-use crate::changed::{changed, opened};
+use crate::changed::{changed, opened, script_of};
 use crate::progress::{manner, progress_of};
 use crate::reading::ReadOnly;
 use crate::seeing::{database_of, emptied, own_file, state_of};
@@ -14,19 +15,33 @@ use nb_ended::{Broken, Status};
 use nb_file::{Disk, FileHost, Manner};
 use nb_host::{Fault, Host, HostFault, Name};
 use nb_model::Job;
-use std::alloc::Global;
+use nb_script::Script;
+use std::alloc::{AllocError, Global};
 use std::io;
 use std::os::fd::AsRawFd;
 use std::os::unix::fs::FileExt;
 use std::rt::{Clock, Env, Files};
 
 /// What is known of a run before it begins.
-#[derive(Clone, Copy)]
+#[derive(Drop)]
 pub struct Before {
     /// The backup state in which the database of a job by words is.
     pub state: Option<u16>,
     /// Whether progress is shown: a person watches, or the environment asks for it.
     pub is_watched: bool,
+    /// The script that the job runs, where it runs one that could be read.
+    pub script: Option<Script>,
+}
+
+impl Before {
+    /// Nothing is known: memory was too short.
+    pub fn unknown() -> Before {
+        Before {
+            state: None,
+            is_watched: false,
+            script: None,
+        }
+    }
 }
 
 /// How a run ended, what was known before it, and which line of its script breaks the form, if one does.
@@ -40,13 +55,33 @@ pub struct End {
 /// An outside beside which the program does more than the run: it prepares it, gives the system what the run has left waiting, and tells a reader how
 /// it ended. None of it changes what the run is promised on.
 pub trait Beside: Host {
+    ghost use Rattle.nb_beside.specs.declared.beside.End.{End};
+
     /// The file some of whose bytes still wait to be given to the system, if there is one.
     ghost waiting: { Self → Option (List ℕ) };
 
+    /// The names of the databases that are held alone, from their first use on.
+    ghost alone: { Self → List (List ℕ) };
+
+    /// What a reader was told of a run that ended so.
+    ghost told: { Self → End → Type 0 };
+
     /// Says how long the run waits for locks, which database it holds alone, and how its progress is shown; and on the standard error where the
-    /// difference file of the database that it opens was lost. Answers what is known before it.
-    fn prepare(&mut self, alloc: Global, job: &Result<Job, Fault>, is_terminal: bool) -> Before
-        ensures { self.new ≡ self.old };
+    /// difference file of the database that it opens was lost. Answers what is known before it, and the script that was read to know which database
+    /// is written. Where memory is too short for that script, the run isn't to be made.
+    fn prepare(
+        &mut self,
+        alloc: Global,
+        job: &Result<Job, Fault>,
+        is_terminal: bool,
+    ) -> Result<Before, AllocError>
+        ensures files { IsStill (Self.world self.old) (Self.world self.new) }
+        ensures log { IsSilent (Self.world self.old) (Self.world self.new) }
+        ensures time { Passes (Self.world self.old) (Self.world self.new) }
+        ensures faults { Self.faults self.new ≡ Self.faults self.old }
+        ensures waiting { waiting self.new ≡ waiting self.old }
+        ensures held { IfOk result (λ before. IfOk job.now (λ job. IsHeld (changed_by before.script job) (alone self.new))) }
+        ensures script { IsTrue Self.tells → IfOk result (λ before. IfOk job.now (λ job. IsScriptOf (Self.world self.old).files job before.script)) };
 
     /// Gives the system what still waits to be written of files. A reply would have done so, and the end of the program doesn't.
     fn write_rest(&mut self) -> Result<(), HostFault>
@@ -64,7 +99,8 @@ pub trait Beside: Host {
         job: &Result<Job, Fault>,
         end: &End,
     )
-        ensures { self.new ≡ self.old };
+        ensures same { self.new ≡ self.old }
+        ensures told { told self.new end.now };
 }
 
 /// Says how long a run waits for locks.
@@ -86,10 +122,22 @@ where
     }
 }
 
-/// Says which database a run holds alone, and how its progress is shown.
-fn set_shown<R: Files + Print + Eprint + Clock + Drop, V: ReadOnly>(
+/// Says which database a run holds alone.
+fn hold<R: Files + Print + Eprint + Clock + Drop>(host: &mut FileHost<R>, db: Option<Name>)
+where
+    R::File: Disk + AsRawFd + FileExt,
+    ensures held { IsHeld db host.new.alone }
+    ensures faults { host.new.faults ≡ host.old.faults }
+    ensures waiting { host.new.waiting ≡ host.old.waiting }
+{
+    if let Some(db) = db {
+        host.hold_alone(db);
+    }
+}
+
+/// Says how a run's progress is shown.
+fn set_shown<R: Files + Print + Eprint + Clock + Drop>(
     alloc: Global,
-    rt: &V,
     host: &mut FileHost<R>,
     job: &Job,
     manner: Option<Manner>,
@@ -98,9 +146,6 @@ where
     R::File: Disk + AsRawFd + FileExt,
     ensures { host.new ≡ host.old }
 {
-    if let Some(db) = changed(alloc, rt, job) {
-        host.hold_alone(db);
-    }
     if let Some(manner) = manner {
         if let Ok(Some(progress)) = progress_of(alloc, job, manner) {
             host.show_progress(progress);
@@ -109,20 +154,50 @@ where
 }
 
 /// Says that the difference file of the database which a job opens has lost its bytes.
-fn show_emptied<V: ReadOnly + Eprint>(alloc: Global, rt: &V, job: &Job) {
-    if let Some(db) = opened(alloc, rt, job) {
+fn show_emptied<V: ReadOnly + Eprint>(alloc: Global, rt: &V, script: &Option<Script>, job: &Job) {
+    if let Some(db) = opened(script, job) {
         if let Some(began) = emptied(rt, &db) {
             say(rt, nb_advice::emptied(alloc, &db, began).map(Some));
         }
     }
 }
 
-/// What is known before a run of that database, whose progress is shown so.
-fn known<V: ReadOnly>(files: &V, db: Option<&Name>, manner: Option<Manner>) -> Before {
+/// What is known before a run of that database, whose progress is shown so, and of which this script was read.
+fn known<V: ReadOnly>(
+    files: &V,
+    db: Option<&Name>,
+    manner: Option<Manner>,
+    script: Option<Script>,
+) -> Before
+    ensures { result.script ≡ script }
+{
     Before {
         state: db.and_then(|db| state_of(files, db)),
         is_watched: manner.is_some(),
+        script,
     }
+}
+
+/// Prepares the host for a job that words name.
+fn prepare_for<R: Files + Print + Eprint + Clock + Drop, V: ReadOnly + Eprint + Env + AllocGlobal>(
+    alloc: Global,
+    rt: &V,
+    host: &mut FileHost<R>,
+    job: &Job,
+    manner: Option<Manner>,
+) -> Result<Before, AllocError>
+where
+    R::File: Disk + AsRawFd + FileExt,
+    ensures held { IfOk result (λ before. IsHeld (changed_by before.script job.now) host.new.alone) }
+    ensures faults { host.new.faults ≡ host.old.faults }
+    ensures waiting { host.new.waiting ≡ host.old.waiting }
+{
+    set_patience(rt, host);
+    let script = script_of(alloc, rt, job)?;
+    hold(host, changed(&script, job));
+    set_shown(alloc, host, job, manner);
+    show_emptied(alloc, rt, &script, job);
+    Ok(known(rt, database_of(job), manner, script))
 }
 
 impl<R: Files + Print + Eprint + Clock + Env + AllocGlobal + Copy + Drop> Beside for FileHost<R>
@@ -131,16 +206,22 @@ where
 {
     ghost waiting = { λ host. host.waiting };
 
-    fn prepare(&mut self, alloc: Global, job: &Result<Job, Fault>, is_terminal: bool) -> Before {
+    ghost alone = { λ host. host.alone };
+
+    ghost told = { λ _ _. Unit {0} };
+
+    fn prepare(
+        &mut self,
+        alloc: Global,
+        job: &Result<Job, Fault>,
+        is_terminal: bool,
+    ) -> Result<Before, AllocError> {
         let rt = self.runtime();
         let manner = manner(wants_progress(&rt), is_terminal);
-        let Ok(job) = job else {
-            return known(&rt, None, manner);
-        };
-        set_patience(&rt, self);
-        set_shown(alloc, &rt, self, job, manner);
-        show_emptied(alloc, &rt, job);
-        known(&rt, database_of(job), manner)
+        match job {
+            Ok(job) => prepare_for(alloc, &rt, self, job, manner),
+            Err(_) => Ok(known(&rt, None, manner, None)),
+        }
     }
 
     fn write_rest(&mut self) -> Result<(), HostFault> {

@@ -1,15 +1,15 @@
-// The database that a run changes, which it is to hold alone from its first use on.
-ghost use Rattle.std.specs.Prelude.{◌≡◌, Some, None, IfSome, cond};
+// The database that a run may write, which it is to hold alone from its first use on.
+ghost use Rattle.std.specs.Prelude.{◌≡◌, Some, None, cond};
 ghost use Rattle.nb_model.specs.Jobs.{writes};
 ghost use Rattle.nb_model.specs.Words.{deed_database};
-ghost use Rattle.nb_beside.specs.Changed.{changed_by_words, database_in};
+ghost use Rattle.nb_beside.specs.Changed.{any_writes, changed_by, changed_by_read, changed_by_script, changed_by_words, database_in, script_writes};
 
 use crate::look::look_at;
 use crate::reading::ReadOnly;
-use nb_host::Name;
+use nb_host::{Fault, Name};
 use nb_model::{Ask, Deed, Job, Statement};
 use nb_script::{MOST_BYTES, Script, parse};
-use std::alloc::Global;
+use std::alloc::{AllocError, Global};
 
 /// The database that a generated script creates.
 const GENERATED: &str = "gen.db";
@@ -24,56 +24,64 @@ fn opened_by(first: &Statement) -> Option<Name>
     }
 }
 
-/// Whether a statement may write to the database.
-fn changes(statement: &Statement) -> bool {
-    match statement {
-        Statement::OpenDb { .. }
-        | Statement::Read { .. }
-        | Statement::CopyTo { .. }
-        | Statement::Get { .. }
-        | Statement::Scan { .. }
-        | Statement::Check
-        | Statement::ShowHeader
-        | Statement::ShowPages
-        | Statement::ShowImage
-        | Statement::ShowCache => false,
-        Statement::CreateDb { .. }
-        | Statement::PageNew
-        | Statement::Write { .. }
-        | Statement::Free { .. }
-        | Statement::BeginBackup
-        | Statement::EndBackup
-        | Statement::Backup { .. }
-        | Statement::BackupSince { .. }
-        | Statement::CreateTable { .. }
-        | Statement::DropTable { .. }
-        | Statement::Insert { .. }
-        | Statement::Update { .. }
-        | Statement::Delete { .. }
-        | Statement::Forced { .. }
-        | Statement::Access { .. }
-        | Statement::Reclaim
-        | Statement::Sync => true,
+/// Whether one of these statements may write.
+fn any_writes(statements: &[Statement]) -> bool
+    ensures { result ≡ any_writes statements.now }
+{
+    let mut writes = false;
+    for statement in statements {
+        writes = writes || statement.writes();
     }
+    writes
 }
 
 /// Whether a statement of a script may write to its database.
-fn script_changes(script: &Script) -> bool {
-    changes(script.first())
-        || (1..=16).any(|session| script.statements(session).iter().any(changes))
-}
-
-/// The script of that name, where it can be read.
-pub fn script_in<V: ReadOnly>(alloc: Global, files: &V, name: &Name) -> Option<Script> {
-    let bytes = look_at(files, name.as_str())?.bytes(alloc, MOST_BYTES as u64)?;
-    parse(alloc, &bytes).ok()
-}
-
-/// The database that a script changes, none where it only reads.
-fn changed_by_script(script: &Script) -> Option<Name>
-    ensures { IfSome result (λ name. database_in script.now.first ≡ Some name) }
+fn script_writes(script: &Script) -> bool
+    ensures { result ≡ script_writes script.now }
 {
-    if script_changes(script) {
+    let mut writes = script.first().writes();
+    for before in 0..script.session_count() {
+        writes = writes || any_writes(script.statements(before + 1));
+    }
+    writes
+}
+
+/// The script of that name, none where it can't be read: the run says why then.
+fn script_in<V: ReadOnly>(
+    alloc: Global,
+    files: &V,
+    name: &Name,
+) -> Result<Option<Script>, AllocError> {
+    let Some(found) = look_at(files, name.as_str()) else {
+        return Ok(None);
+    };
+    let Some(bytes) = found.all(alloc, MOST_BYTES as u64)? else {
+        return Ok(None);
+    };
+    match parse(alloc, &bytes) {
+        Ok(script) => Ok(Some(script)),
+        Err(Fault::Memory) => Err(AllocError),
+        Err(_) => Ok(None),
+    }
+}
+
+/// The script that a job runs, none where it runs none or that can't be read.
+pub fn script_of<V: ReadOnly>(
+    alloc: Global,
+    files: &V,
+    job: &Job,
+) -> Result<Option<Script>, AllocError> {
+    match job {
+        Job::Run { script } => script_in(alloc, files, script),
+        Job::Gen { .. } | Job::Attach { .. } | Job::Turn { .. } | Job::Plan { .. } => Ok(None),
+    }
+}
+
+/// The database that a script may write, none where it only reads.
+fn changed_by_script(script: &Script) -> Option<Name>
+    ensures { result ≡ changed_by_script script.now }
+{
+    if script_writes(script) {
         opened_by(script.first())
     } else {
         None
@@ -114,18 +122,31 @@ fn changed_by_words(job: &Job) -> Option<Name>
     }
 }
 
-/// The database that a job changes, and none where it only reads one. Where a script can't be read the run says why.
-pub fn changed<V: ReadOnly>(alloc: Global, files: &V, job: &Job) -> Option<Name> {
-    match job {
-        Job::Run { script } => changed_by_script(&script_in(alloc, files, script)?),
-        _ => changed_by_words(job),
+/// The database that a script which was read may write, none where none was.
+fn changed_by_read(script: &Option<Script>) -> Option<Name>
+    ensures { result ≡ changed_by_read script.now }
+{
+    match script {
+        Some(script) => changed_by_script(script),
+        None => None,
     }
 }
 
-/// The database that a job opens, and none where it creates one or opens none. Where a script can't be read the run says why.
-pub fn opened<V: ReadOnly>(alloc: Global, files: &V, job: &Job) -> Option<Name> {
+/// The database that a job may write, where this is the script that it runs, and none where it only reads one.
+pub fn changed(script: &Option<Script>, job: &Job) -> Option<Name>
+    ensures { result ≡ changed_by script.now job.now }
+{
     match job {
-        Job::Run { script } => match script_in(alloc, files, script)?.first() {
+        Job::Run { .. } => changed_by_read(script),
+        Job::Gen { .. } | Job::Attach { .. } | Job::Turn { .. } | Job::Plan { .. } =>
+            changed_by_words(job),
+    }
+}
+
+/// The database that a job opens, where this is the script that it runs, and none where it creates one or opens none.
+pub fn opened(script: &Option<Script>, job: &Job) -> Option<Name> {
+    match job {
+        Job::Run { .. } => match script.as_ref()?.first() {
             Statement::OpenDb { name, .. } => Some(name.copied()),
             _ => None,
         },

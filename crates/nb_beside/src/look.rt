@@ -3,7 +3,7 @@ use crate::reading::{Found, ReadOnly};
 use nb_advice::{Cut, History, Origin, There, is_level_of};
 use nb_fields::MOST_PAGES;
 use nb_page::{Header, read_header};
-use std::alloc::Global;
+use std::alloc::{AllocError, Global};
 
 /// The page at which the history of a database begins.
 const HISTORY: u32 = 4;
@@ -80,17 +80,22 @@ impl<'a, V: ReadOnly> Look<'a, V> {
         read_header(&self.first()?)
     }
 
-    /// All its bytes, where it has so many at most.
-    pub fn bytes(&self, alloc: Global, most: u64) -> Option<Vec<u8>> {
+    /// All its bytes, where it has so many at most and they can be read.
+    pub fn all(&self, alloc: Global, most: u64) -> Result<Option<Vec<u8>>, AllocError> {
         if self.found.length > most {
-            return None;
+            return Ok(None);
         }
-        let mut bytes = vec![in alloc; 0; self.found.length as usize].ok()?;
+        let mut bytes = vec![in alloc; 0; self.found.length as usize]?;
         if self.read(0, &mut bytes) {
-            Some(bytes)
+            Ok(Some(bytes))
         } else {
-            None
+            Ok(None)
         }
+    }
+
+    /// The same, and none where there is no memory for them.
+    pub fn bytes(&self, alloc: Global, most: u64) -> Option<Vec<u8>> {
+        self.all(alloc, most).ok()?
     }
 
     /// What the history of a database in the normal state tells: which levels it has, and of the backup of that GUID all that it knows.

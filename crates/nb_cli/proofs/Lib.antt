@@ -1,3 +1,4 @@
 pub mod ReadWords
 pub mod EndLaws
+pub mod ArgLaws
 mod Common

@@ -1,5 +1,5 @@
 // The host.
-ghost use Rattle.std.specs.Prelude.{◌≡◌, ◌⊎◌, [], false, take, None, Ok, IfOk};
+ghost use Rattle.std.specs.Prelude.{◌≡◌, ◌⊎◌, [], ◌∷◌, false, take, None, Ok, IfOk};
 ghost use Rattle.nb_host.specs.Causes.{CountsFault};
 ghost use Rattle.nb_file.specs.Nothing.{silence, silence_timely, untold};
 
@@ -19,7 +19,7 @@ use std::rt::{Clock, Files};
 
 /// Real files, the standard output, the system's random bytes and its clock.
 ///
-/// Contracts see its count of faults, and whether bytes wait to be written: of what its files hold it tells nothing.
+/// Contracts see its count of faults, whether bytes wait to be written, and which names are held alone: of what its files hold it tells nothing.
 #[derive(Drop)]
 pub struct FileHost<R: Files + Drop>
 where
@@ -36,11 +36,12 @@ impl<R: Files + Drop> Model for FileHost<R>
 where
     R::File: Disk,
 {
+    ghost use Rattle.std.specs.Prelude.{option_to_list};
     ghost use Rattle.nb_file.specs.Outside.{Outside};
 
     ghost Value = { Outside };
 
-    ghost view = { λ host. record { faults = host.faults; waiting = host.files.waiting.name; said = host.said } };
+    ghost view = { λ host. record { faults = host.faults; waiting = host.files.waiting.name; said = host.said; alone = option_to_list host.files.alone } };
 }
 
 impl<R: Files + Print + Eprint + Clock + Drop> FileHost<R>
@@ -49,7 +50,7 @@ where
 {
     /// A host with no file open and no fault.
     pub fn new(rt: R, alloc: Global) -> FileHost<R>
-        ensures { result ≡ record { faults = 0; waiting = None; said = [] } }
+        ensures { result ≡ record { faults = 0; waiting = None; said = []; alone = [] } }
     {
         FileHost {
             rt,
@@ -119,7 +120,7 @@ where
     /// From now on the file of that name, and its difference file, are held alone from their first use of any kind on, as by a run that
     /// changes them. Where there is no right to write one, it is opened to read and shared.
     pub fn hold_alone(&mut self, name: Name)
-        ensures { self.new ≡ self.old }
+        ensures { self.new ≡ record self.old { alone = name ∷ [] } }
     {
         self.files.alone = Some(name);
     }
@@ -165,6 +166,7 @@ where
         ensures value { IfOk result (λ value. outcome ≡ Ok value) }
         ensures waiting { self.new.waiting ≡ self.old.waiting }
         ensures said { self.new.said ≡ self.old.said }
+        ensures alone { self.new.alone ≡ self.old.alone }
         ensures cause { CountsFault result self.old.faults self.new.faults }
     {
         match outcome {

@@ -56,7 +56,7 @@ where
 {
     /// None is open, and nothing waits.
     pub fn new(alloc: Global) -> Table<R>
-        ensures { (result.waiting.name ≡ None) × (result.absent ≡ []) }
+        ensures { (result.waiting.name ≡ None) × (result.absent ≡ []) × (result.alone ≡ None) }
     {
         Table {
             alloc,

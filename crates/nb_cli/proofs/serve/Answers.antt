@@ -1,21 +1,23 @@
-use Rattle.std.proofs.Common.{sym, subst}
-use Rattle.nb_cli.proofs.Common.{IsAskedBy, EndsRun}
-use Rattle.nb_cli.proofs.ReadWords.{asked_by, can_be_read}
+use Rattle.nb_cli.proofs.ArgLaws.{IsShort, asked_of, no_job_of, unread, usage_of}
+use Rattle.std.specs.Vec.Iter.{into_iter_items}
+use Rattle.nb_cli.specs.Ended.{listed}
 use Rattle.nb_cli.proofs.serve.Goals as goal
 
-pub run_out-status-requires-clause-read : goal.run_out-status-requires-clause-read
-run_out-status-requires-clause-read g c = can_be_read c.args.words.now c.job_named-job.result c.job_named-job.ensures
-
 pub returns-clause-ends : goal.returns-clause-ends
-returns-clause-ends g c asked ask =
-    let job = c.job_named-job.result in
-    let old = c.args.host.now in
-    let new = c.run_out-status.new.host in
-    let by = asked_by c.args.words.now job (g.H.Host.world old).files asked c.job_named-job.ensures ask in
-    let ends = c.run_out-status.ensures.ends asked (subst (λ (h : g.row.H.Denot). IsAskedBy job (g.H.Host.world h).files asked) (sym c.prepare-before.ensures) by) in
-    record {
-      status = c.run_out-status.result;
-      ends = subst (λ (h : g.row.H.Denot). EndsRun g.H.Host.tells g.H.Host.world c.run_out-status.result old h asked) (sym c.tell.ensures)
-          (subst (λ (h : g.row.H.Denot). EndsRun g.H.Host.tells g.H.Host.world c.run_out-status.result h new asked) c.prepare-before.ensures ends);
-      number = c.exit_code.ensures;
-    }
+returns-clause-ends g c asked ask = record {
+  words = c.words_of-words.result;
+  read = c.words_of-words.ensures;
+  exits = c.serve_words.ensures.ends asked (asked_of (listed into_iter_items c.args.args) c.words_of-words.result (g.H.Host.world c.args.host.now).files asked c.words_of-words.ensures ask);
+}
+
+pub returns-clause-usage : goal.returns-clause-usage
+returns-clause-usage g c = usage_of (listed into_iter_items c.args.args) c.words_of-words.result _ c.words_of-words.ensures c.serve_words.ensures.usage c.serve_words.ensures.memory
+
+pub returns-clause-no_job : goal.returns-clause-no_job
+returns-clause-no_job g c = no_job_of (listed into_iter_items c.args.args) c.words_of-words.result _ c.words_of-words.ensures c.serve_words.ensures.no_job c.serve_words.ensures.memory
+
+pub returns-clause-no_text : goal.returns-clause-no_text
+returns-clause-no_text g c = unread (listed into_iter_items c.args.args) c.words_of-words.result _ c.words_of-words.ensures c.serve_words.ensures.no_text
+
+pub returns-clause-memory : goal.returns-clause-memory
+returns-clause-memory g c = unread (listed into_iter_items c.args.args) c.words_of-words.result _ c.words_of-words.ensures c.serve_words.ensures.memory
