@@ -34,4 +34,6 @@ mod scn_tests;
 #[cfg(test)]
 mod script_tests;
 #[cfg(test)]
+mod ship_tests;
+#[cfg(test)]
 mod words_tests;
