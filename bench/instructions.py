@@ -64,17 +64,22 @@ class Jobs(Database):
         return found
 
 
-def jobs_table(folder, path, page_size):
+def aim(name, page_size):
+    return f"{AIMS[name]:,}" if page_size == 4_096 and name in AIMS else ""
+
+
+def jobs_table(path, page_size):
     """A row for each job: its instructions for each page of the database."""
     pages, counts = [], []
     for mib in SIZES:
-        base = Jobs(folder, path, mib, page_size)
-        pages.append(base.pages)
-        counts.append(base.counts())
+        with Folder() as folder:
+            base = Jobs(folder, path, mib, page_size)
+            pages.append(base.pages)
+            counts.append(base.counts())
     print(f"| Job, pages of {page_size:,} bytes | Instructions a page | Aim |\n|---|---|---|")
     for name, few in counts[0].items():
         each = (counts[1][name] - few) / (pages[1] - pages[0])
-        print(f"| {name} | {each:,.0f} | {AIMS.get(name, '') if page_size == 4_096 else ''} |", flush=True)
+        print(f"| {name} | {each:,.0f} | {aim(name, page_size)} |", flush=True)
 
 
 def raw_page(index):
@@ -105,15 +110,20 @@ def statement_count(folder, path, name, number):
     return instructions(folder, [path, "run", "script"])
 
 
-def statements_table(folder, path, page_size):
+def statements_table(path, page_size):
     """A row for each statement."""
+    with Folder() as folder:
+        show_statements(folder, path, page_size)
+
+
+def show_statements(folder, path, page_size):
     rows = [f"1: insert t {i} 'x'" for i in range(ROWS)]
     folder.write_script("script", [f"1: create database 'kept' page_size {page_size} raw {RAW}", "1: create table t", *rows])
     timed(folder, [path, "run", "script"])
     print(f"| Statement, pages of {page_size:,} bytes | Instructions | Aim |\n|---|---|---|")
     for name in STATEMENTS:
         few, many = (statement_count(folder, path, name, number) for number in (FEW, MANY))
-        print(f"| {name} | {(many - few) / (MANY - FEW):,.0f} | {AIMS.get(name, '') if page_size == 4_096 else ''} |", flush=True)
+        print(f"| {name} | {(many - few) / (MANY - FEW):,.0f} | {aim(name, page_size)} |", flush=True)
 
 
 def main():
@@ -126,10 +136,9 @@ def main():
         sys.exit("valgrind isn't installed")
     in_memory()
     page_size = int(sys.argv[2]) if len(sys.argv) > 2 else 4_096
-    for table in (jobs_table, statements_table):
-        with Folder() as folder:
-            table(folder, path, page_size)
-            print()
+    jobs_table(path, page_size)
+    print()
+    statements_table(path, page_size)
 
 
 if __name__ == "__main__":
