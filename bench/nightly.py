@@ -44,9 +44,9 @@ class Place(Folder):
         self.do(f"1: create database 'a.db' page_size {self.page_size} raw {self.raw}", "1: create table t")
         return self
 
-    def words(self, *words):
-        """The replies to words."""
-        return self.start([self.program, *words], stderr=subprocess.DEVNULL).communicate()[0].decode().splitlines()
+    def words(self, *words, **settings):
+        """The replies to words, with these variables set."""
+        return self.start([self.program, *words], stderr=subprocess.DEVNULL, env=os.environ | settings).communicate()[0].decode().splitlines()
 
     def do(self, *lines):
         """The replies of a script."""

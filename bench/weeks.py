@@ -124,7 +124,8 @@ def locked_by_hand(place):
     # The mark of a night that looked before the other program had the database.
     with open(place.path_of("under-way"), "w", encoding="ascii") as file:
         file.write(f"{place.today()}.1 {scn(place)}\n")
-    place.words("-L", "a.db")
+    # A program that was killed may hold the database a moment longer.
+    place.words("-L", "a.db", NEHUMIRO_WAIT="10")
     yield from stays_locked(place)
     yield from place.nights(2)
 
