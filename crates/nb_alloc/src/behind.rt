@@ -4,7 +4,7 @@ ghost use Rattle.std.specs.Prelude.{◌≡◌, ◌≢◌, ◌<◌, ◌++◌, ◌
 ghost use Rattle.nb_fields.specs.Places.{most_pages};
 ghost use Rattle.nb_fields.specs.Kinds.{data_kind};
 ghost use Rattle.nb_host.specs.declared.faults.Fault.TheVariants.{Memory};
-ghost use Rattle.nb_host.specs.Causes.{CountsDevice, CountsFault};
+ghost use Rattle.nb_host.specs.Causes.{CountsDevice, CountsFault, FaultCount};
 ghost use Rattle.nb_host.specs.declared.refusals.Refusal.TheVariants.{NotDatabase};
 ghost use Rattle.nb_model.specs.Causes.{Tested, lowest_broken};
 ghost use Rattle.nb_model.specs.Forms.{is_kind, scn_page_of};
@@ -91,7 +91,7 @@ impl Behind {
         ensures value { IfOk result (λ first. found ≡ Ok first) }
         ensures kept { OnOk result (self.now.lost ≡ false) }
         ensures ended { EndsAlike found result }
-        ensures cause { (old new : ℕ) → CountsDevice found old new → CountsDevice result old new }
+        ensures cause { (old new : FaultCount) → CountsDevice found old new → CountsDevice result old new }
         ensures takes_none { IfErr found (λ fault. fault ≢ Memory) → IfErr result (λ fault. fault ≢ Memory) }
     {
         let of_entry = with_page(found, self.entry > 0, self.entry);
@@ -178,7 +178,7 @@ fn with_page(found: Result<u32, Fault>, counts: bool, page: u32) -> Result<u32, 
     ensures value { IfOk result (λ first. found ≡ Ok first) }
     ensures none { OnOk result (counts ≡ false) }
     ensures ended { EndsAlike found result }
-    ensures cause { (old new : ℕ) → CountsDevice found old new → CountsDevice result old new }
+    ensures cause { (old new : FaultCount) → CountsDevice found old new → CountsDevice result old new }
     ensures takes_none { IfErr found (λ fault. fault ≢ Memory) → IfErr result (λ fault. fault ≢ Memory) }
 {
     if !counts {

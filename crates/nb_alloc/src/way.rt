@@ -2,7 +2,7 @@
 ghost use Rattle.std.specs.Prelude.{◌≡◌, ◌≢◌, ℕ, ◌+◌, ◌-◌, ◌*◌, ◌/◌, ◌<◌, ◌≤◌, ◌==◌, ◌&&◌, nat_lt, true, false, IsTrue, IfErr, IfOk, OnOk, length};
 ghost use Rattle.nb_fields.specs.Places.{is_page_size, bits_in, inventory_place, is_system_place, most_pages};
 ghost use Rattle.nb_host.specs.declared.faults.Fault.TheVariants.{Memory};
-ghost use Rattle.nb_host.specs.Causes.{CountsDevice, CountsFault};
+ghost use Rattle.nb_host.specs.Causes.{CountsDevice, CountsFault, FaultCount};
 ghost use Rattle.nb_model.specs.Image.{Image};
 ghost use Rattle.nb_model.specs.Forms.{inventory_of, is_kind, system_kind, first_not};
 ghost use Rattle.nb_model.proofs.OnwardLaws.{IsOnTheWay};
@@ -167,7 +167,7 @@ fn check_map_entry<H: Host>(
 fn was_there(read: Result<(), Fault>) -> Result<bool, HostFault>
     requires { IfErr read (λ fault. fault ≢ Memory) }
     ensures value { (image : Image) (kind place : ℕ) → Tested read (not_kind image kind place) → IfOk result (λ there. there ≡ is_kind image kind place) }
-    ensures cause { (old new : ℕ) → CountsDevice read old new → CountsFault result old new }
+    ensures cause { (old new : FaultCount) → CountsDevice read old new → CountsFault result old new }
 {
     match read {
         Ok(()) => Ok(true),

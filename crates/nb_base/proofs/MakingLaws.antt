@@ -2,6 +2,7 @@
 use Rattle.std.proofs.Common.{◌≡◌, ◌≢◌, ◌⊎◌, inl, inr, ⊎_elim, ℕ, ◌*◌, ◌≤◌, List, [], length, take, sym, ◌∙◌, ap, subst, Bool, true, IsTrue, Some, Result, Ok, Err, OnOk}
 use Rattle.nb_base.proofs.Common.{on_ok_weaker, is_zeros, fresh, fresh_count, fresh_page, is_page_size, File, Files, bytes_of, with_file, World, Leaves, LeavesAll, PageLeft, IsDurable, Untouched, WholeOrNot, Remakes, WritesPage, Syncs, IsSilent, Passes, IsTimely, Changes, Only, GaveNothing, untouched_fewer, whole-other, begun, one_more, still_more, durable_is, Image, base_of, owner, delta_name, ShowsIn, CreateLeft, CreateReads, IsSettled, with_file-named, blank_free, blank_put, blank_left}
 use Rattle.nb_fields.specs.Free.{is_free_file}
+use Rattle.nb_host.specs.Causes.{FaultCount}
 use Rattle.nb_host.specs.Files.{with_page}
 use Rattle.nb_base.proofs.CreateLaws.{HasRest, whole_shows}
 use Rattle.nb_page.proofs.BlankLaws.{IsBlank}
@@ -90,7 +91,7 @@ module _ (name : List ℕ) (image : Image) where
   synced_whole tells result old mid new so_far is silent time = still_more old mid new (Only name) _ so_far time is.still silent.said
 
 -- How far the making has come: the pages from 1 on, up to this number, are written, and no call failed.
-pub record MakesFile {H : Type 0} (tells : Bool) (world : H → World) (faults : H → ℕ) (start here : H) (name : List ℕ) (size raw number : ℕ) : Type 0 where
+pub record MakesFile {H : Type 0} (tells : Bool) (world : H → World) (faults : H → FaultCount) (start here : H) (name : List ℕ) (size raw number : ℕ) : Type 0 where
   pub making : IsTrue tells → Making (world start) (world here) name (fresh size raw)
   pub pages : IsTrue tells → HasRest size raw number ((world here).files name)
   pub gave : GaveNothing (world start) (world here)
@@ -105,7 +106,7 @@ pub record KeepsRest (old w : World) (name : List ℕ) (size raw : ℕ) : Type 0
   pub whole : (page : List ℕ) → page ≡ fresh_page size raw 0 → (d : File) → owner name (with_page file (0 * length page) page) d ≡ Ok (base_of (fresh size raw))
 
 -- all pages but the first were written, and synced
-pub rest_kept : {H T E : Type 0} (tells : Bool) (world : H → World) (faults : H → ℕ) (start here : H) (name : List ℕ) (size raw number count : ℕ) (value : T) (new : World) → IsTrue tells → IsTrue (is_page_size size) → raw ≤ 65535
+pub rest_kept : {H T E : Type 0} (tells : Bool) (world : H → World) (faults : H → FaultCount) (start here : H) (name : List ℕ) (size raw number count : ℕ) (value : T) (new : World) → IsTrue tells → IsTrue (is_page_size size) → raw ≤ 65535
     → count ≡ fresh_count size raw → count ≤ number → (1 ≤ count → number ≤ count) → MakesFile tells world faults start here name size raw number
     → Syncs {T = T} {E = E} tells (Ok value) (world here) new name → IsSilent (world here) new → Passes (world here) new → KeepsRest (world start) new name size raw
 rest_kept {H} {T} {E} tells world faults start here name size raw number count value new so is few count_is done within makes sync silent time = record {

@@ -3,7 +3,7 @@ ghost use Rattle.std.specs.Prelude.{◌≡◌, ◌+◌, ◌*◌, ◌<◌, ◌≤
 ghost use Rattle.nb_fields.specs.Bytes.{is_zeros};
 ghost use Rattle.nb_fields.specs.Header.{size_of};
 ghost use Rattle.nb_fields.specs.Places.{is_page_size, most_pages};
-ghost use Rattle.nb_host.specs.Causes.{CountsDevice, CountsFault};
+ghost use Rattle.nb_host.specs.Causes.{CountsDevice, CountsFault, FaultCount};
 ghost use Rattle.nb_host.specs.Crash.{IsDurable};
 ghost use Rattle.nb_delta.specs.Attaching.{IsFor};
 ghost use Rattle.nb_page.specs.Quiet.{Quiet};
@@ -44,7 +44,7 @@ fn count_pages(len: u64, page_size: u32) -> Result<u32, Fault>
     ensures whole { IfOk result (λ pages. len ≡ pages * page_size) }
     ensures least { IfOk result (λ pages. 5 ≤ pages) }
     ensures most { IfOk result (λ pages. pages ≤ most_pages) }
-    ensures cause { (faults : ℕ) → CountsDevice result faults faults }
+    ensures cause { (faults : FaultCount) → CountsDevice result faults faults }
 {
     let size = u64::from(page_size);
     let pages = len / size;
@@ -67,7 +67,7 @@ fn start_of(first: &[u8], len: u64) -> Result<Start, Fault>
     ensures opened { IfOk result (λ start. start.state ≤ 2) }
     ensures least { IfOk result (λ start. 5 ≤ start.pages) }
     ensures most { IfOk result (λ start. start.pages ≤ most_pages) }
-    ensures cause { (faults : ℕ) → CountsDevice result faults faults }
+    ensures cause { (faults : FaultCount) → CountsDevice result faults faults }
 {
     if first.len() < header::LENGTH {
         return Err(Fault::Refused(Refusal::NotDatabase { page: 0 }));

@@ -1,7 +1,7 @@
-ghost use Rattle.std.specs.Prelude.{◌≡◌, ◌≤◌, ℕ, [], length, is_some, IfSome, IfOk};
+ghost use Rattle.std.specs.Prelude.{◌≡◌, ◌≤◌, [], length, is_some, IfSome, IfOk};
 ghost use Rattle.nb_host.specs.declared.faults.Fault.TheVariants.{Refused};
 ghost use Rattle.nb_host.specs.declared.refusals.Refusal.TheVariants.{BadScript};
-ghost use Rattle.nb_host.specs.Causes.{CountsDevice};
+ghost use Rattle.nb_host.specs.Causes.{CountsDevice, FaultCount};
 ghost use Rattle.nb_model.specs.Words.{is_file};
 ghost use Rattle.nb_script.specs.Lines.{left};
 ghost use Rattle.nb_catalog.specs.Answers.{Says};
@@ -54,7 +54,7 @@ fn bad(line: u32) -> Fault
 fn names_on(alloc: Global, mut lines: Lines<'_>) -> Result<NameList, Fault>
     ensures exact { Says (names_on 1000 [] (left lines.entry.passed lines.entry.rest.now)) result }
     ensures most { IfOk result (λ names. length names ≤ 1000) }
-    ensures cause { (faults : ℕ) → CountsDevice result faults faults }
+    ensures cause { (faults : FaultCount) → CountsDevice result faults faults }
 {
     let mut names = NameList::new(alloc);
     while let Some(line) = lines.next() {
@@ -80,7 +80,7 @@ pub fn read_list(alloc: Global, bytes: &[u8]) -> Result<NameList, Fault>
     ensures some { IfOk result (λ names. 1 ≤ length names) }
     ensures most { IfOk result (λ names. length names ≤ 1000) }
     ensures distinct { IfOk result AreDistinct }
-    ensures cause { (faults : ℕ) → CountsDevice result faults faults }
+    ensures cause { (faults : FaultCount) → CountsDevice result faults faults }
 {
     if bytes.len() > MOST_BYTES {
         let bytes = bytes.len() as u64;

@@ -4,7 +4,7 @@ ghost use Rattle.nb_page.specs.Header.{header_in, HasForm};
 ghost use Rattle.nb_page.specs.Quiet.{Quiet};
 ghost use Rattle.nb_model.specs.Levels.{begins_level};
 ghost use Rattle.nb_model.specs.Restoring.{not_whole};
-ghost use Rattle.nb_host.specs.Causes.{CountsDevice};
+ghost use Rattle.nb_host.specs.Causes.{CountsDevice, FaultCount};
 ghost use Rattle.nb_model.specs.Causes.{TestedAlone};
 ghost use Rattle.nb_chain.specs.First.{FirstSays, IsRefused, is_bad_count};
 ghost use Rattle.nb_chain.specs.Most.{first_most, level_most};
@@ -62,7 +62,7 @@ fn whole_pages(name: &Name, first: &[u8], len: u64) -> Result<First, Fault>
     ensures least { IfOk result (λ file. 5 ≤ file.pages) }
     ensures most { IfOk result (λ file. file.pages ≤ most_pages) }
     ensures pages { IfOk result (λ file. len ≡ file.pages * file.header.page_size) }
-    ensures cause { (faults : ℕ) → CountsDevice result faults faults }
+    ensures cause { (faults : FaultCount) → CountsDevice result faults faults }
 {
     if first.len() < header::LENGTH {
         return Err(broken(name, 0));

@@ -1,4 +1,4 @@
-ghost use Rattle.std.specs.Prelude.{◌≡◌, ◌+◌, ◌≤◌, IsTrue, true, false, length, ℕ, ◌==◌, IfOk, OnOk};
+ghost use Rattle.std.specs.Prelude.{◌≡◌, ◌+◌, ◌≤◌, IsTrue, true, false, length, ◌==◌, IfOk, OnOk};
 ghost use Rattle.nb_fields.specs.Bytes.{number_in};
 ghost use Rattle.nb_fields.specs.Header.{signature};
 ghost use Rattle.nb_fields.specs.Places.{is_page_size};
@@ -7,7 +7,7 @@ ghost use Rattle.nb_host.specs.declared.refusals.Refusal.TheVariants.{BadLevel, 
 ghost use Rattle.nb_page.specs.Quiet.{Quiet};
 ghost use Rattle.nb_model.specs.Levels.{Contents};
 ghost use Rattle.nb_model.specs.Restoring.{not_behind};
-ghost use Rattle.nb_host.specs.Causes.{CountsDevice};
+ghost use Rattle.nb_host.specs.Causes.{CountsDevice, FaultCount};
 ghost use Rattle.nb_level.specs.Heads.{head_of};
 ghost use Rattle.nb_model.specs.Causes.{TestedAlone};
 ghost use Rattle.nb_chain.specs.Most.{level_most};
@@ -56,7 +56,7 @@ fn no_level(name: &Name, first: &[u8], place: u32) -> Fault
 pub fn goes_on(head: &LevelHead, last: &Tip, name: &Name, place: u32) -> Result<(), Fault>
     ensures test { (c : Contents) → c.head ≡ head_of head.now → TestedAlone result (not_behind place (tip_link last.now) name.now c) }
     ensures size { OnOk result (head.now.page_size ≡ last.now.page_size) }
-    ensures cause { (faults : ℕ) → CountsDevice result faults faults }
+    ensures cause { (faults : FaultCount) → CountsDevice result faults faults }
 {
     let refusal = if u32::from(head.level) != place {
         Refusal::ChainLevel {

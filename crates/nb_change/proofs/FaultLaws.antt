@@ -1,7 +1,7 @@
 -- An error of what can't be refused, where `?` makes a fault of it.
-use Rattle.std.proofs.Common.{◌≡◌, ◌≢◌, ℕ, refl, sym, ◌∙◌, subst, Result, Err, IsErr, IsErrAnd, IfErr}
+use Rattle.std.proofs.Common.{◌≡◌, ◌≢◌, refl, sym, ◌∙◌, subst, Result, Err, IsErr, IsErrAnd, IfErr}
 use Rattle.nb_change.proofs.Common.{device_memory}
-use Rattle.nb_host.specs.Causes.{CountsDevice, CountsRun}
+use Rattle.nb_host.specs.Causes.{CountsDevice, CountsRun, FaultCount}
 use Rattle.nb_host.specs.Faults.{as_fault}
 use Rattle.nb_host.specs.declared.faults.Fault.{Fault}
 use Rattle.nb_host.specs.declared.faults.Fault.TheVariants.{Device, Memory}
@@ -14,9 +14,9 @@ module _ {T : Type 0} (result : Result T Fault) (error : RunError) (passed : IsE
   is_passed : (P : Result T Fault → Type 0) → P (Err (as_fault error)) → P result
   is_passed P is = subst P (sym (passed_on result (as_fault error) passed)) is
 
-  pub counts_passed : (S : Type 0) (old mid new : ℕ) → mid ≡ old → CountsRun {T = S} (Err error) mid new → CountsDevice result old new
+  pub counts_passed : (S : Type 0) (old mid new : FaultCount) → mid ≡ old → CountsRun {T = S} (Err error) mid new → CountsDevice result old new
   counts_passed S old mid new same counts =
-      is_passed (λ (r : Result T Fault). CountsDevice r old new) (by error (subst (λ (n : ℕ). CountsRun {T = S} (Err error) n new) same counts))
+      is_passed (λ (r : Result T Fault). CountsDevice r old new) (by error (subst (λ (n : FaultCount). CountsRun {T = S} (Err error) n new) same counts))
     where
       by : (e : RunError) → CountsRun {T = S} (Err e) old new → CountsDevice {T = T} (Err (as_fault e)) old new
       by DeviceError is = is

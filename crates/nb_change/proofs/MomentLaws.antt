@@ -5,7 +5,6 @@ use Rattle.nb_change.proofs.Common.{File, Files, World, Leaves, Untouched, IsNow
 -- before the first call
 pub started : (old : World) (P : Files → List ℕ → Type 0) → IsTimely old → ((files : Files) (said : List ℕ) → IsNow old files said → P files said) → AtEachMoment old old P
 started old P timely here = record {
-  same = refl;
   later = omega arith;
   each = λ files said left. here files said (timely.only_now files said left);
   earlier = λ t files said le left. inl left;
@@ -14,7 +13,6 @@ started old P timely here = record {
 -- one call more
 pub goes_on : (old mid new : World) (P here : Files → List ℕ → Type 0) → AtEachMoment old mid P → Elapses mid new here → ((files : Files) (said : List ℕ) → here files said → P files said) → AtEachMoment old new P
 goes_on old mid new P here so_far time now = record {
-  same = time.same ∙ so_far.same;
   later = omega (arith, so_far.later, time.later);
   each = λ files said left. ⊎_elim (so_far.each files said) (now files said) (time.nothing_else old.moment files said so_far.later left);
   earlier = λ t files said le left.
@@ -25,7 +23,6 @@ goes_on old mid new P here so_far time now = record {
 pub joined : (old mid new : World) (P Q R : Files → List ℕ → Type 0) → AtEachMoment old mid P → AtEachMoment mid new Q
     → ((files : Files) (said : List ℕ) → P files said → R files said) → ((files : Files) (said : List ℕ) → Q files said → R files said) → AtEachMoment old new R
 joined old mid new P Q R first second pr qr = record {
-  same = second.same ∙ first.same;
   later = omega (arith, first.later, second.later);
   each = λ files said left. ⊎_elim (λ is. pr files said (first.each files said is)) (qr files said) (second.earlier old.moment files said first.later left);
   earlier = λ t files said le left.
@@ -36,7 +33,6 @@ joined old mid new P Q R first second pr qr = record {
 -- less is said of each moment
 pub weaker : (old new : World) (P Q : Files → List ℕ → Type 0) → AtEachMoment old new P → ((files : Files) (said : List ℕ) → P files said → Q files said) → AtEachMoment old new Q
 weaker old new P Q is pq = record {
-  same = is.same;
   later = is.later;
   each = λ files said left. pq files said (is.each files said left);
   earlier = λ t files said le left. ⊎_elim inl (λ p. inr (pq files said p)) (is.earlier t files said le left);

@@ -16,7 +16,7 @@ ends_at_once tells world status old new asked run = record {
   run = run;
   still = record { files = refl; left = record { back = λ m file is b. b; now = λ m file is n. n } };
   silent = record { said = refl; reads = refl; guids = refl; times = refl };
-  passes = record { same = refl; later = omega arith; nothing_else = λ t files said le left. inl left; keeps = λ t files said le left. left };
+  passes = record { later = omega arith; nothing_else = λ t files said le left. inl left; keeps = λ t files said le left. left };
   ended = inl refl;
 }
 

@@ -2,7 +2,7 @@
 ghost use Rattle.std.specs.Prelude.{◌≡◌, ◌≢◌, ◌<◌, ◌≤◌, ℕ, List, [], ◌∷◌, true, IsTrue, IfErr, IfOk, length};
 ghost use Rattle.nb_fields.specs.Places.{is_page_size, most_pages};
 ghost use Rattle.nb_host.specs.declared.faults.Fault.TheVariants.{Memory};
-ghost use Rattle.nb_host.specs.Causes.{CountsDevice};
+ghost use Rattle.nb_host.specs.Causes.{CountsDevice, FaultCount};
 ghost use Rattle.nb_fields.specs.Page.{kind_of};
 ghost use Rattle.nb_fields.specs.States.{stalled_state};
 ghost use Rattle.nb_fields.specs.Kinds.{data_kind, scn_kind};
@@ -37,7 +37,7 @@ const NO_ROWS: [u8; 16] = [0, 0, 0, 0, 1, 0, 0, 0, 0, 0, 0, 0, 0, 0, 0, 0];
 /// Tests that a backup that begins at this SCN may end. The refusal is `ScnExhausted`.
 fn check_scn(scn: u32) -> Result<(), Fault>
     ensures test { (image : Image) → scn ≡ image_scn image → Tested result (no_scn image) }
-    ensures cause { (faults : ℕ) → CountsDevice result faults faults }
+    ensures cause { (faults : FaultCount) → CountsDevice result faults faults }
     ensures takes_none { IfErr result (λ fault. fault ≢ Memory) }
 {
     if scn > LAST_SCN {

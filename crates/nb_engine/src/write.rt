@@ -1,8 +1,8 @@
 // Raw pages are written and read.
-ghost use Rattle.std.specs.Prelude.{◌≡◌, ◌≢◌, ◌≤◌, [], ◌∷◌, ◌+◌, ℕ, IsTrue, IfErr, Err, OnOk, length};
+ghost use Rattle.std.specs.Prelude.{◌≡◌, ◌≢◌, ◌≤◌, [], ◌∷◌, ◌+◌, IsTrue, IfErr, Err, OnOk, length};
 ghost use Rattle.nb_fields.specs.States.{stalled_state};
 ghost use Rattle.nb_host.specs.declared.faults.Fault.TheVariants.{Memory};
-ghost use Rattle.nb_host.specs.Causes.{CountsDevice};
+ghost use Rattle.nb_host.specs.Causes.{CountsDevice, FaultCount};
 ghost use Rattle.nb_model.specs.Causes.{Tested, first_cause, read_only, too_long};
 ghost use Rattle.nb_model.specs.Image.{Image, is_read_only};
 ghost use Rattle.nb_model.specs.Trail.{Trail};
@@ -26,7 +26,7 @@ use nb_page::raw_text;
 fn check_write(closed: bool, text: &[u8]) -> Result<(), Fault>
     ensures test { (image : Image) → closed ≡ is_read_only image → Tested result (first_cause (read_only image ∷ too_long text.now ∷ [])) }
     ensures short { OnOk result (length text.now ≤ 200) }
-    ensures cause { (faults : ℕ) → CountsDevice result faults faults }
+    ensures cause { (faults : FaultCount) → CountsDevice result faults faults }
     ensures takes_none { IfErr result (λ fault. fault ≢ Memory) }
 {
     if closed {

@@ -7,7 +7,7 @@ use Rattle.nb_host.specs.Moments.{IsTimely}
 
 -- no file, no output, and nothing that a crash may leave
 abbrev pub silence : World
-silence = record { own = []; files = λ _. None; said = []; reads = 0; guids = []; times = []; back = λ _ _. ⊥; now = λ _ _. ⊥; moment = 0; left_since = λ _ _ _. ⊥ }
+silence = record { files = λ _. None; said = []; reads = 0; guids = []; times = []; back = λ _ _. ⊥; now = λ _ _. ⊥; moment = 0; left_since = λ _ _ _. ⊥ }
 
 neither : {P : Type 0} → ⊥ ⊎ ⊥ → P
 neither (inl none) = absurd none

@@ -1,6 +1,6 @@
 // The host.
 ghost use Rattle.std.specs.Prelude.{◌≡◌, ◌⊎◌, [], ◌∷◌, false, take, None, Ok, IfOk};
-ghost use Rattle.nb_host.specs.Causes.{CountsFault};
+ghost use Rattle.nb_host.specs.Causes.{CountsFault, own_count};
 ghost use Rattle.nb_file.specs.Nothing.{silence, silence_timely, untold};
 
 use crate::disk::Disk;
@@ -155,7 +155,7 @@ where
     /// where it fails.
     pub fn flush(&mut self) -> Result<(), HostFault>
         ensures none { self.new.waiting ≡ None }
-        ensures cause { CountsFault result self.old.faults self.new.faults }
+        ensures cause { CountsFault result (own_count self.old.faults) (own_count self.new.faults) }
     {
         let outcome = self.files.flush();
         self.answer(outcome)
@@ -167,7 +167,7 @@ where
         ensures waiting { self.new.waiting ≡ self.old.waiting }
         ensures said { self.new.said ≡ self.old.said }
         ensures alone { self.new.alone ≡ self.old.alone }
-        ensures cause { CountsFault result self.old.faults self.new.faults }
+        ensures cause { CountsFault result (own_count self.old.faults) (own_count self.new.faults) }
     {
         match outcome {
             Ok(value) => Ok(value),
@@ -209,7 +209,7 @@ where
 
     ghost world = { λ _. silence };
 
-    ghost faults = { λ host. host.faults };
+    ghost faults = { λ host. own_count host.faults };
 
     ghost timely = { λ _. silence_timely };
 

@@ -1,6 +1,6 @@
 // A copy that is to be fixed is tested, and its page 0 is read.
 ghost use Rattle.std.specs.Prelude.{◌≡◌, ◌≢◌, ◌≤◌, ◌+◌, ℕ, List, true, None, Some, IfErr, IfOk, IsTrue, MatchOption, length, take};
-ghost use Rattle.nb_host.specs.Causes.{CountsDevice};
+ghost use Rattle.nb_host.specs.Causes.{CountsDevice, FaultCount};
 ghost use Rattle.nb_fields.specs.Header.{is_header, size_of};
 ghost use Rattle.nb_fields.specs.Places.{is_page_size};
 ghost use Rattle.nb_host.specs.declared.faults.Fault.TheVariants.{Memory as MemoryFault};
@@ -48,7 +48,7 @@ fn page_size_of(first: &[u8], len: u64) -> Result<u32, Fault>
     ensures one_of { IfOk result (λ size. IsTrue (is_page_size size)) }
     ensures whole { IfOk result (λ size. size ≤ length first.now) }
     ensures no_memory { IfErr result (λ fault. fault ≢ MemoryFault) }
-    ensures cause { (faults : ℕ) → CountsDevice result faults faults }
+    ensures cause { (faults : FaultCount) → CountsDevice result faults faults }
 {
     if first.len() < header::LENGTH {
         return Err(no_database(0));

@@ -1,5 +1,5 @@
-ghost use Rattle.std.specs.Prelude.{◌≡◌, ◌+◌, ◌<◌, ℕ, length, IsTrue, IfOk, OnOk, Option, Err};
-ghost use Rattle.nb_host.specs.Causes.{CountsDevice};
+ghost use Rattle.std.specs.Prelude.{◌≡◌, ◌+◌, ◌<◌, length, IsTrue, IfOk, OnOk, Option, Err};
+ghost use Rattle.nb_host.specs.Causes.{CountsDevice, FaultCount};
 ghost use Rattle.nb_model.specs.Levels.{Contents};
 ghost use Rattle.nb_level.specs.Heads.{head_of};
 ghost use Rattle.nb_page.specs.Quiet.{Quiet};
@@ -19,7 +19,7 @@ use std::alloc::Global;
 fn goes_on_from(sources: &[Source], head: &LevelHead, name: &Name) -> Result<(), Fault>
     ensures test { (last : Option Contents) (c : Contents) → IsLast sources.now last → c.head ≡ head_of head.now → TestedAlone result (not_after last name.now c) }
     ensures size { OnOk result (0 < length sources.now → AreAlike sources.now → head.now.page_size ≡ first_size sources.now) }
-    ensures cause { (faults : ℕ) → CountsDevice result faults faults }
+    ensures cause { (faults : FaultCount) → CountsDevice result faults faults }
 {
     if sources.is_empty() {
         return Ok(());

@@ -17,7 +17,6 @@ pub record IsWhileSaying (old new : World) (files : Files) (said : List ℕ) : T
 
 -- Time goes on, from `old` to `new` of the same host: the moments that count are those that counted, and those that are `here`.
 pub record Elapses (old new : World) (here : Files → List ℕ → Type 0) : Type 0 where
-  pub same : new.own ≡ old.own
   pub later : old.moment ≤ new.moment
   pub nothing_else : (t : ℕ) (files : Files) (said : List ℕ) → t ≤ old.moment → new.left_since t files said → old.left_since t files said ⊎ here files said
   pub keeps : (t : ℕ) (files : Files) (said : List ℕ) → t ≤ old.moment → old.left_since t files said → new.left_since t files said
@@ -37,7 +36,6 @@ pub record IsTimely (w : World) : Type 0 where
 
 -- P holds at each moment from `old` to `new` of the same host
 pub record AtEachMoment (old new : World) (P : Files → List ℕ → Type 0) : Type 0 where
-  pub same : new.own ≡ old.own
   pub later : old.moment ≤ new.moment
   pub each : (files : Files) (said : List ℕ) → new.left_since old.moment files said → P files said
   -- seen by a run of calls that began earlier

@@ -3,8 +3,6 @@ use Rattle.std.specs.Prelude.{ℕ, List}
 use Rattle.nb_host.specs.Files.{File, Files}
 
 pub record World : Type 1 where
-  -- what the host itself is, which no call changes: a host that works over another says here over which, and on which files
-  pub own : List (List ℕ)
   -- the files as they read
   pub files : Files
   -- the output so far

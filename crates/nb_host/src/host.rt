@@ -4,7 +4,7 @@ ghost use Rattle.nb_host.specs.World.{World};
 ghost use Rattle.nb_host.specs.Crash.{Leaves, Untouched};
 ghost use Rattle.nb_host.specs.Calls.{IsStill, Remakes, WritesPage, AppendsBytes, Syncs, ReadsPage, ReadsBytes, IsSilent, CountsRead, Says, GivesGuid, GivesTime};
 ghost use Rattle.nb_host.specs.Moments.{Passes, PassesSaying, IsTimely};
-ghost use Rattle.nb_host.specs.Causes.{CountsFault};
+ghost use Rattle.nb_host.specs.Causes.{CountsFault, FaultCount};
 
 use crate::{HostFault, Name};
 
@@ -23,8 +23,8 @@ pub trait Host {
     /// All that it tells.
     ghost world: { Self → World };
 
-    /// How often a call has failed.
-    ghost faults: { Self → ℕ };
+    /// How often a call has failed, and whose count that is.
+    ghost faults: { Self → FaultCount };
 
     /// The number of bytes of a file, and none where there is no such file.
     fn size(&mut self, name: &Name) -> Result<Option<u64>, HostFault>

@@ -1,6 +1,6 @@
 // Whether a level file is the one to merge into a standby.
-ghost use Rattle.std.specs.Prelude.{◌≡◌, ℕ, IfOk, IsTrue, OnOk};
-ghost use Rattle.nb_host.specs.Causes.{CountsDevice};
+ghost use Rattle.std.specs.Prelude.{◌≡◌, IfOk, IsTrue, OnOk};
+ghost use Rattle.nb_host.specs.Causes.{CountsDevice, FaultCount};
 ghost use Rattle.nb_host.specs.declared.refusals.Refusal.TheVariants.{ChainSize};
 ghost use Rattle.nb_model.specs.Levels.{Contents};
 ghost use Rattle.nb_page.specs.Header.{HasForm};
@@ -34,7 +34,7 @@ fn other_size(standby: &Standby, head: &LevelHead, file: &Name) -> Refusal
 fn finishes(standby: &Standby, head: &LevelHead, file: &Name) -> Result<(), Fault>
     ensures test { (c : Contents) → c.head ≡ head_of head.now → TestedByReads result (not_the_same standby.now file.now c) }
     ensures size { OnOk result (head.now.page_size ≡ standby.now.header.page_size) }
-    ensures cause { (faults : ℕ) → CountsDevice result faults faults }
+    ensures cause { (faults : FaultCount) → CountsDevice result faults faults }
 {
     let header = &standby.header;
     let refusal = if header.pending != head.guid || header.guid != head.previous {
@@ -54,7 +54,7 @@ fn goes_on(standby: &Standby, head: &LevelHead, file: &Name) -> Result<(), Fault
     requires { HasForm standby.now.header }
     ensures test { (c : Contents) → c.head ≡ head_of head.now → TestedByReads result (not_behind standby.now file.now c) }
     ensures size { OnOk result (head.now.page_size ≡ standby.now.header.page_size) }
-    ensures cause { (faults : ℕ) → CountsDevice result faults faults }
+    ensures cause { (faults : FaultCount) → CountsDevice result faults faults }
 {
     let header = &standby.header;
     let refusal = if head.previous != header.guid {
@@ -85,7 +85,7 @@ fn accept_head(standby: &Standby, head: &LevelHead, file: &Name) -> Result<(), F
     requires { HasForm standby.now.header }
     ensures test { (c : Contents) → c.head ≡ head_of head.now → TestedByReads result (head_cause standby.now file.now c) }
     ensures size { OnOk result (head.now.page_size ≡ standby.now.header.page_size) }
-    ensures cause { (faults : ℕ) → CountsDevice result faults faults }
+    ensures cause { (faults : FaultCount) → CountsDevice result faults faults }
 {
     if standby.is_begun {
         finishes(standby, head, file)

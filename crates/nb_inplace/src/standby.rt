@@ -1,6 +1,6 @@
 // What a standby is, by its first bytes and its length.
 ghost use Rattle.std.specs.Prelude.{◌≡◌, ◌+◌, ◌*◌, ◌≤◌, ℕ, List, true, Some, IfOk, IsTrue, length, take};
-ghost use Rattle.nb_host.specs.Causes.{CountsDevice};
+ghost use Rattle.nb_host.specs.Causes.{CountsDevice, FaultCount};
 ghost use Rattle.nb_fields.specs.Header.{is_header, size_of};
 ghost use Rattle.nb_fields.specs.Places.{is_page_size, most_pages};
 ghost use Rattle.nb_host.specs.declared.refusals.Refusal.TheVariants.{NotDatabase};
@@ -47,7 +47,7 @@ fn pages_in(len: u64, page_size: u32) -> Result<u32, Fault>
     ensures pages { IfOk result (λ pages. len ≡ pages * page_size) }
     ensures least { IfOk result (λ pages. 5 ≤ pages) }
     ensures most { IfOk result (λ pages. pages ≤ most_pages) }
-    ensures cause { (faults : ℕ) → CountsDevice result faults faults }
+    ensures cause { (faults : FaultCount) → CountsDevice result faults faults }
 {
     let size = u64::from(page_size);
     let most = u64::from(MOST_PAGES);
@@ -63,7 +63,7 @@ fn standby_in(first: &[u8], len: u64) -> Result<Standby, Fault>
     ensures test { (name bytes : List ℕ) → length bytes ≡ len → first.now ≡ take 66 bytes → TestedByReads result (not_standby name (Some bytes)) }
     ensures value { (bytes : List ℕ) → length bytes ≡ len → first.now ≡ take 66 bytes → IfOk result (IsStandby bytes) }
     ensures whole { IfOk result IsWholeStandby }
-    ensures cause { (faults : ℕ) → CountsDevice result faults faults }
+    ensures cause { (faults : FaultCount) → CountsDevice result faults faults }
 {
     if first.len() < START {
         return Err(no_database(0));

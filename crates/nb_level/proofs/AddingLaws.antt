@@ -41,7 +41,6 @@ module _ {T E : Type 0} (tells : Bool) (old mid : World) (name first second : Li
 
     begun : Passes old mid → Elapses old mid (IsWhileAdding old name first second)
     begun time = record {
-      same = time.same;
       later = time.later;
       nothing_else = λ t files said le left. ⊎_elim inl (λ here. inr (during mid left_mid silent files said here)) (time.nothing_else t files said le left);
       keeps = time.keeps;
@@ -87,7 +86,6 @@ module _ {T E : Type 0} (tells : Bool) (old mid : World) (name first second : Li
       elapsed : Elapses old new (IsWhileAdding old name first second)
       elapsed =
           let so_far = begun (Ok x) one silent.said time in record {
-            same = passes.same ∙ so_far.same;
             later = omega (arith, so_far.later, passes.later);
             nothing_else = λ t files said le left. ⊎_elim
                 (so_far.nothing_else t files said le)

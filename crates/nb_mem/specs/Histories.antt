@@ -94,7 +94,6 @@ LeftSince (e ∷ es) t files said = ((t ≤ length es + 1) × LeftAt (e ∷ es) 
 -- all that the calls tell; the number of a moment is that of the calls before it
 abbrev pub world_of : List Entry → World
 world_of es = record {
-  own = [];
   files = files_of es;
   said = said_of es;
   reads = reads_of es;

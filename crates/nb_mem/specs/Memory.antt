@@ -1,7 +1,7 @@
 -- A host in memory, as contracts see it.
 use Rattle.std.specs.Prelude.{◌≡◌, ◌⊎◌, ℕ, ◌+◌, ◌-◌, ◌^◌, min, Bool, true, false, ◌||◌, ◌==◌, nat_le, List, [], ◌∷◌, Option, None, Some, Result, MatchResult}
 use Rattle.std.specs.List.{list_any}
-use Rattle.nb_host.specs.Causes.{CountsFault}
+use Rattle.nb_host.specs.Causes.{CountsFault, own_count}
 use Rattle.nb_mem.specs.declared.entry.Entry.{Entry}
 
 pub record Memory : Type 0 where
@@ -39,7 +39,7 @@ is_next_due m = is_due m.failing m.stop (raised m.calls)
 -- The call was counted. It failed exactly where it was to fail, or where memory ran out in it; then nothing else changed.
 -- Else it stands in the history, and the counts of faults stay.
 pub record Answers {T E : Type 0} (result : Result T E) (old new : Memory) (entry : Entry) : Type 0 where
-  pub cause : CountsFault result old.faults new.faults
+  pub cause : CountsFault result (own_count old.faults) (own_count new.faults)
   pub exact : MatchResult result
       (λ _. (is_next_due old ≡ false) × (new ≡ record old { history = entry ∷ old.history; calls = raised old.calls }))
       (λ _. ((is_next_due old ≡ true) × (new ≡ record old { calls = raised old.calls; faults = raised old.faults }))

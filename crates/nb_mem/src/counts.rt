@@ -1,5 +1,5 @@
 ghost use Rattle.std.specs.Prelude.{◌≡◌, ◌↔◌, IsTrue, IsErr, OnOk, OnErr, alloc_error};
-ghost use Rattle.nb_host.specs.Causes.{CountsFault};
+ghost use Rattle.nb_host.specs.Causes.{CountsFault, own_count};
 ghost use Rattle.nb_mem.specs.Memory.{raised, is_due};
 
 use nb_host::HostFault;
@@ -43,7 +43,7 @@ impl Counts {
 
     /// Counts a call, and fails it where it is to fail.
     pub fn enter(&mut self) -> Result<(), HostFault>
-        ensures cause { CountsFault result self.old.faults self.new.faults }
+        ensures cause { CountsFault result (own_count self.old.faults) (own_count self.new.faults) }
         ensures due { IsTrue (is_due self.old.failing.items self.old.stop (raised self.old.calls)) ↔ IsErr result }
         ensures ok { OnOk result (self.new ≡ record self.old { calls = raised self.old.calls }) }
         ensures err { OnErr result (self.new ≡ record self.old { calls = raised self.old.calls; faults = raised self.old.faults }) }
@@ -58,7 +58,7 @@ impl Counts {
 
     /// Counts a fault where memory ran out.
     pub fn settle(&mut self, outcome: Result<(), AllocError>) -> Result<(), HostFault>
-        ensures cause { CountsFault result self.old.faults self.new.faults }
+        ensures cause { CountsFault result (own_count self.old.faults) (own_count self.new.faults) }
         ensures ok { OnOk result ((outcome ≡ Ok tt) × (self.new ≡ self.old)) }
         ensures err { OnErr result ((outcome ≡ Err alloc_error) × (self.new ≡ record self.old { faults = raised self.old.faults; shortages = raised self.old.shortages })) }
     {

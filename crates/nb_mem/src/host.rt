@@ -1,6 +1,7 @@
 ghost use Rattle.std.specs.Prelude.{◌≡◌, ◌+◌, ◌*◌, ◌++◌, [], ◌∷◌, length, true, option_map, IsTrue, OnOk, IfOk, IfErr};
 ghost use Rattle.std.specs.Option.{option_copied};
 ghost use Rattle.nb_host.specs.Files.{is_page_size};
+ghost use Rattle.nb_host.specs.Causes.{own_count};
 ghost use Rattle.nb_host.specs.Crash.{IsDurable};
 ghost use Rattle.nb_host.specs.Calls.{IsStill, ReadsPage, ReadsBytes, Syncs};
 ghost use Rattle.nb_mem.specs.Histories.{world_of, files_of, guid_of, guids_of, guids_behind, times_of, with_guids};
@@ -188,7 +189,7 @@ impl Host for MemHost {
 
     ghost world = { λ host. world_of host.history };
 
-    ghost faults = { λ host. host.faults };
+    ghost faults = { λ host. own_count host.faults };
 
     ghost timely = { λ host. timely host.history };
 

@@ -31,7 +31,7 @@ quiet_begun old timely = record {
   said = refl;
   guids = refl;
   times = refl;
-  moments = record { same = refl; later = omega arith; each = timely.only_now; earlier = λ t files said le left. inl left };
+  moments = record { later = omega arith; each = timely.only_now; earlier = λ t files said le left. inl left };
 }
 
 -- one run after another
@@ -42,7 +42,6 @@ quiet_joined old mid new first second = record {
   guids = second.guids ∙ first.guids;
   times = second.times ∙ first.times;
   moments = record {
-    same = second.moments.same ∙ first.moments.same;
     later = omega (arith, first.moments.later, second.moments.later);
     each = λ files said left. ⊎_elim (first.moments.each files said) (now_before old mid first.still first.said files said) (second.moments.earlier old.moment files said first.moments.later left);
     earlier = λ t files said le left. ⊎_elim (first.moments.earlier t files said le) (λ is. inr (now_before old mid first.still first.said files said is)) (second.moments.earlier t files said (omega (arith, le, first.moments.later)) left);
@@ -57,7 +56,6 @@ quiet_call old new timely still said guids times passes = record {
   guids = guids;
   times = times;
   moments = record {
-    same = passes.same;
     later = passes.later;
     each = λ files s left. ⊎_elim (timely.only_now files s) (now_before old new still said files s) (passes.nothing_else old.moment files s (omega arith) left);
     earlier = λ t files s le left. ⊎_elim inl (λ is. inr (now_before old new still said files s is)) (passes.nothing_else t files s le left);

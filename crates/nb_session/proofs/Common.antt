@@ -20,7 +20,7 @@ pub use Rattle.nb_gather.proofs.QuietLaws.{blank_empty}
 pub use Rattle.nb_gather.specs.Making.{IsEmpty, IsKept, IsUnfinishedOr}
 pub use Rattle.nb_host.proofs.PlainLaws.{all_append, all_front, both_true, false_true, no_err, none_some, not_true, or_assoc, or_false, some_none, take_self}
 pub use Rattle.nb_host.specs.Calls.{IsStill}
-pub use Rattle.nb_host.specs.Causes.{CountsDevice, CountsRun}
+pub use Rattle.nb_host.specs.Causes.{CountsDevice, CountsRun, FaultCount}
 pub use Rattle.nb_host.specs.Crash.{IsDurable, Leaves, LeavesAll, Untouched}
 unfoldable pub use Rattle.nb_host.specs.Files.{with_file}
 pub use Rattle.nb_host.specs.Files.{File, Files}

@@ -1,6 +1,6 @@
 -- What holds while sessions take their turns.
 use Rattle.std.proofs.Common.{◌≡◌, ◌≢◌, inl, inr, ℕ, zero, suc, ◌-◌, ◌<◌, ◌≤◌, List, [], ◌∷◌, ◌++◌, length, map, refl, sym, ap, subst, ◌∙◌, arith, append_assoc, length-set, Bool, true, false, ◌||◌, IsTrue, Result, Ok, Option, Some, None, slice_get, slice_set}
-use Rattle.nb_session.proofs.Common.{AllByRecursion, list_all, slice_index_or, append-nil, World, IsTimely, RunError, Statement, Base, Foretells, IsMaking, MadeFile, under_way, AreAmong, Turn, Begins, Given, Event, Now, Played, base_now, one_turn, play, files_made, steps_of, after_steps, Trail, making_play, one_turn_idle, Scene, scene, Kind, kind, agent_of, Rests, Moves, IsSession, Held, Task, Backup, Copy, End, Merge, Told, AreSixteen, Grows, Asker, task_todo, task_left, todo_of, HasTodo, left_of, IsFit, any_refused, HasNone, TakesOne, InTurn, IsReady, TaskGoes, only_told, as_played, shown_next, touching_by, Steps, TakesNext, Plays, told_turns, or_assoc}
+use Rattle.nb_session.proofs.Common.{AllByRecursion, list_all, slice_index_or, append-nil, World, IsTimely, FaultCount, RunError, Statement, Base, Foretells, IsMaking, MadeFile, under_way, AreAmong, Turn, Begins, Given, Event, Now, Played, base_now, one_turn, play, files_made, steps_of, after_steps, Trail, making_play, one_turn_idle, Scene, scene, Kind, kind, agent_of, Rests, Moves, IsSession, Held, Task, Backup, Copy, End, Merge, Told, AreSixteen, Grows, Asker, task_todo, task_left, todo_of, HasTodo, left_of, IsFit, any_refused, HasNone, TakesOne, InTurn, IsReady, TaskGoes, only_told, as_played, shown_next, touching_by, Steps, TakesNext, Plays, told_turns, or_assoc}
 use Rattle.nb_sched.proofs.AgentLaws.{agent_there, agent_of_set}
 use Rattle.nb_session.proofs.GiftLaws.{foretold_first, foretold_then, foretold_itself, grows_none, grows_joined}
 use Rattle.nb_session.proofs.GoesLaws.{goes_on}
@@ -11,7 +11,7 @@ use Rattle.nb_session.proofs.PlayLaws.{behind, trail_after, no_made, plays_none,
 use Rattle.nb_session.proofs.ToldLaws.{told_nothing, told_append, told_among, told_others}
 
 -- the sessions of a script as agents
-abbrev pub sessions_kind : {H : Type 0} (tells : Bool) (world : H → World) (faults : H → ℕ) → Kind Asker H Held
+abbrev pub sessions_kind : {H : Type 0} (tells : Bool) (world : H → World) (faults : H → FaultCount) → Kind Asker H Held
 sessions_kind tells world faults =
     kind left_of (λ a. a.number) (λ a h e. IsFit a e) (λ a h e answer b h' e'. Steps tells answer (world h) (world h') (faults h) (faults h') e e' a b)
 
@@ -57,7 +57,7 @@ agent_some askers (suc place) low high = there askers place (omega arith)
     there (x ∷ xs) zero within = (x, refl)
     there (x ∷ xs) (suc i) within = there xs i (omega arith)
 
-module _ {H : Type 0} (tells : Bool) (told : IsTrue tells) (world : H → World) (faults : H → ℕ) (old : H) (before : Held) (t : Trail) (how : Told) (now : Now) (order : List ℕ)
+module _ {H : Type 0} (tells : Bool) (told : IsTrue tells) (world : H → World) (faults : H → FaultCount) (old : H) (before : Held) (t : Trail) (how : Told) (now : Now) (order : List ℕ)
     (numbers : AllByRecursion IsSession order) (making : IsMaking now) where
   -- where the outside gives these
   abbrev from : Given → Now

@@ -1,6 +1,6 @@
 -- A turn of a session is the next that it has to do.
 use Rattle.std.proofs.Common.{◌≡◌, inl, inr, ℕ, ◌-◌, ◌<◌, List, [], ◌∷◌, ◌++◌, length, map, drop, sym, ap, subst, ◌∙◌, append_assoc, get_or-set_same, drop_of_length-le, Bool, true, false, ◌||◌, IsTrue, Result, Ok, Err, IsErr, IsErrAnd, OnOk, Option, Some, None}
-use Rattle.nb_session.proofs.Common.{list_all, slice_index_or, cases_lt, append-nil, IsDone, World, CountsDevice, CountsRun, Fault, Refused, Device, Memory, RunError, Statement, Base, Foretells, IsMaking, MadeFile, making, making_by, Turn, Begins, Now, Played, base_now, event_of, outcome, stands_then, take_turn, one_turn, base_after, Trail, turn_stands, Held, Task, Left, Same, Other, Taken, Asker, task_first, task_rest, task_todo, task_left, left_of, left_refused, left_task, todo_of, HasTodo, KeepsOthers, IsReady, TaskGoes, only_told, shown_by, shown_first, shown_next, begun_in, begun_first, touching, touching_by, GoesFurther, Turns, TakesNext, Steps, Plays, told_turns, or_false}
+use Rattle.nb_session.proofs.Common.{list_all, slice_index_or, cases_lt, append-nil, IsDone, World, CountsDevice, CountsRun, FaultCount, Fault, Refused, Device, Memory, RunError, Statement, Base, Foretells, IsMaking, MadeFile, making, making_by, Turn, Begins, Now, Played, base_now, event_of, outcome, stands_then, take_turn, one_turn, base_after, Trail, turn_stands, Held, Task, Left, Same, Other, Taken, Asker, task_first, task_rest, task_todo, task_left, left_of, left_refused, left_task, todo_of, HasTodo, KeepsOthers, IsReady, TaskGoes, only_told, shown_by, shown_first, shown_next, begun_in, begun_first, touching, touching_by, GoesFurther, Turns, TakesNext, Steps, Plays, told_turns, or_false}
 use Rattle.nb_host.specs.declared.faults.RunError.TheVariants.{Device as DeviceError, Memory as MemoryError}
 use Rattle.nb_session.proofs.EventLaws.{one_told}
 use Rattle.nb_session.proofs.MakesLaws.{place_in}
@@ -80,7 +80,7 @@ module _ {T : Type 0} (refused : T → Bool) (task : T → Option Task) (old new
 
 -- What is said of a failure is said of the answer that hands it on.
 module _ {S : Type 0} (error : RunError) where
-  pub counts_handed : (T : Type 0) (answer : Result S RunError) (before after : ℕ) → IsErr answer × IsErrAnd answer (λ e. e ≡ error) → CountsRun {T = T} (Err error) before after → CountsRun answer before after
+  pub counts_handed : (T : Type 0) (answer : Result S RunError) (before after : FaultCount) → IsErr answer × IsErrAnd answer (λ e. e ≡ error) → CountsRun {T = T} (Err error) before after → CountsRun answer before after
   counts_handed T (Ok value) before after is counts = absurd is.1
   counts_handed T (Err e) before after is counts = subst (λ (f : RunError). CountsRun {T = S} (Err f) before after) (sym is.1) (by error counts)
     where
@@ -89,7 +89,7 @@ module _ {S : Type 0} (error : RunError) where
       by MemoryError is = is
 
 -- what is said of a call's fault is said of another answer with it
-pub counts_as : (S T : Type 0) (fault : Fault) (before after : ℕ) → CountsDevice {T = S} (Err fault) before after → CountsDevice {T = T} (Err fault) before after
+pub counts_as : (S T : Type 0) (fault : Fault) (before after : FaultCount) → CountsDevice {T = S} (Err fault) before after → CountsDevice {T = T} (Err fault) before after
 counts_as S T (Refused refusal) before after is = is
 counts_as S T Device before after is = is
 counts_as S T Memory before after is = is
@@ -102,7 +102,7 @@ going_on asker task is = ap (λ (x : Option Task). task_todo x ++ map Begins ask
 beginning : (asker : Asker) (statement : Statement) (rest : List Statement) → asker.task ≡ None → asker.statements ≡ statement ∷ rest → todo_of asker ≡ Begins statement ∷ ([] ++ map Begins rest)
 beginning asker statement rest is first = ap (λ (x : Option Task). task_todo x ++ map Begins asker.statements) is ∙ ap (map Begins) first
 
-module _ (tells : Bool) (old new : World) (faults faults' : ℕ) (a b : Held) (asker moved : Asker) (others : KeepsOthers asker.number a b) (kept : moved.told ≡ asker.told) where
+module _ (tells : Bool) (old new : World) (faults faults' : FaultCount) (a b : Held) (asker moved : Asker) (others : KeepsOthers asker.number a b) (kept : moved.told ≡ asker.told) where
   module _ {T : Type 0} (refused : T → Bool) (task : T → Option Task) (turn : Turn) (tail : List Turn) (rest : List Statement) (here : todo_of asker ≡ turn ∷ (tail ++ map Begins rest)) where
     -- what the turn did, where the session comes to it
     abbrev Turned : Result T RunError → Type 0

@@ -1,6 +1,6 @@
 -- A script that is played: its schedule, and then rounds until all sessions have finished.
 use Rattle.std.proofs.Common.{◌≡◌, ℕ, zero, suc, ◌+◌, ◌-◌, ◌≤◌, List, [], ◌∷◌, ◌++◌, length, map, get_or, append_assoc, inl, inr, refl, sym, ap, subst, ◌∙◌, arith, Bool, IsTrue, true, false, Result, Ok, Err, Some, None, Contains, slice_get}
-use Rattle.nb_session.proofs.Common.{AllByRecursion, range_with_len, slice_index_or, cases_lt, append-nil, get_or_past, length-map, get_or-map, is_delta, World, IsTimely, CountsRun, RunError, is_free_entry, Foretells, IsMaking, MadeFile, under_way, AreAmong, Turn, Begins, Event, Now, Played, one_turn, play, rounds, all_sessions, files_made, AreFinished, begun, steps_of, after_steps, Trail, own_in_use, free_play, made_once, play-append, no_main, Scene, scene, agent_of, AllDone, TakesTurns, EndsWith, FailsBehind, IsAskable, IsSession, Plan, Held, name_of, Told, Grows, Asker, HasTodo, left_of, IsFit, any_refused, fresh_asker, first_askers, IsReady, Plays, shown_next, touching_by, PlaysInTurn, told_events, told_turns, all_append, Contains-append_left}
+use Rattle.nb_session.proofs.Common.{AllByRecursion, range_with_len, slice_index_or, cases_lt, append-nil, get_or_past, length-map, get_or-map, is_delta, World, IsTimely, CountsRun, FaultCount, RunError, is_free_entry, Foretells, IsMaking, MadeFile, under_way, AreAmong, Turn, Begins, Event, Now, Played, one_turn, play, rounds, all_sessions, files_made, AreFinished, begun, steps_of, after_steps, Trail, own_in_use, free_play, made_once, play-append, no_main, Scene, scene, agent_of, AllDone, TakesTurns, EndsWith, FailsBehind, IsAskable, IsSession, Plan, Held, name_of, Told, Grows, Asker, HasTodo, left_of, IsFit, any_refused, fresh_asker, first_askers, IsReady, Plays, shown_next, touching_by, PlaysInTurn, told_events, told_turns, all_append, Contains-append_left}
 use Rattle.nb_sched.specs.Turns.{IsReady as AreReady}
 use Rattle.nb_sched.proofs.TurnLaws.{turns_hold}
 use Rattle.nb_session.proofs.EndLaws.{turns_end}
@@ -63,7 +63,7 @@ made_apart w held t now ready making plain order n bytes there (inl own) =
     (free_play order now making.named making.going (n, bytes) (Contains-append_left (files_made (play order now).0) (under_way (play order now).1) (n, bytes) there)))
 made_apart w held t now ready making plain order n bytes there (inr delta) = no_main (name_of held) n (made_named (λ name. is_delta name ≡ false) order now plain (n, bytes) there) (sym delta)
 
-module _ {H : Type 0} (tells : Bool) (told : IsTrue tells) (world : H → World) (faults : H → ℕ) (old : H) (before : Held) (how : Told) (plan : Plan) (askable : IsAskable plan) (how_often : ℕ) (timely : IsTimely (world old)) where
+module _ {H : Type 0} (tells : Bool) (told : IsTrue tells) (world : H → World) (faults : H → FaultCount) (old : H) (before : Held) (how : Told) (plan : Plan) (askable : IsAskable plan) (how_often : ℕ) (timely : IsTimely (world old)) where
   abbrev order : List ℕ
   order = plan.schedule ++ rounds how_often
 
@@ -232,7 +232,7 @@ module _ {H : Type 0} (tells : Bool) (told : IsTrue tells) (world : H → World)
     whole_grows (Err error) after turns = all_grow after error turns
 
 -- the same turns, of the sessions as they stand there
-pub turns_as : {H : Type 0} (tells : Bool) (world : H → World) (faults : H → ℕ) (schedule other : List ℕ) (agents others : List Asker) (n : ℕ) (host : H) (held : Held) (answer said : Result (Unit {0}) RunError) (after : Scene Asker H Held)
+pub turns_as : {H : Type 0} (tells : Bool) (world : H → World) (faults : H → FaultCount) (schedule other : List ℕ) (agents others : List Asker) (n : ℕ) (host : H) (held : Held) (answer said : Result (Unit {0}) RunError) (after : Scene Asker H Held)
     → other ≡ schedule → others ≡ agents → said ≡ answer → TakesTurns (sessions_kind tells world faults) (other ++ rounds n) (scene others host held) said after
     → TakesTurns (sessions_kind tells world faults) (schedule ++ rounds n) (scene agents host held) answer after
 turns_as tells world faults schedule other agents others n host held answer said after same these is turns =
@@ -241,7 +241,7 @@ turns_as tells world faults schedule other agents others n host held answer said
     (subst (λ (list : List Asker). TakesTurns (sessions_kind tells world faults) (other ++ rounds n) (scene list host held) said after) these turns))
 
 -- before their first turns the sessions stand in their places, and have what they need
-pub first_ready : {H : Type 0} (tells : Bool) (world : H → World) (faults : H → ℕ) (how : Told) (plan : Plan) → IsAskable plan → (agents : List Asker) (host : H) (held : Held) → agents ≡ first_askers how plan
+pub first_ready : {H : Type 0} (tells : Bool) (world : H → World) (faults : H → FaultCount) (how : Told) (plan : Plan) → IsAskable plan → (agents : List Asker) (host : H) (held : Held) → agents ≡ first_askers how plan
     → AreReady (sessions_kind tells world faults) (scene agents host held)
 first_ready tells world faults how plan askable agents host held first = record {
   placed = λ session asker there. first_number how plan session asker (subst (λ (list : List Asker). agent_of list session ≡ Some asker) first there);
@@ -251,7 +251,7 @@ first_ready tells world faults how plan askable agents host held first = record 
 }
 
 -- The count of faults.
-module _ {H : Type 0} (tells : Bool) (world : H → World) (faults : H → ℕ) (order : List ℕ) (start after : Scene Asker H Held) where
+module _ {H : Type 0} (tells : Bool) (world : H → World) (faults : H → FaultCount) (order : List ℕ) (start after : Scene Asker H Held) where
   abbrev Stays : List ℕ → Scene Asker H Held → Type 0
   Stays front s = faults s.host ≡ faults start.host
 
@@ -263,4 +263,4 @@ module _ {H : Type 0} (tells : Bool) (world : H → World) (faults : H → ℕ) 
   whole_counts (Ok done) turns = stays (Ok done) turns
   whole_counts (Err error) turns =
       let e = stays (Err error) turns in
-      subst (λ (n : ℕ). CountsRun {T = Unit {0}} (Err error) n (faults after.host)) e.holds e.move.made.cause
+      subst (λ (n : FaultCount). CountsRun {T = Unit {0}} (Err error) n (faults after.host)) e.holds e.move.made.cause

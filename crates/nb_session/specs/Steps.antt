@@ -3,7 +3,7 @@ use Rattle.std.specs.Prelude.{◌≡◌, ℕ, ◌-◌, List, [], ◌∷◌, ◌+
 use Rattle.std.specs.List.{list_all, slice_index_or}
 use Rattle.nb_host.specs.World.{World}
 use Rattle.nb_host.specs.declared.faults.RunError.{RunError}
-use Rattle.nb_host.specs.Causes.{CountsRun}
+use Rattle.nb_host.specs.Causes.{CountsRun, FaultCount}
 use Rattle.nb_model.specs.declared.statement.Statement.TheVariants.{Backup as BackupTo, BackupSince}
 use Rattle.nb_model.specs.Gifts.{Foretells}
 use Rattle.nb_model.specs.Going.{IsMaking}
@@ -90,7 +90,7 @@ pub record TakesNext (refused : Bool) (result : Result (Unit {0}) RunError) (old
 
 -- One turn of a session on a database that is open. Whatever the host tells, other sessions have what they need, and the count of faults
 -- is as the answer says.
-pub record Steps (tells : Bool) (result : Result (Unit {0}) RunError) (old new : World) (faults faults' : ℕ) (before after : Held) (asker moved : Asker) : Type 0 where
+pub record Steps (tells : Bool) (result : Result (Unit {0}) RunError) (old new : World) (faults faults' : FaultCount) (before after : Held) (asker moved : Asker) : Type 0 where
   pub refused : Bool
   pub noted : OnOk result (moved.refused ≡ (asker.refused || refused))
   pub told : moved.told ≡ asker.told

@@ -1,7 +1,7 @@
 // The end of a backup, which takes many turns: one that ends the stalled state, one for each page that is merged, and a last one.
-ghost use Rattle.std.specs.Prelude.{◌≡◌, ◌<◌, ◌-◌, ℕ, List, [], ◌∷◌, length, None, Some, Err, true, false, IsTrue, IfOk};
+ghost use Rattle.std.specs.Prelude.{◌≡◌, ◌<◌, ◌-◌, List, [], ◌∷◌, length, None, Some, Err, true, false, IsTrue, IfOk};
 ghost use Rattle.std.specs.List.{slice_index_or};
-ghost use Rattle.nb_host.specs.Causes.{CountsDevice, CountsRun};
+ghost use Rattle.nb_host.specs.Causes.{CountsDevice, CountsRun, FaultCount};
 ghost use Rattle.nb_change.specs.Gave.{GaveNothing};
 ghost use Rattle.nb_model.specs.declared.reply.Reply.TheVariants.{Refused as RefusedReply};
 ghost use Rattle.nb_model.specs.declared.statement.Statement.TheVariants.{EndBackup};
@@ -69,7 +69,7 @@ pub fn end_early<H: Host>(
 ) -> Result<Taken, RunError>
     ensures ended { IsTrue H.tells → EndsEarly session fault result (H.world host.old) (H.world host.new) (host.new ≡ host.old) }
     ensures taken { IfOk result (λ taken. taken ≡ record { task = None; refused = true }) }
-    ensures cause { (before : ℕ) → CountsDevice {T = Taken} (Err fault) before (H.faults host.old) → CountsRun result before (H.faults host.new) }
+    ensures cause { (before : FaultCount) → CountsDevice {T = Taken} (Err fault) before (H.faults host.old) → CountsRun result before (H.faults host.new) }
 {
     match fault {
         Fault::Refused(refusal) => say_refused(alloc, host, session, refusal),

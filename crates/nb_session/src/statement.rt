@@ -1,6 +1,6 @@
 // A statement that is done in one turn.
 ghost use Rattle.std.specs.Prelude.{◌≡◌, ℕ, [], IsTrue, IfErr, OnOk, IfOk, Option, Some};
-ghost use Rattle.nb_host.specs.Causes.{CountsDevice, CountsRun};
+ghost use Rattle.nb_host.specs.Causes.{CountsDevice, CountsRun, FaultCount};
 ghost use Rattle.nb_host.specs.Faults.{as_fault};
 ghost use Rattle.nb_base.specs.Open.{Agrees};
 ghost use Rattle.nb_model.specs.Account.{Base};
@@ -128,7 +128,7 @@ pub fn reply_to(answer: Result<Reply, Fault>) -> Result<Reply, RunError>
     ensures said { (said : Option Reply) → Says some_said answer said → IfOk result (λ reply. said ≡ Some reply) }
     ensures ended { OnOk result (HasEnded answer) }
     ensures failed { IfErr result (λ error. answer ≡ Err (as_fault error)) }
-    ensures cause { (before after : ℕ) → CountsDevice answer before after → CountsRun result before after }
+    ensures cause { (before after : FaultCount) → CountsDevice answer before after → CountsRun result before after }
 {
     match answer {
         Ok(reply) => Ok(reply),

@@ -1,7 +1,7 @@
 // What a standby and its ship file are.
 ghost use Rattle.std.specs.Prelude.{◌≡◌, ◌+◌, ◌≤◌, ℕ, List, IfOk, IsTrue, OnOk, length};
 ghost use Rattle.nb_fields.specs.Header.{is_header};
-ghost use Rattle.nb_host.specs.Causes.{CountsDevice, CountsFault};
+ghost use Rattle.nb_host.specs.Causes.{CountsDevice, CountsFault, FaultCount};
 ghost use Rattle.nb_host.specs.declared.faults.Fault.TheVariants.{Refused};
 ghost use Rattle.nb_host.specs.declared.refusals.Refusal.TheVariants.{Unfinished};
 ghost use Rattle.nb_model.specs.Levels.{Contents};
@@ -106,7 +106,7 @@ fn stands_beside<H: Host>(host: &mut H, name: &Name) -> Result<bool, HostFault>
 /// What a level file of that head is to a standby with that GUID. The refusal is `ChainGuid`.
 fn find_level(guid: &[u8; 16], head: &LevelHead, ship: &Name) -> Result<Found, Fault>
     ensures answer { (c : Contents) → c.head ≡ head_of head.now → Says (by_head guid.now ship.now c.head) result }
-    ensures cause { (faults : ℕ) → CountsDevice result faults faults }
+    ensures cause { (faults : FaultCount) → CountsDevice result faults faults }
 {
     if head.guid == *guid {
         Ok(Found::Applied)

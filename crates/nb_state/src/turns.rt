@@ -1,7 +1,7 @@
 // The turns of a backup: begin, end, and the merge.
 ghost use Rattle.std.specs.Prelude.{◌≡◌, ◌≢◌, ◌<◌, ◌≤◌, ◌+◌, ℕ, List, [], ◌∷◌, length, IsTrue, IfErr, IfOk, OnOk, Option, Some};
 ghost use Rattle.nb_fields.specs.States.{normal_state, stalled_state, merge_state};
-ghost use Rattle.nb_host.specs.Causes.{CountsDevice, CountsFault};
+ghost use Rattle.nb_host.specs.Causes.{CountsDevice, CountsFault, FaultCount};
 ghost use Rattle.nb_host.specs.declared.faults.Fault.TheVariants.{Memory};
 ghost use Rattle.nb_change.specs.Gave.{GaveNothing};
 ghost use Rattle.nb_model.specs.Account.{Ask};
@@ -43,7 +43,7 @@ impl Store {
         ensures test { (image : Image) → self.now.files.state ≡ image_state image → self.now.scn ≡ image_scn image → Tested result (begin_cause image) }
         ensures normal { OnOk result (self.now.files.state ≡ normal_state) }
         ensures scn { OnOk result (self.now.scn < 4294967294) }
-        ensures cause { (faults : ℕ) → CountsDevice result faults faults }
+        ensures cause { (faults : FaultCount) → CountsDevice result faults faults }
         ensures takes_none { IfErr result (λ fault. fault ≢ Memory) }
     {
         let state = self.pair.state();
@@ -62,7 +62,7 @@ impl Store {
         ensures test { (image : Image) → self.now.files.state ≡ image_state image → Tested result (end_cause image self.now.running session) }
         ensures some { OnOk result (1 ≤ self.now.files.state) }
         ensures own { (other : ℕ) → self.now.running ≡ Some other → OnOk result (other ≡ session) }
-        ensures cause { (faults : ℕ) → CountsDevice result faults faults }
+        ensures cause { (faults : FaultCount) → CountsDevice result faults faults }
         ensures takes_none { IfErr result (λ fault. fault ≢ Memory) }
     {
         let state = self.pair.state();

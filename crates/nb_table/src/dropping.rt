@@ -2,7 +2,7 @@
 ghost use Rattle.std.specs.Prelude.{◌≡◌, ◌++◌, ℕ, List, IsTrue, IfOk, Ok, Some, None, length, ◌≢◌, IfErr};
 ghost use Rattle.std.specs.List.{AllByRecursion};
 ghost use Rattle.nb_fields.specs.Places.{is_page_size};
-ghost use Rattle.nb_host.specs.Causes.{CountsDevice};
+ghost use Rattle.nb_host.specs.Causes.{CountsDevice, FaultCount};
 ghost use Rattle.nb_host.specs.declared.refusals.Refusal.TheVariants.{NotDatabase};
 ghost use Rattle.nb_model.specs.Chains.{RowsFrom, first_in, next_in, pages_of};
 ghost use Rattle.nb_model.specs.Forms.{drafted, give_page};
@@ -58,7 +58,7 @@ fn lower(first: Option<u32>, second: Option<u32>) -> Option<u32>
 /// Tests that there is no such page. The refusal is `NotDatabase` of it.
 fn check_none(lacking: Option<u32>) -> Result<(), Fault>
     ensures test { (pages : List ℕ) → need_cause lacking ≡ lowest_broken pages → Tested result (lowest_broken pages) }
-    ensures cause { (faults : ℕ) → CountsDevice result faults faults }
+    ensures cause { (faults : FaultCount) → CountsDevice result faults faults }
     ensures takes_none { IfErr result (λ fault. fault ≢ Memory) }
 {
     match lacking {

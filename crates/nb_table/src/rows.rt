@@ -1,7 +1,7 @@
 // The rows of a table that is to be changed.
-ghost use Rattle.std.specs.Prelude.{◌≡◌, ◌<◌, ◌≤◌, ℕ, Some, IsTrue, IfOk, IfSome, OnOk, length, ◌≢◌, IfErr};
+ghost use Rattle.std.specs.Prelude.{◌≡◌, ◌<◌, ◌≤◌, Some, IsTrue, IfOk, IfSome, OnOk, length, ◌≢◌, IfErr};
 ghost use Rattle.nb_fields.specs.Places.{most_pages};
-ghost use Rattle.nb_host.specs.Causes.{CountsDevice};
+ghost use Rattle.nb_host.specs.Causes.{CountsDevice, FaultCount};
 ghost use Rattle.nb_model.specs.Image.{Image, is_read_only};
 ghost use Rattle.nb_model.specs.Causes.{Tested, read_only, too_long};
 ghost use Rattle.nb_model.specs.Chains.{RowsFrom, found_pages, spots, last_of, first_in, table_spot};
@@ -37,7 +37,7 @@ pub(crate) struct Rows {
 /// Tests that the database may be changed. The refusal is `Access`.
 pub(crate) fn check_access(closed: bool) -> Result<(), Fault>
     ensures test { (image : Image) → closed ≡ is_read_only image → Tested result (read_only image) }
-    ensures cause { (faults : ℕ) → CountsDevice result faults faults }
+    ensures cause { (faults : FaultCount) → CountsDevice result faults faults }
     ensures takes_none { IfErr result (λ fault. fault ≢ Memory) }
 {
     if closed {
@@ -50,7 +50,7 @@ pub(crate) fn check_access(closed: bool) -> Result<(), Fault>
 fn check_text(text: &[u8]) -> Result<(), Fault>
     ensures test { Tested result (too_long text.now) }
     ensures short { OnOk result (length text.now ≤ 200) }
-    ensures cause { (faults : ℕ) → CountsDevice result faults faults }
+    ensures cause { (faults : FaultCount) → CountsDevice result faults faults }
     ensures takes_none { IfErr result (λ fault. fault ≢ Memory) }
 {
     if text.len() > MOST_TEXT {

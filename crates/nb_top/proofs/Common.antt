@@ -30,7 +30,7 @@ pub use Rattle.nb_gen.proofs.WrittenLaws.{text_in_use, text_no_backup}
 pub use Rattle.nb_gen.specs.Texts.{IsScriptText, generated_first}
 pub use Rattle.nb_host.proofs.FileLaws.{device_memory, passed}
 pub use Rattle.nb_host.proofs.PlainLaws.{both_true, err_not_ok, err_ok, false_true, no_err, none_and_some, none_some, not_some, not_true, ok_equal, ok_same, some_none, some_same, take_self}
-pub use Rattle.nb_host.specs.Causes.{CountsRun}
+pub use Rattle.nb_host.specs.Causes.{CountsRun, FaultCount}
 pub use Rattle.nb_host.specs.Crash.{Leaves, LeavesAll, Untouched}
 unfoldable pub use Rattle.nb_host.specs.Files.{with_file}
 pub use Rattle.nb_host.specs.Files.{File, Files, bytes_of}

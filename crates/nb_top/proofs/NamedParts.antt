@@ -16,7 +16,6 @@ module _ (names : List (List ℕ)) where
   -- the world as if there were no other files
   abbrev pub part : World → World
   part w = record {
-    own = w.own;
     files = among names w.files;
     said = w.said;
     reads = w.reads;
@@ -106,7 +105,6 @@ module _ (names : List (List ℕ)) where
   -- moments
   pub part_moments : (old new : World) (P Q : Files → List ℕ → Type 0) → AtEachMoment old new P → ((whole : Files) (said : List ℕ) → P whole said → Q (among names whole) said) → AtEachMoment (part old) (part new) Q
   part_moments old new P Q moments goes = record {
-    same = moments.same;
     later = moments.later;
     each = λ files said left. subst (λ (f : Files). Q f said) (sym left.2) (goes left.0 said (moments.each left.0 said left.1));
     earlier = λ t files said before left. elim (moments.earlier t left.0 said before left.1) [

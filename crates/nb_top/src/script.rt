@@ -2,7 +2,7 @@
 ghost use Rattle.std.specs.Prelude.{◌≡◌, ◌⊎◌, ℕ, ◌<◌, List, [], Ok, Err, IsTrue, IfOk, IfErr, if◌then◌else◌};
 ghost use Rattle.nb_fields.specs.Fresh.{fresh};
 ghost use Rattle.nb_host.specs.declared.faults.Fault.TheVariants.{Refused};
-ghost use Rattle.nb_host.specs.Causes.{CountsDevice, CountsRun};
+ghost use Rattle.nb_host.specs.Causes.{CountsDevice, CountsRun, FaultCount};
 ghost use Rattle.nb_change.specs.Gave.{GaveNothing};
 ghost use Rattle.nb_page.specs.Quiet.{Quiet};
 ghost use Rattle.nb_model.specs.Account.{Base};
@@ -42,7 +42,7 @@ use std::alloc::Global;
 pub fn settled<T>(answer: Result<T, Fault>) -> Result<Result<T, Refusal>, RunError>
     ensures value { IfOk result (λ settled. IfOk settled (λ value. answer ≡ Ok value)) }
     ensures refusal { IfOk result (λ settled. IfErr settled (λ refusal. answer ≡ Err (Refused refusal))) }
-    ensures cause { (before after : ℕ) → CountsDevice answer before after → CountsRun result before after }
+    ensures cause { (before after : FaultCount) → CountsDevice answer before after → CountsRun result before after }
 {
     match answer {
         Ok(value) => Ok(Ok(value)),
@@ -195,7 +195,7 @@ fn ended(refused: bool) -> Status
 fn ended_as(refused: Result<bool, RunError>) -> Result<Status, RunError>
     ensures ended { EndsAs refused result }
     ensures done { IfOk result (λ status. (status ≡ Status.Done) ⊎ (status ≡ Status.Refused)) }
-    ensures cause { (before after : ℕ) → CountsRun refused before after → CountsRun result before after }
+    ensures cause { (before after : FaultCount) → CountsRun refused before after → CountsRun result before after }
 {
     match refused {
         Ok(refused) => Ok(ended(refused)),

@@ -1,5 +1,5 @@
-use Rattle.std.proofs.Common.{◌≡◌, ℕ, refl, sym, subst, Err}
-use Rattle.nb_session.proofs.Common.{CountsDevice, CountsRun, Fault, RunError, Taken, EndsEarly}
+use Rattle.std.proofs.Common.{◌≡◌, refl, sym, subst, Err}
+use Rattle.nb_session.proofs.Common.{CountsDevice, CountsRun, FaultCount, Fault, RunError, Taken, EndsEarly}
 use Rattle.nb_host.specs.declared.faults.RunError.TheVariants.{Device as DeviceError, Memory as MemoryError}
 use Rattle.nb_session.proofs.merges.end_early.Goals as goal
 
@@ -20,7 +20,7 @@ returns-in-Memory-clause-ended g c tells =
 pub returns-in-Refused-clause-cause : goal.returns-in-Refused-clause-cause
 returns-in-Refused-clause-cause g c before counts =
     let same : g.H.Host.faults c.args.host.now ≡ before = subst (λ (f : Fault). CountsDevice {T = Taken} (Err f) before (g.H.Host.faults c.args.host.now)) c.in-Refused.is counts in
-    subst (λ (n : ℕ). CountsRun c.say_refused.result n (g.H.Host.faults c.say_refused.new.host)) same c.say_refused.ensures.cause
+    subst (λ (n : FaultCount). CountsRun c.say_refused.result n (g.H.Host.faults c.say_refused.new.host)) same c.say_refused.ensures.cause
 
 pub returns-in-Device-clause-cause : goal.returns-in-Device-clause-cause
 returns-in-Device-clause-cause g c before counts = subst (λ (f : Fault). CountsDevice {T = Taken} (Err f) before (g.H.Host.faults c.args.host.now)) c.in-Device.is counts

@@ -1,5 +1,5 @@
-use Rattle.std.proofs.Common.{[], ◌≡◌, ℕ, ap, sym, subst, ◌∙◌, Ok, Err, IfOk, IsTrue}
-use Rattle.nb_top.proofs.Common.{CountsRun, Refused, GaveNothing, Account, Foretells, line_text, Given, grows_none, grows_joined, says_other, EndsEarly, Knows, MayBeGiven, RunsTo, cache_asked, ToRun}
+use Rattle.std.proofs.Common.{[], ◌≡◌, ap, sym, subst, ◌∙◌, Ok, Err, IfOk, IsTrue}
+use Rattle.nb_top.proofs.Common.{CountsRun, FaultCount, Refused, GaveNothing, Account, Foretells, line_text, Given, grows_none, grows_joined, says_other, EndsEarly, Knows, MayBeGiven, RunsTo, cache_asked, ToRun}
 use Rattle.nb_model.specs.declared.reply.Reply.TheVariants.{Refused as RefusedReply}
 use Rattle.nb_top.proofs.Beginnings.{Beginning, script_refused, script_now, script_todo, script_given, script_ready, script_making, script_trail, script_ran, script_by_turns}
 use Rattle.nb_top.proofs.ByTurnsLaws.{early_err, ended_early, script_early, script_none}
@@ -77,7 +77,7 @@ returns-in-Ok-clause-goes g c =
 pub returns-in-Ok-clause-cause : goal.returns-in-Ok-clause-cause
 returns-in-Ok-clause-cause g c =
     let same : g.H.Host.faults c.open.new.host ≡ g.H.Host.faults c.args.host.now = c.in_ok-engine.ensures.cause _ _ c.open.ensures.cause in
-    c.ended_as.ensures.cause _ _ (subst (λ (n : ℕ). CountsRun c.run_opened.result n (g.H.Host.faults c.run_opened.new.host)) same c.run_opened.ensures.cause)
+    c.ended_as.ensures.cause _ _ (subst (λ (n : FaultCount). CountsRun c.run_opened.result n (g.H.Host.faults c.run_opened.new.host)) same c.run_opened.ensures.cause)
 
 pub returns-in-Err-clause-goes : goal.returns-in-Err-clause-goes
 returns-in-Err-clause-goes g c =

@@ -1,6 +1,6 @@
 use Rattle.std.proofs.Common.{◌≡◌, ℕ, List, [], ◌∷◌, inl, refl, sym, subst, ap, ◌∙◌, arith, is_some, nat_eq}
 use Rattle.nb_owner.proofs.Common.{true≢false, on_ok_weaker, on_err_weaker, lru_cache, put_entries, begun, weaker_has, strokes_composed, Reached, page, StandsIn, after_stroke, OfFiles, AreMerged, Strikes, WritesIn, none_touched, touched_joined, not_done, Slot, rank_of, Held, Pages, IsOpen, cache_of, bare, used}
-use Rattle.nb_host.specs.Causes.{CountsRun}
+use Rattle.nb_host.specs.Causes.{CountsRun, FaultCount}
 use Rattle.nb_owner.proofs.RankLaws.{marked_bare, rank_marked, rank_marked_other, rank_kept_other, slot_kept}
 use Rattle.nb_owner.proofs.OpenLaws.{bare_put, may_write}
 use Rattle.nb_owner.proofs.WaitLaws.{may_wait_parts, held_open}
@@ -101,7 +101,7 @@ pub returns-clause-failed : goal.returns-clause-failed
 returns-clause-failed g c = on_err_weaker c.write_through.result (λ (same : c.write_through.new.self.pages ≡ c.write_out.new.self.pages). ap (λ (ps : Pages). bare ps) same ∙ c.write_out.ensures.bare) c.write_through.ensures.failed
 
 pub returns-clause-cause : goal.returns-clause-cause
-returns-clause-cause g c = subst (λ (n : ℕ). CountsRun c.write_through.result n (g.H.Host.faults c.write_through.new.host)) c.in_ok-write_out.ensures.cause c.write_through.ensures.cause
+returns-clause-cause g c = subst (λ (n : FaultCount). CountsRun c.write_through.result n (g.H.Host.faults c.write_through.new.host)) c.in_ok-write_out.ensures.cause c.write_through.ensures.cause
 
 pub returns-clause-takes_none : goal.returns-clause-takes_none
 returns-clause-takes_none g c unstalled = c.write_through.ensures.takes_none (λ stalled. unstalled (sym (ap (λ f. f.state) c.write_out.ensures.files) ∙ stalled))
