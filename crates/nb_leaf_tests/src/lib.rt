@@ -34,6 +34,8 @@ mod scn_tests;
 #[cfg(test)]
 mod script_tests;
 #[cfg(test)]
+mod shadow_tests;
+#[cfg(test)]
 mod ship_tests;
 #[cfg(test)]
 mod words_tests;
