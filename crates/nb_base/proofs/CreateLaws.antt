@@ -1,8 +1,10 @@
 -- The file of a new database as it reads while it is made: pages from 1 on, and page 0 at last.
-use Rattle.std.proofs.Common.{◌≡◌, ℕ, zero, suc, ◌+◌, ◌-◌, ◌*◌, ◌≤◌, List, [], ◌∷◌, ◌++◌, length, drop, map, replicate, refl, sym, ◌∙◌, ap, subst, arith, mul-le-mul_right, IsTrue, Some, Ok}
+use Rattle.std.proofs.Common.{◌≡◌, ℕ, zero, suc, ◌+◌, ◌-◌, ◌*◌, ◌<◌, ◌≤◌, List, [], ◌∷◌, ◌++◌, length, drop, map, replicate, refl, sym, ◌∙◌, ap, subst, arith, mul-le-mul_right, IsTrue, Some, Ok}
 use Rattle.nb_base.proofs.Common.{flat_map, range_with_len, length-replicate, take_all, drop_all, is_page_size, fresh, fresh_count, fresh_page, size_facts, File, padded, put_at, Page, joined, IsOfSize, base_of, owner, joined-flat_map, put-next, owner_main, length-fresh_page, fresh_count-least, fresh_main, fresh_rebuilt}
 use Rattle.std.proofs.lemmas.List.FromFn.{length-map-range_with_len, map-range_with_len_more}
 use Rattle.nb_host.specs.Files.{with_page}
+use Rattle.nb_base.proofs.Common.{length-joined}
+use Rattle.nb_base.specs.Stays.{EndsWithin}
 
 -- so many pages of a new database, from page 1 on
 abbrev rest : (size raw n : ℕ) → List Page
@@ -94,3 +96,21 @@ module _ (size raw : ℕ) (is : IsTrue (is_page_size size)) where
       let all : number ≡ fresh_count size raw = omega (arith, upper, done, count_is) in
       let reads = rest_whole page file page_is (subst (λ k. HasRest size raw k file) all so_far) in
       subst (λ (f : File). owner name f d ≡ Ok (base_of (fresh size raw))) (sym reads) (owner_main name (fresh size raw) _ d (fresh_main size raw is few))
+
+-- no longer than its pages
+pub rest_within : (size raw number : ℕ) → IsTrue (is_page_size size) → (file : File) → HasRest size raw number file → EndsWithin (number * size) file
+rest_within size raw number is file so_far = subst (EndsWithin (number * size)) (sym so_far.reads) (by (rest size raw so_far.n) (rest-sizes size raw 1 so_far.n is) (length-map-range_with_len (fresh_page size raw) 1 so_far.n))
+  where
+    by : (ps : List Page) → IsOfSize size ps → length ps ≡ so_far.n → EndsWithin (number * size) (Some (joined (with_gap size ps)))
+    by [] sizes count = omega arith
+    by (p ∷ ps) sizes count =
+        omega (arith, length-joined size (replicate size 0 ∷ p ∷ ps) (length-replicate {A = ℕ} size 0, sizes), ap (λ n. n * size) (let e : length (replicate {A = ℕ} size 0 ∷ p ∷ ps) ≡ number = omega (arith, count, so_far.next) in e))
+
+-- once all pages from 1 on are written
+pub looped_within : (size raw number count : ℕ) → IsTrue (is_page_size size) → (looped mid : File) → count ≤ number → (1 ≤ count → number ≤ count) → count ≡ fresh_count size raw → HasRest size raw number looped → mid ≡ looped
+    → EndsWithin (count * size) mid × (0 < count)
+looped_within size raw number count is looped mid done within count_is so_far same =
+    let some : 0 < count = omega (arith, fresh_count-least size raw, count_is) in
+    let upper : number ≤ count = within some in
+    let all : number ≡ count = omega (arith, upper, done) in
+    (subst (EndsWithin (count * size)) (sym same) (subst (λ n. EndsWithin (n * size) looped) all (rest_within size raw number is looped so_far)), some)

@@ -22,6 +22,7 @@ pub mod PageReads
 pub mod PlaceLaws
 pub mod SlotLaws
 pub mod StateLaws
+pub mod StaysLaws
 pub mod StepLaws
 pub mod StrokeLaws
 pub mod SyncLaws

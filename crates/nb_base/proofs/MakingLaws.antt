@@ -1,5 +1,5 @@
 -- The file of a new database while it is made: until page 0 is written it has no header, whatever a crash leaves of it.
-use Rattle.std.proofs.Common.{◌≡◌, ◌≢◌, ◌⊎◌, inl, inr, ⊎_elim, ℕ, ◌*◌, ◌≤◌, List, [], length, take, sym, ◌∙◌, ap, subst, Bool, true, IsTrue, Some, Result, Ok, Err, OnOk}
+use Rattle.std.proofs.Common.{◌≡◌, ◌≢◌, ◌⊎◌, inl, inr, ⊎_elim, ℕ, ◌*◌, ◌<◌, ◌≤◌, List, [], length, take, sym, ◌∙◌, ap, subst, Bool, true, IsTrue, Some, Result, Ok, Err, OnOk}
 use Rattle.nb_base.proofs.Common.{on_ok_weaker, is_zeros, fresh, fresh_count, fresh_page, is_page_size, File, Files, bytes_of, with_file, World, Leaves, LeavesAll, PageLeft, IsDurable, Untouched, WholeOrNot, Remakes, WritesPage, Syncs, IsSilent, Passes, IsTimely, Changes, Only, GaveNothing, untouched_fewer, whole-other, begun, one_more, still_more, durable_is, Image, base_of, owner, delta_name, ShowsIn, CreateLeft, CreateReads, IsSettled, with_file-named, blank_free, blank_put, blank_left}
 use Rattle.nb_fields.specs.Free.{is_free_file}
 use Rattle.nb_host.specs.Causes.{FaultCount}
@@ -7,6 +7,8 @@ use Rattle.nb_host.specs.Files.{with_page}
 use Rattle.nb_base.proofs.CreateLaws.{HasRest, whole_shows}
 use Rattle.nb_page.proofs.BlankLaws.{IsBlank}
 use Rattle.nb_fields.proofs.ZeroLaws.{zeros-behind}
+use Rattle.nb_base.specs.Stays.{FileIs, EndsWithin}
+use Rattle.nb_base.proofs.StaysLaws.{put_within}
 
 blank-empty : (c : File) → c ≡ Some [] → IsBlank c
 blank-empty c is = ap (λ (x : File). is_zeros (take 64 (bytes_of x))) is
@@ -161,4 +163,18 @@ settled tells result old mid written new name size raw page so page_is kept put 
     by durable = record {
       left = λ files left. subst (λ (x : File). owner name x (files (delta_name name)) ≡ Ok (base_of (fresh size raw))) (sym (durable_is new name (written.files name) durable (files name) (left name))) (shown (files (delta_name name)));
       shows = subst (λ (f : Files). ShowsIn name (base_of (fresh size raw)) f) (sym is.still.files) (shown (written.files (delta_name name)));
+    }
+
+-- and it is no longer than its pages
+pub made_within : {T E : Type 0} (tells : Bool) (result : Result T E) (mid written new : World) (name : List ℕ) (most size : ℕ) (page : List ℕ) → IsTrue tells → EndsWithin (most * size) (mid.files name) × (0 < most) → length page ≡ size
+    → written.files ≡ with_file mid.files name (with_page (mid.files name) (0 * length page) page) → Syncs tells result written new name → OnOk result (FileIs new name (EndsWithin (most * size)))
+made_within tells result mid written new name most size page so within long put is = on_ok_weaker result by (is.durable so)
+  where
+    reads : EndsWithin (most * size) (written.files name)
+    reads = subst (EndsWithin (most * size)) (sym (with_file-named mid.files written.files name _ put)) (put_within 0 most size page (mid.files name) long within.1 within.0)
+
+    by : IsDurable new name (written.files name) → FileIs new name (EndsWithin (most * size))
+    by durable = record {
+      reads = subst (λ (f : Files). EndsWithin (most * size) (f name)) (sym is.still.files) reads;
+      left = λ c left. subst (EndsWithin (most * size)) (sym (durable_is new name (written.files name) durable c left)) reads;
     }

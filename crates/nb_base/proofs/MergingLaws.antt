@@ -68,6 +68,10 @@ module _ (old : World) (held : Held) (t : Trail) (k number : ℕ) (page : Page) 
   low : number < length t.base.image
   low = let last = named number t.base.diverted k its_entry in omega (arith, last, base-length t.base _ _ g)
 
+  -- it is a page of the database
+  pub its_place : number < length t.base.image
+  its_place = low
+
   pub merging : image_state t.base.image ≡ merge_state
   merging = sym o.is.agrees.state ∙ o.merges
 

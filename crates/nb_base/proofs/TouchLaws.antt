@@ -1,6 +1,9 @@
 -- What calls touch: one call, calls one after another, and by the backup state.
-use Rattle.std.proofs.Common.{◌≡◌, ◌≢◌, inl, inr, ℕ, zero, suc, List, refl, sym, ◌∙◌, subst, Bool, IsTrue, Result}
-use Rattle.nb_base.proofs.Common.{normal_state, stalled_state, Files, World, WritesPage, IsStill, IsTimely, Passes, Names, Only, Changes, begun, rested, weakened, composed, still_more, page_alone, Quiet, delta_name, OfFiles, Touches, WritesIn}
+use Rattle.std.proofs.Common.{◌≡◌, ◌≢◌, inl, inr, ⊎_elim, ℕ, zero, suc, List, refl, sym, ◌∙◌, subst, Bool, IsTrue, Result}
+use Rattle.nb_base.specs.Takes.{StrikesOn, StrikesIn}
+use Rattle.nb_base.specs.Touches.{WrittenIn}
+use Rattle.nb_change.specs.Changes.{ChangedLeft}
+use Rattle.nb_base.proofs.Common.{Strikes, Stroke, Trail, normal_state, stalled_state, Files, World, WritesPage, IsStill, IsTimely, Passes, Names, Only, Changes, begun, rested, weakened, composed, still_more, page_alone, Quiet, delta_name, OfFiles, Touches, WritesIn}
 
 -- whatever calls make of the files, those alone are touched
 pub touched : (old new : World) (names : Names) (P : Files → Type 0) → Changes old new names P → Touches old new names
@@ -55,3 +58,33 @@ pub both_in : (old new : World) (state : ℕ) (name : List ℕ) → state ≢ no
 both_in old new zero name some other is = absurd (some refl)
 both_in old new (suc zero) name some other is = absurd (other refl)
 both_in old new (suc (suc later)) name some other is = is
+
+-- What calls change, and which files they touch, said apart and as one.
+pub narrowed : (old new : World) (many few : Names) (P : Files → Type 0) → Changes old new many P → Touches old new few → Changes old new few P
+narrowed old new many few P is touches = record {
+  moments = record {
+    later = is.moments.later;
+    each = λ files said left. both files said (is.moments.each files said left) (touches.moments.each files said left);
+    earlier = λ t files said le left. ⊎_elim inl (λ one. ⊎_elim inl (λ two. inr (both files said one two)) (touches.moments.earlier t files said le left)) (is.moments.earlier t files said le left);
+  };
+  now = is.now;
+  others = touches.others;
+  others_read = touches.others_read;
+  said = is.said;
+}
+  where
+    both : (files : Files) (said : List ℕ) → ChangedLeft old many P files said → ChangedLeft old few (λ x. Unit {0}) files said → ChangedLeft old few P files said
+    both files said one two = record { has = one.has; others = two.others; output = one.output }
+
+-- the files that a state has pages written to are the database's
+pub written_of : (state : ℕ) (name m : List ℕ) → WrittenIn state name m → OfFiles name m
+written_of zero name m one = inl one
+written_of (suc zero) name m one = inr one
+written_of (suc (suc later)) name m one = one
+
+-- operations that touch fewer files
+pub strikes_more : (old new : World) (few many : Names) (name : List ℕ) (t : Trail) (strokes : List Stroke) → StrikesOn old new few name t strokes → ((m : List ℕ) → few m → many m) → StrikesOn old new many name t strokes
+strikes_more old new few many name t strokes is are = weakened old new few many _ _ is are (λ files others has. has)
+
+pub strikes_in : (old new : World) (state : ℕ) (name : List ℕ) (t : Trail) (strokes : List Stroke) → StrikesIn old new state name t strokes → Strikes old new name t strokes
+strikes_in old new state name t strokes is = strikes_more old new (WrittenIn state name) (OfFiles name) name t strokes is (written_of state name)

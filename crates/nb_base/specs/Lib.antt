@@ -2,6 +2,7 @@ pub mod Firm
 pub mod Going
 pub mod Open
 pub mod Seen
+pub mod Stays
 pub mod Takes
 pub mod Touches
 pub mod Beginnings

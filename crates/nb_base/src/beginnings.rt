@@ -1,5 +1,5 @@
 // A database is made, so that a crash leaves no half of one, and opened.
-ghost use Rattle.std.specs.Prelude.{◌≡◌, ◌≢◌, ◌+◌, ◌≤◌, ◌<◌, IsTrue, OnOk, IfOk, IfErr, length};
+ghost use Rattle.std.specs.Prelude.{◌≡◌, ◌≢◌, ◌+◌, ◌*◌, ◌≤◌, ◌<◌, IsTrue, OnOk, IfOk, IfErr, length};
 ghost use Rattle.nb_fields.specs.Places.{is_page_size, most_pages};
 ghost use Rattle.nb_fields.specs.Fresh.{fresh, fresh_count};
 ghost use Rattle.nb_host.specs.Causes.{CountsDevice, CountsFault};
@@ -13,6 +13,7 @@ ghost use Rattle.nb_model.specs.Trail.{Trail};
 ghost use Rattle.nb_base.specs.Beginnings.{CreateLeft, CreateReads, CreatesFile, Attaches, Creates, IsSettled, first_of};
 ghost use Rattle.nb_base.specs.Open.{IsOpen};
 ghost use Rattle.nb_base.specs.Reads.{opening_reads};
+ghost use Rattle.nb_base.specs.Stays.{FileIs, EndsWithin};
 
 use crate::TwoFiles;
 use crate::attach::{attach_delta, count_with, find_length, keep_files, read_start};
@@ -39,6 +40,7 @@ fn make_file<H: Host>(
     ensures left { IsTrue H.tells → Changes (H.world host.old) (H.world host.new) (Only name.now) (CreateLeft (H.world host.old) name.now (fresh (length page.old) raw)) }
     ensures reads { IsTrue H.tells → CreateReads (H.world host.old) name.now (fresh (length page.old) raw) (H.world host.new).files }
     ensures made { IsTrue H.tells → OnOk result (IsSettled (H.world host.new) name.now (base_of (fresh (length page.old) raw))) }
+    ensures within { IsTrue H.tells → OnOk result (FileIs (H.world host.new) name.now (EndsWithin (count * length page.old))) }
     ensures gave { GaveNothing (H.world host.old) (H.world host.new) }
     ensures cause { CountsFault result (H.faults host.old) (H.faults host.new) }
 {
@@ -59,6 +61,7 @@ fn create_file<H: Host>(host: &mut H, name: &Name, page: &mut [u8], raw: u32) ->
     requires size { IsTrue (is_page_size (length page.old)) }
     requires raw { raw ≤ 65535 }
     ensures creates { IsTrue H.tells → CreatesFile result (H.world host.old) (H.world host.new) name.now (fresh (length page.old) raw) }
+    ensures within { IsTrue H.tells → IfOk result (λ count. FileIs (H.world host.new) name.now (EndsWithin (count * length page.old))) }
     ensures gave { GaveNothing (H.world host.old) (H.world host.new) }
     ensures count { IfOk result (λ count. count ≤ most_pages) }
     ensures cause { CountsDevice result (H.faults host.old) (H.faults host.new) }
@@ -88,6 +91,7 @@ impl TwoFiles {
     ) -> Result<(TwoFiles, Vec<u8>), Fault>
         requires name { length name.now ≤ 94 }
         ensures attaches { IsTrue H.tells → Attaches (first_of result) (H.world host.old) (H.world host.new) name.now }
+        ensures durable { IsTrue H.tells → IfOk result (λ (files, page). FileIs (H.world host.new) name.now (λ file. file ≡ (H.world host.old).files name.now)) }
         ensures page { (t : Trail) → IsTrue H.tells → IfOk result (λ (files, page). IsOpen (H.world host.new) files t → page.items ≡ first_page t.base.image) }
         ensures long { IfOk result (λ (files, page). length page.items ≡ files.page_size) }
         ensures quiet { Quiet (H.world host.old) (H.world host.new) }
@@ -130,6 +134,7 @@ impl TwoFiles {
         requires name { length name.now ≤ 94 }
         ensures creates { IsTrue H.tells → Creates result (H.world host.old) (H.world host.new) name.now (fresh page_size raw) }
         ensures page_size { IfOk result (λ files. files.page_size ≡ page_size) }
+        ensures within { IsTrue H.tells → IfOk result (λ files. FileIs (H.world host.new) name.now (EndsWithin (length (fresh page_size raw) * page_size))) }
         ensures cause { CountsDevice result (H.faults host.old) (H.faults host.new) }
         ensures on_memory { result ≡ Err Fault.Memory → host.new ≡ host.old }
     {

@@ -1,10 +1,11 @@
 // The calls that change the backup state, and the merge.
-ghost use Rattle.std.specs.Prelude.{◌≡◌, ◌<◌, ◌≤◌, ◌+◌, [], ◌∷◌, length, slice_index, IsTrue, OnOk, Option, None};
+ghost use Rattle.std.specs.Prelude.{◌≡◌, ◌<◌, ◌≤◌, ◌+◌, ◌*◌, ℕ, List, [], ◌∷◌, length, slice_index, IsTrue, OnOk, Option, None};
 ghost use Rattle.nb_fields.specs.Header.{scn_of, guid_of};
 ghost use Rattle.nb_fields.specs.Places.{is_page_size, most_pages};
 ghost use Rattle.nb_fields.specs.States.{normal_state, stalled_state, merge_state};
 ghost use Rattle.nb_host.specs.Causes.{CountsFault};
-ghost use Rattle.nb_change.specs.Changes.{Changes, Only};
+ghost use Rattle.nb_host.specs.Crash.{IsDurable};
+ghost use Rattle.nb_change.specs.Changes.{Changes, Only, Touches};
 ghost use Rattle.nb_change.specs.Gave.{GaveNothing};
 ghost use Rattle.nb_model.specs.Account.{Ask};
 ghost use Rattle.nb_model.specs.Image.{Image, image_scn, image_size, trimmed};
@@ -14,6 +15,7 @@ ghost use Rattle.nb_model.specs.Trail.{Trail};
 ghost use Rattle.nb_base.specs.Control.{next_scn, next_guid, in_state, HasRoom, IsImageOf, ControlLeft};
 ghost use Rattle.nb_base.specs.Merging.{PutsPage};
 ghost use Rattle.nb_base.specs.Open.{IsOpen, AreMerged};
+ghost use Rattle.nb_base.specs.Stays.{KeepsFile, EndsWithin, HasAfterFirst};
 ghost use Rattle.nb_base.specs.Takes.{TakesFirm};
 
 use crate::TwoFiles;
@@ -68,6 +70,9 @@ fn control_block<H: Host>(
         → Changes (H.world host.old) (H.world host.new) (Only name.now) (ControlLeft name.now main (in_state state guid main)) }
     ensures done { (main : Image) → IsTrue H.tells → IsImageOf (H.world host.old) name.now main → image_size main ≡ length page.old → HasRoom state (image_scn main)
         → OnOk result (IsImageOf (H.world host.new) name.now (in_state state guid main)) }
+    ensures durable { IsTrue H.tells → OnOk result (IsDurable (H.world host.new) name.now ((H.world host.new).files name.now)) }
+    ensures within { (most : ℕ) → IsTrue H.tells → 0 < most → KeepsFile (H.world host.old) (H.world host.new) name.now (EndsWithin (most * length page.old)) }
+    ensures rest { (bytes : List ℕ) → IsTrue H.tells → KeepsFile (H.world host.old) (H.world host.new) name.now (HasAfterFirst (length page.old) bytes) }
     ensures gave { GaveNothing (H.world host.old) (H.world host.new) }
     ensures long { length page.new ≡ length page.old }
     ensures cause { CountsFault result (H.faults host.old) (H.faults host.new) }
@@ -85,6 +90,8 @@ impl TwoFiles {
         requires normal { self.old.state ≡ normal_state }
         ensures takes { (t : Trail) (ask : Option Ask) → IsTrue H.tells → IsOpen (H.world host.old) self.old t → image_scn t.base.image < 4294967294
             → TakesFirm result (H.world host.old) (H.world host.new) self.old.name (IsOpen (H.world host.new) self.new) t (begin_stroke guid.now ask ∷ []) }
+        ensures durable { IsTrue H.tells → OnOk result (IsDurable (H.world host.new) self.old.name ((H.world host.new).files self.old.name)) }
+        ensures within { (most : ℕ) → IsTrue H.tells → 0 < most → KeepsFile (H.world host.old) (H.world host.new) self.old.name (EndsWithin (most * self.old.page_size)) }
         ensures gave { GaveNothing (H.world host.old) (H.world host.new) }
         ensures state { OnOk result (self.new.state ≡ stalled_state) }
         ensures name { self.new.name ≡ self.old.name }
@@ -106,6 +113,8 @@ impl TwoFiles {
         requires none_waits { self.old.drafted ≡ 0 }
         ensures takes { (t : Trail) → IsTrue H.tells → IsOpen (H.world host.old) self.old t
             → TakesFirm result (H.world host.old) (H.world host.new) self.old.name (IsOpen (H.world host.new) self.new) t (ends ∷ []) }
+        ensures within { (most : ℕ) → IsTrue H.tells → 0 < most → KeepsFile (H.world host.old) (H.world host.new) self.old.name (EndsWithin (most * self.old.page_size)) }
+        ensures rest { (bytes : List ℕ) → IsTrue H.tells → KeepsFile (H.world host.old) (H.world host.new) self.old.name (HasAfterFirst self.old.page_size bytes) }
         ensures gave { GaveNothing (H.world host.old) (H.world host.new) }
         ensures state { OnOk result (self.new.state ≡ merge_state) }
         ensures name { self.new.name ≡ self.old.name }
@@ -126,6 +135,8 @@ impl TwoFiles {
         requires inside { k < length self.old.entries }
         ensures takes { (t : Trail) → IsTrue H.tells → IsOpen (H.world host.old) self.old t
             → TakesFirm result (H.world host.old) (H.world host.new) self.old.name (IsOpen (H.world host.new) self.new) t [] }
+        ensures touches { IsTrue H.tells → Touches (H.world host.old) (H.world host.new) (Only self.old.name) }
+        ensures within { (t : Trail) (most : ℕ) → IsTrue H.tells → IsOpen (H.world host.old) self.old t → length t.base.image ≤ most → KeepsFile (H.world host.old) (H.world host.new) self.old.name (EndsWithin (most * self.old.page_size)) }
         ensures merged { (t : Trail) → IsTrue H.tells → IsOpen (H.world host.old) self.old t → AreMerged (H.world host.old) self.old k
             → OnOk result (AreMerged (H.world host.new) self.new (k + 1)) }
         ensures put { IsTrue H.tells → OnOk result (PutsPage (H.world host.old).files (H.world host.new).files self.old.name self.old.page_size (slice_index self.old.entries k)) }
@@ -147,6 +158,7 @@ impl TwoFiles {
         requires merge { self.old.state ≡ merge_state }
         ensures takes { (t : Trail) → IsTrue H.tells → IsOpen (H.world host.old) self.old t → AreMerged (H.world host.old) self.old (length self.old.entries)
             → TakesFirm result (H.world host.old) (H.world host.new) self.old.name (IsOpen (H.world host.new) self.new) t (finish_stroke ∷ []) }
+        ensures within { (most : ℕ) → IsTrue H.tells → 0 < most → KeepsFile (H.world host.old) (H.world host.new) self.old.name (EndsWithin (most * self.old.page_size)) }
         ensures gone { IsTrue H.tells → OnOk result ((H.world host.new).files (delta_name self.old.name) ≡ None) }
         ensures gave { GaveNothing (H.world host.old) (H.world host.new) }
         ensures state { OnOk result (self.new.state ≡ normal_state) }
@@ -164,6 +176,7 @@ impl TwoFiles {
         requires most { count ≤ most_pages }
         ensures takes { (t : Trail) → IsTrue H.tells → IsOpen (H.world host.old) self.old t → AreMerged (H.world host.old) self.old (length self.old.entries) → count ≡ length (trimmed t.base.image)
             → TakesFirm result (H.world host.old) (H.world host.new) self.old.name (IsOpen (H.world host.new) self.new) t (finish_stroke ∷ []) }
+        ensures within { (most : ℕ) → IsTrue H.tells → 0 < most → KeepsFile (H.world host.old) (H.world host.new) self.old.name (EndsWithin (most * self.old.page_size)) }
         ensures gone { IsTrue H.tells → OnOk result ((H.world host.new).files (delta_name self.old.name) ≡ None) }
         ensures gave { GaveNothing (H.world host.old) (H.world host.new) }
         ensures state { OnOk result (self.new.state ≡ normal_state) }

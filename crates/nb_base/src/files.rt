@@ -1,4 +1,4 @@
-ghost use Rattle.std.specs.Prelude.{◌≡◌, ◌≢◌, ◌↔◌, ◌<◌, ◌≤◌, ◌+◌, ℕ, [], ◌∷◌, length, IsTrue, IfErr, OnOk, false, not, ◌==◌};
+ghost use Rattle.std.specs.Prelude.{◌≡◌, ◌≢◌, ◌↔◌, ◌<◌, ◌≤◌, ◌+◌, ◌*◌, ℕ, [], ◌∷◌, length, IsTrue, IfErr, OnOk, false, not, ◌==◌};
 ghost use Rattle.nb_fields.specs.Bytes.{is_zeros, number_in};
 ghost use Rattle.nb_fields.specs.Places.{is_page_size, most_pages};
 ghost use Rattle.nb_fields.specs.States.{stalled_state, merge_state};
@@ -14,6 +14,7 @@ ghost use Rattle.nb_model.specs.Trail.{Trail, settled, ShowsIn};
 ghost use Rattle.nb_base.specs.Firm.{must_sync};
 ghost use Rattle.nb_base.specs.Open.{IsOpen, Agrees, Fits, AreMerged};
 ghost use Rattle.nb_base.specs.Seen.{IsSeen, IsWrite, noted_in};
+ghost use Rattle.nb_base.specs.Stays.{KeepsFile, EndsWithin};
 ghost use Rattle.nb_base.specs.Takes.{TakesFirm};
 ghost use Rattle.nb_base.specs.Touches.{WritesIn};
 
@@ -148,6 +149,7 @@ impl TwoFiles {
         ensures takes { (t : Trail) → IsTrue H.tells → IsOpen (H.world host.old) self.old t → Fits number page.now t.base.image
             → TakesFirm result (H.world host.old) (H.world host.new) self.old.name (IsOpen (H.world host.new) self.new) t (page_stroke number page.now ∷ []) }
         ensures touches { (t : Trail) → IsTrue H.tells → IsOpen (H.world host.old) self.old t → WritesIn (H.world host.old) (H.world host.new) self.old.state self.old.name }
+        ensures within { (t : Trail) (most : ℕ) → IsTrue H.tells → IsOpen (H.world host.old) self.old t → number < most → KeepsFile (H.world host.old) (H.world host.new) self.old.name (EndsWithin (most * self.old.page_size)) }
         ensures merged { (t : Trail) (k : ℕ) → IsTrue H.tells → IsOpen (H.world host.old) self.old t → Fits number page.now t.base.image → self.old.state ≡ merge_state
             → AreMerged (H.world host.old) self.old k → OnOk result (AreMerged (H.world host.new) self.new k) }
         ensures longer { self.old.count ≤ self.new.count }
@@ -195,6 +197,7 @@ impl TwoFiles {
         ensures takes { (t : Trail) → IsTrue H.tells → IsOpen (H.world host.old) self.old t → IsWrite t number page.now → synced ≡ must_sync t.base.image number
             → TakesFirm result (H.world host.old) (H.world host.new) self.old.name (IsSeen (H.world host.new) self.old.name) t (page_stroke number page.now ∷ []) }
         ensures touches { (t : Trail) → IsTrue H.tells → IsOpen (H.world host.old) self.old t → WritesIn (H.world host.old) (H.world host.new) self.old.state self.old.name }
+        ensures within { (t : Trail) (most : ℕ) → IsTrue H.tells → IsOpen (H.world host.old) self.old t → number < most → KeepsFile (H.world host.old) (H.world host.new) self.old.name (EndsWithin (most * self.old.page_size)) }
         ensures merged { (t : Trail) (k : ℕ) → IsTrue H.tells → IsOpen (H.world host.old) self.old t → IsWrite t number page.now → self.old.state ≡ merge_state
             → AreMerged (H.world host.old) self.old k → OnOk result (AreMerged (H.world host.new) self.old k) }
         ensures known { OnOk result (self.new ≡ record self.old { entries = noted_in self.old.state number self.old.entries }) }

@@ -1,5 +1,5 @@
 // Pages that waited go out into the files.
-ghost use Rattle.std.specs.Prelude.{◌≡◌, length, IsTrue, OnOk};
+ghost use Rattle.std.specs.Prelude.{◌≡◌, ◌<◌, ◌*◌, ℕ, length, IsTrue, OnOk};
 ghost use Rattle.nb_host.specs.Causes.{CountsFault};
 ghost use Rattle.nb_change.specs.Changes.{Only, Changes};
 ghost use Rattle.nb_change.specs.Gave.{GaveNothing};
@@ -7,6 +7,7 @@ ghost use Rattle.nb_model.specs.Account.{Base};
 ghost use Rattle.nb_model.specs.Strokes.{page as page_stroke, on_base};
 ghost use Rattle.nb_model.specs.Trail.{ShowsIn};
 ghost use Rattle.nb_base.specs.Put.{MayPut, PutLeft};
+ghost use Rattle.nb_base.specs.Stays.{KeepsFile, EndsWithin};
 
 use crate::TwoFiles;
 use nb_host::{Host, HostFault};
@@ -24,6 +25,7 @@ impl TwoFiles {
         ensures left { IsTrue H.tells → Changes (H.world host.old) (H.world host.new) (Only self.old.name) (PutLeft (H.world host.old) self.old.name number page.now) }
         ensures put { (b : Base) → IsTrue H.tells → ShowsIn self.old.name b (H.world host.old).files → MayPut b number page.now
             → OnOk result (ShowsIn self.old.name (on_base (page_stroke number page.now) b) (H.world host.new).files) }
+        ensures within { (most : ℕ) → IsTrue H.tells → number < most → KeepsFile (H.world host.old) (H.world host.new) self.old.name (EndsWithin (most * self.old.page_size)) }
         ensures same { self.new ≡ self.old }
         ensures gave { GaveNothing (H.world host.old) (H.world host.new) }
         ensures reads { (H.world host.new).reads ≡ (H.world host.old).reads }

@@ -16,6 +16,7 @@ ghost use Rattle.nb_model.specs.Trail.{Trail};
 ghost use Rattle.nb_base.specs.Firm.{is_kept_place, must_sync};
 ghost use Rattle.nb_base.specs.Open.{Held, OfFiles, AreMerged};
 ghost use Rattle.nb_base.specs.Seen.{IsSeen, IsWrite};
+ghost use Rattle.nb_base.specs.Stays.{KeepsFile, EndsWithin};
 ghost use Rattle.nb_base.specs.Takes.{TakesFirm};
 ghost use Rattle.nb_base.specs.Touches.{WritesIn};
 
@@ -48,6 +49,7 @@ pub fn write_main<H: Host>(
         → synced ≡ must_sync t.base.image number
         → TakesFirm result (H.world host.old) (H.world host.new) name.now (IsSeen (H.world host.new) name.now) t (page_stroke number page.now ∷ []) }
     ensures touches { IsTrue H.tells → Touches (H.world host.old) (H.world host.new) (Only name.now) }
+    ensures within { (most : ℕ) → IsTrue H.tells → number < most → KeepsFile (H.world host.old) (H.world host.new) name.now (EndsWithin (most * length page.now)) }
     ensures put { IsTrue H.tells → OnOk result ((H.world host.new).files ≡ with_file (H.world host.old).files name.now (with_page ((H.world host.old).files name.now) (number * length page.now) page.now)) }
     ensures log { IsSilent (H.world host.old) (H.world host.new) }
     ensures cause { CountsFault result (H.faults host.old) (H.faults host.new) }
@@ -67,6 +69,7 @@ pub fn write_hidden<H: Host>(
     ensures takes { (t : Trail) (k : ℕ) → IsTrue H.tells → IsSeen (H.world host.old) name.now t → IsWrite t number page.now → image_state t.base.image ≡ merge_state → entry_for number t.base.diverted ≡ Some k
         → TakesFirm result (H.world host.old) (H.world host.new) name.now (IsSeen (H.world host.new) name.now) t [] }
     ensures touches { IsTrue H.tells → Touches (H.world host.old) (H.world host.new) (Only name.now) }
+    ensures within { (most : ℕ) → IsTrue H.tells → number < most → KeepsFile (H.world host.old) (H.world host.new) name.now (EndsWithin (most * length page.now)) }
     ensures put { IsTrue H.tells → OnOk result ((H.world host.new).files ≡ with_file (H.world host.old).files name.now (with_page ((H.world host.old).files name.now) (number * length page.now) page.now)) }
     ensures log { IsSilent (H.world host.old) (H.world host.new) }
     ensures cause { CountsFault result (H.faults host.old) (H.faults host.new) }
@@ -141,6 +144,8 @@ pub fn write_both<H: Host>(
     ensures merged { (t : Trail) (held : Held) (n : ℕ) (k : ℕ) → IsTrue H.tells → IsSeen (H.world host.old) held.name t → IsWrite t number page.now → image_state t.base.image ≡ merge_state → t.base.diverted ≡ held.entries
         → held.name ≡ name.now → held.page_size ≡ delta.old.page_size → delta.old.name ≡ delta_name name.now → entry_for number held.entries ≡ Some k → slot ≡ slot_place delta.old.page_size k → AreMerged (H.world host.old) held n → OnOk result (AreMerged (H.world host.new) held n) }
     ensures touches { IsTrue H.tells → (k : ℕ) → delta.old.name ≡ delta_name name.now → slot ≡ slot_place delta.old.page_size k → Touches (H.world host.old) (H.world host.new) (OfFiles name.now) }
+    ensures within { (most k : ℕ) → IsTrue H.tells → delta.old.name ≡ delta_name name.now → slot ≡ slot_place delta.old.page_size k → number < most
+        → KeepsFile (H.world host.old) (H.world host.new) name.now (EndsWithin (most * length page.now)) }
     ensures same { delta.new ≡ delta.old }
     ensures log { IsSilent (H.world host.old) (H.world host.new) }
     ensures cause { CountsFault result (H.faults host.old) (H.faults host.new) }
@@ -206,6 +211,7 @@ pub fn write_plain<H: Host>(
     ensures merged { (t : Trail) (held : Held) (n : ℕ) → IsTrue H.tells → IsSeen (H.world host.old) held.name t → IsWrite t number page.now → image_state t.base.image ≡ merge_state → t.base.diverted ≡ held.entries
         → held.name ≡ name.now → held.page_size ≡ delta.old.page_size → delta.old.name ≡ delta_name name.now → held.entries ≡ delta.old.entries → AreMerged (H.world host.old) held n → OnOk result (AreMerged (H.world host.new) held n) }
     ensures touches { IsTrue H.tells → (state ≡ normal_state → delta.old.entries ≡ []) → delta.old.name ≡ delta_name name.now → WritesIn (H.world host.old) (H.world host.new) state name.now }
+    ensures within { (most : ℕ) → IsTrue H.tells → delta.old.name ≡ delta_name name.now → number < most → KeepsFile (H.world host.old) (H.world host.new) name.now (EndsWithin (most * length page.now)) }
     ensures same { delta.new ≡ delta.old }
     ensures log { IsSilent (H.world host.old) (H.world host.new) }
     ensures cause { CountsFault result (H.faults host.old) (H.faults host.new) }

@@ -26,6 +26,7 @@ pub use Rattle.nb_host.proofs.PlainLaws.{both_true, eq_other, eq_self, none_some
 pub use Rattle.nb_host.specs.Files.{Files}
 pub use Rattle.nb_host.specs.Moments.{IsTimely}
 pub use Rattle.nb_host.specs.World.{World}
+pub use Rattle.nb_model.proofs.MainLaws.{some_page}
 pub use Rattle.nb_model.proofs.BehindLaws.{behind_firm, behind_left, way_left}
 pub use Rattle.nb_model.proofs.StrokeLaws.{begun_image, ended_image, stroke-frozen, stroke-diverted, stroke_page}
 pub use Rattle.nb_model.proofs.TrailLaws.{trail_base}

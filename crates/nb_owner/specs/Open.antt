@@ -40,6 +40,10 @@ AreOf image pages = AllByRecursion (λ e. e.1.bytes ≡ page_at image e.0) pages
 abbrev pub waits : Pages → (p : ℕ) → Bool
 waits pages p = is_some (rank_of pages p)
 
+-- each page that waits is one of the first so many
+abbrev pub AreBelow : (most : ℕ) → Pages → Type 0
+AreBelow most pages = (p rank : ℕ) → rank_of pages p ≡ Some rank → p < most
+
 -- A page that waits: one below the length other than page 0, of the size of a page, with forced writes off, with the rank by which it goes
 -- out. In the stalled state it has an entry. In the merge state none waits.
 pub record IsWaiting (t : Trail) (p rank : ℕ) : Type 0 where

@@ -1,5 +1,5 @@
 // A database is created or opened. No page of it is in memory then.
-ghost use Rattle.std.specs.Prelude.{◌≡◌, ◌+◌, ◌<◌, ◌≤◌, IsTrue, IfOk, length};
+ghost use Rattle.std.specs.Prelude.{◌≡◌, ◌+◌, ◌*◌, ◌<◌, ◌≤◌, IsTrue, IfOk, length};
 ghost use Rattle.nb_fields.specs.Places.{is_page_size};
 ghost use Rattle.nb_fields.specs.Fresh.{fresh};
 ghost use Rattle.nb_host.specs.Causes.{CountsDevice};
@@ -9,6 +9,7 @@ ghost use Rattle.nb_model.specs.Trail.{Trail};
 ghost use Rattle.nb_base.specs.Beginnings.{Attaches, Creates, first_of};
 ghost use Rattle.nb_base.specs.Open.{IsOpen as AreOpen};
 ghost use Rattle.nb_base.specs.Reads.{opening_reads};
+ghost use Rattle.nb_base.specs.Stays.{FileIs, EndsWithin};
 ghost use Rattle.nb_owner.specs.Beginnings.{files_of, IsBlank};
 
 use crate::Pair;
@@ -32,6 +33,7 @@ impl Pair {
         requires some { 0 < cache_pages }
         requires few { cache_pages ≤ 4096 }
         ensures attaches { IsTrue H.tells → Attaches (files_of (first_of result)) (H.world host.old) (H.world host.new) name.now }
+        ensures durable { IsTrue H.tells → IfOk result (λ (pair, page). FileIs (H.world host.new) name.now (λ file. file ≡ (H.world host.old).files name.now)) }
         ensures page { (t : Trail) → IsTrue H.tells → IfOk result (λ (pair, page). AreOpen (H.world host.new) pair.files t → page.items ≡ first_page t.base.image) }
         ensures long { IfOk result (λ (pair, page). length page.items ≡ pair.files.page_size) }
         ensures page_size { IfOk result (λ (pair, page). IsTrue (is_page_size pair.files.page_size)) }
@@ -64,6 +66,7 @@ impl Pair {
         requires few { cache_pages ≤ 4096 }
         ensures creates { IsTrue H.tells → Creates (files_of result) (H.world host.old) (H.world host.new) name.now (fresh page_size raw) }
         ensures page_size { IfOk result (λ pair. pair.files.page_size ≡ page_size) }
+        ensures within { IsTrue H.tells → IfOk result (λ pair. FileIs (H.world host.new) name.now (EndsWithin (length (fresh page_size raw) * page_size))) }
         ensures blank { IfOk result (IsBlank cache_pages) }
         ensures cause { CountsDevice result (H.faults host.old) (H.faults host.new) }
         ensures on_memory { result ≡ Err Fault.Memory → host.new ≡ host.old }

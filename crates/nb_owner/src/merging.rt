@@ -1,15 +1,17 @@
 // The stalled state ends, and the pages of the difference file are merged back. Page 0 is held no longer where it changes, nor pages after the
 // end.
-ghost use Rattle.std.specs.Prelude.{◌≡◌, ◌<◌, ◌+◌, ◌-◌, [], ◌∷◌, length, slice_index, nat_eq, IsTrue, OnOk, None};
+ghost use Rattle.std.specs.Prelude.{◌≡◌, ◌<◌, ◌+◌, ◌-◌, ℕ, List, [], ◌∷◌, length, slice_index, nat_eq, IsTrue, OnOk, None};
 ghost use Rattle.std.specs.Map.{remove_entry};
 ghost use Rattle.nb_fields.specs.States.{normal_state, stalled_state, merge_state};
 ghost use Rattle.nb_host.specs.Causes.{CountsFault};
+ghost use Rattle.nb_change.specs.Changes.{Only, Touches};
 ghost use Rattle.nb_change.specs.Gave.{GaveNothing};
 ghost use Rattle.nb_model.specs.Owner.{delta_name};
 ghost use Rattle.nb_model.specs.Strokes.{ends, finish as finish_stroke};
 ghost use Rattle.nb_model.specs.Trail.{Trail};
 ghost use Rattle.nb_base.specs.Merging.{PutsPage};
 ghost use Rattle.nb_base.specs.Open.{IsOpen as AreOpen, AreMerged};
+ghost use Rattle.nb_base.specs.Stays.{KeepsFile, HasAfterFirst, GrowsWithin};
 ghost use Rattle.nb_base.specs.Takes.{Takes};
 ghost use Rattle.nb_cache.specs.Held.{NoneWaits};
 ghost use Rattle.nb_owner.specs.Open.{IsOpen, bare, behind_first, but_below};
@@ -24,6 +26,8 @@ impl Pair {
         requires stalled { self.old.files.state ≡ stalled_state }
         ensures takes { (t : Trail) → IsTrue H.tells → IsOpen (H.world host.old) self.old t
             → Takes result (H.world host.old) (H.world host.new) self.old.files.name (IsOpen (H.world host.new) self.new) t (ends ∷ []) }
+        ensures within { (t : Trail) → IsTrue H.tells → IsOpen (H.world host.old) self.old t → GrowsWithin (H.world host.old) (H.world host.new) self.old.files.name self.old.files.page_size t [] }
+        ensures rest { (t : Trail) (bytes : List ℕ) → IsTrue H.tells → IsOpen (H.world host.old) self.old t → KeepsFile (H.world host.old) (H.world host.new) self.old.files.name (HasAfterFirst self.old.files.page_size bytes) }
         ensures others { OnOk result (bare self.new.pages ≡ bare (behind_first self.old.pages)) }
         ensures cap { self.new.cap ≡ self.old.cap }
         ensures gave { GaveNothing (H.world host.old) (H.world host.new) }
@@ -44,6 +48,8 @@ impl Pair {
         requires no_drafts { self.old.files.drafted ≡ 0 }
         ensures takes { (t : Trail) → IsTrue H.tells → IsOpen (H.world host.old) self.old t
             → Takes result (H.world host.old) (H.world host.new) self.old.files.name (IsOpen (H.world host.new) self.new) t (ends ∷ []) }
+        ensures within { (t : Trail) → IsTrue H.tells → IsOpen (H.world host.old) self.old t → GrowsWithin (H.world host.old) (H.world host.new) self.old.files.name self.old.files.page_size t [] }
+        ensures rest { (t : Trail) (bytes : List ℕ) → IsTrue H.tells → IsOpen (H.world host.old) self.old t → KeepsFile (H.world host.old) (H.world host.new) self.old.files.name (HasAfterFirst self.old.files.page_size bytes) }
         ensures others { OnOk result (self.new.pages ≡ behind_first self.old.pages) }
         ensures cap { self.new.cap ≡ self.old.cap }
         ensures gave { GaveNothing (H.world host.old) (H.world host.new) }
@@ -65,6 +71,8 @@ impl Pair {
         requires inside { k < length self.old.files.entries }
         ensures takes { (t : Trail) → IsTrue H.tells → IsOpen (H.world host.old) self.old t
             → Takes result (H.world host.old) (H.world host.new) self.old.files.name (IsOpen (H.world host.new) self.new) t [] }
+        ensures touches { IsTrue H.tells → Touches (H.world host.old) (H.world host.new) (Only self.old.files.name) }
+        ensures within { (t : Trail) → IsTrue H.tells → IsOpen (H.world host.old) self.old t → GrowsWithin (H.world host.old) (H.world host.new) self.old.files.name self.old.files.page_size t [] }
         ensures merged { (t : Trail) → IsTrue H.tells → IsOpen (H.world host.old) self.old t → AreMerged (H.world host.old) self.old.files k
             → OnOk result (AreMerged (H.world host.new) self.new.files (k + 1)) }
         ensures put { IsTrue H.tells → OnOk result (PutsPage (H.world host.old).files (H.world host.new).files self.old.files.name self.old.files.page_size (slice_index self.old.files.entries k)) }
@@ -81,6 +89,7 @@ impl Pair {
         requires merge { self.old.files.state ≡ merge_state }
         ensures takes { (t : Trail) → IsTrue H.tells → IsOpen (H.world host.old) self.old t → AreMerged (H.world host.old) self.old.files (length self.old.files.entries)
             → Takes result (H.world host.old) (H.world host.new) self.old.files.name (IsOpen (H.world host.new) self.new) t (finish_stroke ∷ []) }
+        ensures within { (t : Trail) → IsTrue H.tells → IsOpen (H.world host.old) self.old t → GrowsWithin (H.world host.old) (H.world host.new) self.old.files.name self.old.files.page_size t [] }
         ensures others { OnOk result (self.new.pages ≡ but_below (self.old.files.count - self.new.files.count) self.old.files.count (behind_first self.old.pages)) }
         ensures gone { IsTrue H.tells → OnOk result ((H.world host.new).files (delta_name self.old.files.name) ≡ None) }
         ensures cap { self.new.cap ≡ self.old.cap }
@@ -101,6 +110,7 @@ impl Pair {
         requires merge { self.old.files.state ≡ merge_state }
         ensures takes { (t : Trail) → IsTrue H.tells → IsOpen (H.world host.old) self.old t → AreMerged (H.world host.old) self.old.files (length self.old.files.entries)
             → Takes result (H.world host.old) (H.world host.new) self.old.files.name (AreOpen (H.world host.new) self.new.files) t (finish_stroke ∷ []) }
+        ensures within { (t : Trail) → IsTrue H.tells → IsOpen (H.world host.old) self.old t → GrowsWithin (H.world host.old) (H.world host.new) self.old.files.name self.old.files.page_size t [] }
         ensures others { OnOk result (self.new.pages ≡ behind_first self.old.pages) }
         ensures none { OnOk result (NoneWaits self.new.pages) }
         ensures gone { IsTrue H.tells → OnOk result ((H.world host.new).files (delta_name self.old.files.name) ≡ None) }

@@ -10,6 +10,7 @@ ghost use Rattle.nb_model.specs.Image.{page_at, is_forced};
 ghost use Rattle.nb_model.specs.Strokes.{page as page_stroke};
 ghost use Rattle.nb_model.specs.Trail.{Trail, settled};
 ghost use Rattle.nb_base.specs.Open.{Fits, AreMerged};
+ghost use Rattle.nb_base.specs.Stays.{GrowsWithin};
 ghost use Rattle.nb_base.specs.Takes.{Takes, Strikes};
 ghost use Rattle.nb_base.specs.Touches.{WritesIn};
 ghost use Rattle.nb_cache.specs.Held.{slot_of, rank_of, dropped, NoneWaits};
@@ -201,6 +202,7 @@ impl Pair {
         ensures takes { (t : Trail) → IsTrue H.tells → IsOpen (H.world host.old) self.old t
             → Takes result (H.world host.old) (H.world host.new) self.old.files.name (IsOpen (H.world host.new) self.new) t (page_stroke number page.now ∷ []) }
         ensures touches { (t : Trail) → IsTrue H.tells → IsOpen (H.world host.old) self.old t → WritesIn (H.world host.old) (H.world host.new) self.old.files.state self.old.files.name }
+        ensures within { (t : Trail) → IsTrue H.tells → IsOpen (H.world host.old) self.old t → GrowsWithin (H.world host.old) (H.world host.new) self.old.files.name self.old.files.page_size t (page_stroke number page.now ∷ []) }
         ensures merged { (t : Trail) (k : ℕ) → IsTrue H.tells → IsOpen (H.world host.old) self.old t → self.old.files.state ≡ merge_state
             → AreMerged (H.world host.old) self.old.files k → OnOk result (AreMerged (H.world host.new) self.new.files k) }
         ensures waits { may_wait self.old number ≡ true → (self.old.files.state ≡ normal_state → IsOk result) × IfErr result (λ error. error ≡ RunError.Memory) × (host.new ≡ host.old) × OnOk result (waits self.new.pages number ≡ true) }
@@ -247,6 +249,7 @@ impl Pair {
         ensures takes { (t : Trail) → IsTrue H.tells → IsOpen (H.world host.old) self.old t → Fits number page.now t.base.image
             → Takes result (H.world host.old) (H.world host.new) self.old.files.name (IsOpen (H.world host.new) self.new) t (page_stroke number page.now ∷ []) }
         ensures touches { (t : Trail) → IsTrue H.tells → IsOpen (H.world host.old) self.old t → WritesIn (H.world host.old) (H.world host.new) self.old.files.state self.old.files.name }
+        ensures within { (t : Trail) → IsTrue H.tells → IsOpen (H.world host.old) self.old t → Fits number page.now t.base.image → GrowsWithin (H.world host.old) (H.world host.new) self.old.files.name self.old.files.page_size t (page_stroke number page.now ∷ []) }
         ensures merged { (t : Trail) (k : ℕ) → IsTrue H.tells → IsOpen (H.world host.old) self.old t → Fits number page.now t.base.image → self.old.files.state ≡ merge_state
             → AreMerged (H.world host.old) self.old.files k → OnOk result (AreMerged (H.world host.new) self.new.files k) }
         ensures used { OnOk result (bare self.new.pages ≡ used (bare self.old.pages) self.old.cap number page.now) }
@@ -275,6 +278,7 @@ impl Pair {
         ensures takes { (t : Trail) → IsTrue H.tells → IsOpen (H.world host.old) self.old t
             → Takes result (H.world host.old) (H.world host.new) self.old.files.name (IsOpen (H.world host.new) self.new) t [] }
         ensures touches { (t : Trail) → IsTrue H.tells → IsOpen (H.world host.old) self.old t → WritesIn (H.world host.old) (H.world host.new) self.old.files.state self.old.files.name }
+        ensures within { (t : Trail) → IsTrue H.tells → IsOpen (H.world host.old) self.old t → GrowsWithin (H.world host.old) (H.world host.new) self.old.files.name self.old.files.page_size t [] }
         ensures settled { (t : Trail) → IsTrue H.tells → IsOpen (H.world host.old) self.old t → OnOk result (IsOpen (H.world host.new) self.new (settled t.base)) }
         ensures merged { (k : ℕ) → self.old.files.state ≡ merge_state → AreMerged (H.world host.old) self.old.files k → AreMerged (H.world host.new) self.new.files k }
         ensures files { but_drafts self.new.files ≡ but_drafts self.old.files }

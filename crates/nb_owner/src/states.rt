@@ -2,11 +2,13 @@
 ghost use Rattle.std.specs.Prelude.{◌≡◌, ◌<◌, [], ◌∷◌, IsTrue, OnOk, Option};
 ghost use Rattle.nb_fields.specs.States.{normal_state, stalled_state};
 ghost use Rattle.nb_host.specs.Causes.{CountsFault};
+ghost use Rattle.nb_host.specs.Crash.{IsDurable};
 ghost use Rattle.nb_change.specs.Gave.{GaveNothing};
 ghost use Rattle.nb_model.specs.Account.{Ask};
 ghost use Rattle.nb_model.specs.Image.{image_scn};
 ghost use Rattle.nb_model.specs.Strokes.{begin as begin_stroke};
 ghost use Rattle.nb_model.specs.Trail.{Trail};
+ghost use Rattle.nb_base.specs.Stays.{GrowsWithin};
 ghost use Rattle.nb_base.specs.Takes.{Takes};
 ghost use Rattle.nb_cache.specs.Held.{NoneWaits};
 ghost use Rattle.nb_owner.specs.Open.{IsOpen, bare, behind_first};
@@ -21,6 +23,8 @@ impl Pair {
         requires normal { self.old.files.state ≡ normal_state }
         ensures takes { (t : Trail) (ask : Option Ask) → IsTrue H.tells → IsOpen (H.world host.old) self.old t → image_scn t.base.image < 4294967294
             → Takes result (H.world host.old) (H.world host.new) self.old.files.name (IsOpen (H.world host.new) self.new) t (begin_stroke guid.now ask ∷ []) }
+        ensures durable { IsTrue H.tells → OnOk result (IsDurable (H.world host.new) self.old.files.name ((H.world host.new).files self.old.files.name)) }
+        ensures within { (t : Trail) → IsTrue H.tells → IsOpen (H.world host.old) self.old t → GrowsWithin (H.world host.old) (H.world host.new) self.old.files.name self.old.files.page_size t [] }
         ensures others { OnOk result (bare self.new.pages ≡ bare (behind_first self.old.pages)) }
         ensures cap { self.new.cap ≡ self.old.cap }
         ensures gave { GaveNothing (H.world host.old) (H.world host.new) }
@@ -39,6 +43,8 @@ impl Pair {
         requires none { NoneWaits self.old.pages }
         ensures takes { (t : Trail) (ask : Option Ask) → IsTrue H.tells → IsOpen (H.world host.old) self.old t → image_scn t.base.image < 4294967294
             → Takes result (H.world host.old) (H.world host.new) self.old.files.name (IsOpen (H.world host.new) self.new) t (begin_stroke guid.now ask ∷ []) }
+        ensures durable { IsTrue H.tells → OnOk result (IsDurable (H.world host.new) self.old.files.name ((H.world host.new).files self.old.files.name)) }
+        ensures within { (t : Trail) → IsTrue H.tells → IsOpen (H.world host.old) self.old t → GrowsWithin (H.world host.old) (H.world host.new) self.old.files.name self.old.files.page_size t [] }
         ensures others { OnOk result (self.new.pages ≡ behind_first self.old.pages) }
         ensures cap { self.new.cap ≡ self.old.cap }
         ensures gave { GaveNothing (H.world host.old) (H.world host.new) }

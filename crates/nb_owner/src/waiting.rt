@@ -1,7 +1,7 @@
 // Pages wait in memory where writes aren't forced, and go out by rank. In the normal state SCN inventory pages go first, which are kept for
 // good before any other page follows. In the stalled state pages go into their slots first, which are kept for good before any
 // allocation page names them.
-ghost use Rattle.std.specs.Prelude.{◌≡◌, ◌≢◌, ◌<◌, ◌≤◌, ℕ, [], length, IsTrue, IsOk, IfErr, OnOk, OnErr, MatchOption, Some, None, true, false, nat_eq};
+ghost use Rattle.std.specs.Prelude.{◌≡◌, ◌≢◌, ◌<◌, ◌≤◌, ◌*◌, ℕ, [], length, IsTrue, IsOk, IfErr, OnOk, OnErr, MatchOption, Some, None, true, false, nat_eq};
 ghost use Rattle.nb_fields.specs.Places.{is_scn_place, most_pages};
 ghost use Rattle.nb_fields.specs.States.{normal_state, stalled_state, merge_state};
 ghost use Rattle.nb_host.specs.Causes.{CountsFault};
@@ -16,11 +16,12 @@ ghost use Rattle.nb_model.specs.Trail.{Trail, IsFirm, StandsIn, ShowsIn};
 ghost use Rattle.nb_model.specs.Behind.{IsOnTheWay};
 ghost use Rattle.nb_base.specs.Going.{Drafts};
 ghost use Rattle.nb_base.specs.Put.{MayPut, PutLeft};
+ghost use Rattle.nb_base.specs.Stays.{KeepsFile, EndsWithin, GrowsWithin};
 ghost use Rattle.nb_base.specs.Takes.{Takes};
 ghost use Rattle.nb_base.specs.Touches.{WritesIn};
 ghost use Rattle.nb_cache.specs.Held.{rank_of, with_rank, dropped, NoneWaits};
 ghost use Rattle.lru.specs.LruCache.{lru_cache, put_entries};
-ghost use Rattle.nb_owner.specs.Open.{IsOpen, AreOf, GoesOut, GoesSlot, IsValid, NoScnWaits, may_wait, cache_of, but_drafts, rank_in, bare};
+ghost use Rattle.nb_owner.specs.Open.{IsOpen, AreOf, AreBelow, GoesOut, GoesSlot, IsValid, NoScnWaits, may_wait, cache_of, but_drafts, rank_in, bare};
 
 use crate::Pair;
 use nb_fields::is_scn_place;
@@ -134,6 +135,7 @@ impl Pair {
         ensures put { (t : Trail) (b : Base) → IsTrue H.tells → AreOf t.base.image self.old.pages → ShowsIn self.old.files.name b (H.world host.old).files → MayPut b number (page_at t.base.image number)
             → OnOk result (ShowsIn self.old.files.name (on_base (page_stroke number (page_at t.base.image number)) b) (H.world host.new).files) }
         ensures long { (t : Trail) → AreOf t.base.image self.old.pages → length (page_at t.base.image number) ≡ self.old.files.page_size }
+        ensures within { (most : ℕ) → IsTrue H.tells → number < most → KeepsFile (H.world host.old) (H.world host.new) self.old.files.name (EndsWithin (most * self.old.files.page_size)) }
         ensures done { OnOk result (self.new ≡ record self.old { pages = with_rank number None self.old.pages }) }
         ensures failed { OnErr result (self.new ≡ self.old) }
         ensures gave { GaveNothing (H.world host.old) (H.world host.new) }
@@ -152,6 +154,7 @@ impl Pair {
             → Changes (H.world host.old) (H.world host.new) (Only self.old.files.name) (StandsIn self.old.files.name t) }
         ensures out { (f t : Trail) → IsTrue H.tells → GoesOut (H.world host.old) self.old f t (IsOnTheWay f t) → t.earlier ≢ []
             → OnOk result (GoesOut (H.world host.new) self.new f t (IsOnTheWay f t) × NoScnWaits t self.new.pages) }
+        ensures within { (most : ℕ) → IsTrue H.tells → AreBelow most self.old.pages → KeepsFile (H.world host.old) (H.world host.new) self.old.files.name (EndsWithin (most * self.old.files.page_size)) }
         ensures files { self.new.files ≡ self.old.files }
         ensures bare { bare self.new.pages ≡ bare self.old.pages }
         ensures cap { self.new.cap ≡ self.old.cap }
@@ -172,6 +175,7 @@ impl Pair {
         ensures out { (f t : Trail) → IsTrue H.tells → GoesOut (H.world host.old) self.old f t (IsFirm t) → NoScnWaits t self.old.pages
             → OnOk result (IsOpen (H.world host.new) self.new t) }
         ensures none { OnOk result (NoneWaits self.new.pages) }
+        ensures within { (most : ℕ) → IsTrue H.tells → AreBelow most self.old.pages → KeepsFile (H.world host.old) (H.world host.new) self.old.files.name (EndsWithin (most * self.old.files.page_size)) }
         ensures files { self.new.files ≡ self.old.files }
         ensures bare { bare self.new.pages ≡ bare self.old.pages }
         ensures cap { self.new.cap ≡ self.old.cap }
@@ -191,6 +195,7 @@ impl Pair {
             → Changes (H.world host.old) (H.world host.new) (Only self.old.files.name) (StandsIn self.old.files.name t) }
         ensures out { (t : Trail) (is : IsOpen (H.world host.old) self.old t) → IsTrue H.tells → t.earlier ≢ [] → image_state t.base.image ≡ normal_state
             → OnOk result (GoesOut (H.world host.new) self.new is.sees t (IsFirm t) × NoScnWaits t self.new.pages) }
+        ensures within { (most : ℕ) → IsTrue H.tells → AreBelow most self.old.pages → KeepsFile (H.world host.old) (H.world host.new) self.old.files.name (EndsWithin (most * self.old.files.page_size)) }
         ensures files { self.new.files ≡ self.old.files }
         ensures bare { bare self.new.pages ≡ bare self.old.pages }
         ensures cap { self.new.cap ≡ self.old.cap }
@@ -213,6 +218,7 @@ impl Pair {
         ensures left { (t : Trail) → IsTrue H.tells → IsOpen (H.world host.old) self.old t → image_state t.base.image ≡ normal_state
             → Changes (H.world host.old) (H.world host.new) (Only self.old.files.name) (StandsIn self.old.files.name t) }
         ensures out { (t : Trail) → IsTrue H.tells → IsOpen (H.world host.old) self.old t → image_state t.base.image ≡ normal_state → OnOk result (IsOpen (H.world host.new) self.new t) }
+        ensures within { (t : Trail) (most : ℕ) → IsTrue H.tells → IsOpen (H.world host.old) self.old t → image_state t.base.image ≡ normal_state → length t.base.image ≤ most → KeepsFile (H.world host.old) (H.world host.new) self.old.files.name (EndsWithin (most * self.old.files.page_size)) }
         ensures none { OnOk result (NoneWaits self.new.pages) }
         ensures files { self.new.files ≡ self.old.files }
         ensures bare { bare self.new.pages ≡ bare self.old.pages }
@@ -307,6 +313,7 @@ impl Pair {
         ensures takes { (t : Trail) → IsTrue H.tells → IsOpen (H.world host.old) self.old t
             → Takes result (H.world host.old) (H.world host.new) self.old.files.name (IsOpen (H.world host.new) self.new) t [] }
         ensures touches { (t : Trail) → IsTrue H.tells → IsOpen (H.world host.old) self.old t → WritesIn (H.world host.old) (H.world host.new) self.old.files.state self.old.files.name }
+        ensures within { (t : Trail) → IsTrue H.tells → IsOpen (H.world host.old) self.old t → GrowsWithin (H.world host.old) (H.world host.new) self.old.files.name self.old.files.page_size t [] }
         ensures none { OnOk result (NoneWaits self.new.pages) }
         ensures no_drafts { OnOk result (self.new.files.drafted ≡ 0) }
         ensures files { but_drafts self.new.files ≡ but_drafts self.old.files }
@@ -329,6 +336,7 @@ impl Pair {
         ensures takes { (t : Trail) → IsTrue H.tells → IsOpen (H.world host.old) self.old t
             → Takes result (H.world host.old) (H.world host.new) self.old.files.name (IsOpen (H.world host.new) self.new) t [] }
         ensures touches { (t : Trail) → IsTrue H.tells → IsOpen (H.world host.old) self.old t → WritesIn (H.world host.old) (H.world host.new) self.old.files.state self.old.files.name }
+        ensures within { (t : Trail) → IsTrue H.tells → IsOpen (H.world host.old) self.old t → GrowsWithin (H.world host.old) (H.world host.new) self.old.files.name self.old.files.page_size t [] }
         ensures no_drafts { OnOk result (self.new.files.drafted ≡ 0) }
         ensures idle { self.old.files.drafted ≡ 0 → IsOk result × (self.new ≡ self.old) × (host.new ≡ host.old) }
         ensures merge { self.old.files.state ≡ merge_state → IsOk result × (self.new ≡ self.old) × (host.new ≡ host.old) }
@@ -353,6 +361,7 @@ impl Pair {
         ensures takes { (t : Trail) → IsTrue H.tells → IsOpen (H.world host.old) self.old t
             → Takes result (H.world host.old) (H.world host.new) self.old.files.name (IsOpen (H.world host.new) self.new) t [] }
         ensures touches { (t : Trail) → IsTrue H.tells → IsOpen (H.world host.old) self.old t → WritesIn (H.world host.old) (H.world host.new) self.old.files.state self.old.files.name }
+        ensures within { (t : Trail) → IsTrue H.tells → IsOpen (H.world host.old) self.old t → GrowsWithin (H.world host.old) (H.world host.new) self.old.files.name self.old.files.page_size t [] }
         ensures none { OnOk result (NoneWaits self.new.pages) }
         ensures no_drafts { OnOk result (self.new.files.drafted ≡ 0) }
         ensures idle { NoneWaits self.old.pages → self.old.files.drafted ≡ 0 → IsOk result × (self.new ≡ self.old) × (host.new ≡ host.old) }

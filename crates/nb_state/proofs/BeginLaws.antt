@@ -1,10 +1,11 @@
 -- A database is created or opened, as it is held.
-use Rattle.std.proofs.Common.{◌≡◌, ℕ, ◌<◌, List, [], subst, replicate, refl, sym, ap, ◌∙◌, arith, Bool, false, not, ◌==◌, None, Ok}
+use Rattle.std.proofs.Common.{◌≡◌, ℕ, ◌*◌, ◌<◌, List, [], length, subst, replicate, refl, sym, ap, ◌∙◌, arith, Bool, false, not, ◌==◌, None, Ok}
 use Rattle.nb_state.proofs.Common.{number_in, scn_of, guid_of, World, Trail, settled, Page, Image, first_page, base_of, NoneWaits, Pages, AreOf, open_settled, Held, IsOpen}
 use Rattle.nb_fields.specs.Fresh.{fresh}
 use Rattle.nb_model.proofs.FreshImageLaws.{fresh_first, fresh_state, fresh_scn, fresh_open}
 use Rattle.nb_base.specs.Beginnings.{Creates as CreatesFiles, IsAttached as AreAttached}
 use Rattle.nb_base.specs.Open.{IsOpen as FilesOpen}
+use Rattle.nb_base.specs.Stays.{FileIs, EndsWithin}
 use Rattle.nb_owner.specs.Open.{IsOpen as PairOpen}
 use Rattle.nb_state.specs.Beginnings.{IsAttached, Creates}
 use Rattle.nb_model.proofs.FreshSound.{header_guid}
@@ -18,8 +19,9 @@ none_wait : (pages : Pages) → pages ≡ [] → NoneWaits pages
 none_wait pages none = subst NoneWaits (sym none) tt
 
 pub created : (pair : Rattle.nb_owner.specs.Open.Held) (old new : World) (name : List ℕ) (size raw : ℕ) → CreatesFiles (Ok pair.files) old new name (fresh size raw) → pair.pages ≡ []
+    → pair.files.page_size ≡ size → FileIs new name (EndsWithin (length (fresh size raw) * size))
     → Creates (Ok (record { files = pair.files; scn = 1; guid = replicate 16 0; read_only = false; running = None; merged = 0; pages = pair.pages; cap = pair.cap })) old new name (fresh size raw)
-created pair old new name size raw is none =
+created pair old new name size raw is none sized within =
     let open_ = is.answer.2 in
     let normal = open_.agrees.state ∙ fresh_state size raw in
     record {
@@ -38,6 +40,7 @@ created pair old new name size raw is none =
           merged = λ two. absurd (omega (arith, two, normal));
           most = λ two. omega arith;
         };
+        long = subst (λ (n : ℕ). FileIs new name (EndsWithin (length (fresh size raw) * n))) (sym sized) within;
       };
       left = is.left;
       reads = is.reads;
@@ -46,14 +49,15 @@ created pair old new name size raw is none =
     }
 
 -- What opens of the files as they were read is the database that they were.
-pub attached : (held : Held) (pair : Rattle.nb_owner.specs.Open.Held) (old new : World) (name : List ℕ) → AreAttached pair.files old new name → pair.pages ≡ [] → held.files ≡ pair.files → held.running ≡ None
+pub attached : (held : Held) (pair : Rattle.nb_owner.specs.Open.Held) (old new : World) (name : List ℕ) → AreAttached pair.files old new name → pair.pages ≡ [] → FileIs new name (λ file. file ≡ old.files name) → held.files ≡ pair.files → held.running ≡ None
     → ((t : Trail) → FilesOpen new pair.files t → PairOpen new pair t → IsOpen new held t) → IsAttached held old new name
-attached held pair old new name is blank same none opens = record {
+attached held pair old new name is blank durable same none opens = record {
   base = is.base;
   stands = is.stands;
   named = ap (λ (f : Rattle.nb_base.specs.Open.Held). f.name) same ∙ is.named;
   nothing_runs = none;
   opened = opens (settled is.base) is.opened (open_settled new pair (settled is.base) (none_wait pair.pages blank) is.opened (of_none is.base.image pair.pages blank));
+  durable = durable;
 }
 
 -- What is held of page 0 as it was read.

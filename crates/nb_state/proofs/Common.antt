@@ -2,8 +2,9 @@
 pub use Rattle.nb_base.proofs.ControlLaws.{with_control-first}
 pub use Rattle.nb_base.proofs.WriteLaws.{not_done}
 pub use Rattle.nb_base.specs.Open.{AreMerged, Fits, IsMerged, OfFiles}
-pub use Rattle.nb_base.specs.Takes.{IsNoRefusal, Strikes, after_strokes}
-pub use Rattle.nb_base.specs.Touches.{WritesIn}
+pub use Rattle.nb_base.specs.Stays.{EndsWithin, FileIs, GrowsWithin, HasAfterFirst, KeepsFile}
+pub use Rattle.nb_base.specs.Takes.{IsNoRefusal, Strikes, StrikesIn, StrikesOn, TakesOn, after_strokes}
+pub use Rattle.nb_base.specs.Touches.{WritesIn, WrittenIn}
 pub use Rattle.nb_cache.specs.Held.{NoneWaits}
 pub use Rattle.nb_cases.proofs.StateLaws.{goes, only_normal, some_backup}
 pub use Rattle.nb_cases.specs.Events.{OnOpen, none_to_end}

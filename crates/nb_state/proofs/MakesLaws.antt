@@ -1,9 +1,11 @@
 -- How runs of calls that make strokes go on.
 use Rattle.std.proofs.Common.{◌≡◌, ℕ, List, [], ◌∷◌, ◌++◌, refl, sym, ◌∙◌, subst, ap, arith, Option, Result, Ok, Err}
-use Rattle.nb_state.proofs.Common.{Files, IsStill, World, Fault, Refused, Device, Memory, RunError, as_fault, Quiet, GaveNothing, rested, after_all-joined, reached_first, reached_front, strokes_composed, weaker_has, Base, Stroke, base_after, Trail, StandsIn, after_stroke, trail_base, OfFiles, IsMerged, Strikes, after_strokes, IsNoRefusal, Held, IsOpen, but_pages, name_of, pair_of, WhereEnded, Goes, Makes}
+use Rattle.nb_state.proofs.Common.{Files, IsStill, World, Fault, Refused, Device, Memory, RunError, as_fault, Quiet, GaveNothing, rested, after_all-joined, reached_first, reached_front, strokes_composed, weaker_has, Base, Stroke, base_after, Trail, StandsIn, after_stroke, trail_base, OfFiles, IsMerged, GrowsWithin, Strikes, StrikesIn, StrikesOn, WrittenIn, after_strokes, IsNoRefusal, Held, IsOpen, but_pages, name_of, pair_of, WhereEnded, Goes, Makes}
 use Rattle.std.proofs.lemmas.List.{append-nil}
 use Rattle.nb_host.specs.declared.faults.RunError.TheVariants.{Device as DeviceError, Memory as MemoryError}
 use Rattle.nb_change.proofs.GaveLaws.{nothing_joined}
+use Rattle.nb_base.proofs.StaysLaws.{grows_joined, grows_front, grows_not}
+use Rattle.nb_change.specs.Changes.{Names}
 use Rattle.nb_owner.proofs.WaitLaws.{still_open as pair_still}
 
 -- a database stays open
@@ -71,9 +73,12 @@ goes_nowhere a b same = record {
 }
 
 -- calls that change nothing have made no stroke yet
+pub none_on : (old new : World) (names : Names) (held : Held) (t : Trail) (xs : List Stroke) → Quiet old new → IsOpen old held t → StrikesOn old new names (name_of held) t xs
+none_on old new names held t xs quiet is =
+    rested old new names _ quiet.still quiet.said quiet.moments (λ files left. reached_first after_stroke (StandsIn (name_of held)) t xs files (is.files.left files left))
+
 pub none_yet : (old new : World) (held : Held) (t : Trail) (xs : List Stroke) → Quiet old new → IsOpen old held t → Strikes old new (name_of held) t xs
-none_yet old new held t xs quiet is =
-    rested old new (OfFiles (name_of held)) _ quiet.still quiet.said quiet.moments (λ files left. reached_first after_stroke (StandsIn (name_of held)) t xs files (is.files.left files left))
+none_yet old new held t xs quiet is = none_on old new (OfFiles (name_of held)) held t xs quiet is
 
 pub gave_none : (old new : World) → Quiet old new → GaveNothing old new
 gave_none old new quiet = record { guids = quiet.guids; times = quiet.times }
@@ -81,7 +86,8 @@ gave_none old new quiet = record { guids = quiet.guids; times = quiet.times }
 -- they make no stroke, whatever they answer
 pub makes_none : {T : Type 0} (result : Result T Fault) (old new : World) (a b : Held) (t : Trail) → but_pages b ≡ but_pages a → Quiet old new → IsOpen old a t → IsOpen new b t → Makes result old new a b t []
 makes_none result old new a b t same quiet is still = record {
-  left = none_yet old new a t [] quiet is;
+  left = none_on old new (WrittenIn a.files.state (name_of a)) a t [] quiet is;
+  long = grows_not old new (name_of a) a.files.page_size t [] quiet;
   opened = where_ended result _ still;
   goes = goes_nowhere a b same;
   gave = gave_none old new quiet;
@@ -90,18 +96,30 @@ makes_none result old new a b t same quiet is still = record {
 -- and where they fail they fail any strokes
 pub makes_not : (T : Type 0) (fault : Fault) (old new : World) (a b : Held) (t : Trail) (xs : List Stroke) → IsNoRefusal fault → but_pages b ≡ but_pages a → Quiet old new → IsOpen old a t → Makes {T = T} (Err fault) old new a b t xs
 makes_not T fault old new a b t xs fails same quiet is = record {
-  left = none_yet old new a t xs quiet is;
+  left = none_on old new (WrittenIn a.files.state (name_of a)) a t xs quiet is;
+  long = grows_not old new (name_of a) a.files.page_size t xs quiet;
   opened = never_ended T fault _ fails;
   goes = goes_nowhere a b same;
   gave = gave_none old new quiet;
 }
 
+-- the same under the name, the state and the page size that stay
+moved_state : (mid new : World) (a b : Held) → name_of b ≡ name_of a → b.files.state ≡ a.files.state → (t : Trail) (ys : List Stroke) → StrikesIn mid new b.files.state (name_of b) t ys → StrikesIn mid new a.files.state (name_of a) t ys
+moved_state mid new a b name state t ys is =
+    subst (λ (n : ℕ). StrikesIn mid new n (name_of a) t ys) state (subst (λ (m : List ℕ). StrikesIn mid new b.files.state m t ys) name is)
+
+moved_size : (mid new : World) (a b : Held) → name_of b ≡ name_of a → b.files.page_size ≡ a.files.page_size → (t : Trail) (ys : List Stroke) → GrowsWithin mid new (name_of b) b.files.page_size t ys → GrowsWithin mid new (name_of a) a.files.page_size t ys
+moved_size mid new a b name size t ys is =
+    subst (λ (n : ℕ). GrowsWithin mid new (name_of a) n t ys) size (subst (λ (m : List ℕ). GrowsWithin mid new m b.files.page_size t ys) name is)
+
 -- one run of strokes after another
 pub makes_then : {S T : Type 0} (value : S) (result : Result T Fault) (old mid new : World) (a b c : Held) (t : Trail) (xs ys : List Stroke) → Makes (Ok value) old mid a b t xs
     → Makes result mid new b c (after_strokes t xs) ys → Makes result old new a c t (xs ++ ys)
 makes_then value result old mid new a b c t xs ys first second = record {
-  left = strokes_composed after_stroke (StandsIn (name_of a)) (OfFiles (name_of a)) old mid new t xs ys first.left
-      (subst (λ (n : List ℕ). Strikes mid new n (after_strokes t xs) ys) first.goes.name second.left);
+  left = strokes_composed after_stroke (StandsIn (name_of a)) (WrittenIn a.files.state (name_of a)) old mid new t xs ys first.left
+      (moved_state mid new a b first.goes.name first.goes.state (after_strokes t xs) ys second.left);
+  long = grows_joined old mid new (name_of a) a.files.page_size t xs ys first.long
+      (moved_size mid new a b first.goes.name first.goes.page_size (after_strokes t xs) ys second.long);
   opened = subst (λ (u : Trail). WhereEnded result (IsOpen new c u)) (sym (after_all-joined after_stroke t xs ys)) second.opened;
   goes = goes_on a b c first.goes second.goes;
   gave = nothing_joined old mid new first.gave second.gave;
@@ -111,7 +129,8 @@ makes_then value result old mid new a b c t xs ys first second = record {
 pub makes_front : (S T : Type 0) (fault : Fault) (old new : World) (a b : Held) (t : Trail) (xs ys : List Stroke) → IsNoRefusal fault → Makes {T = S} (Err fault) old new a b t xs
     → Makes {T = T} (Err fault) old new a b t (xs ++ ys)
 makes_front S T fault old new a b t xs ys fails first = record {
-  left = weaker_has old new (OfFiles (name_of a)) _ _ first.left (reached_front after_stroke (StandsIn (name_of a)) t xs ys);
+  left = weaker_has old new (WrittenIn a.files.state (name_of a)) _ _ first.left (reached_front after_stroke (StandsIn (name_of a)) t xs ys);
+  long = grows_front old new (name_of a) a.files.page_size t xs ys first.long;
   opened = never_ended T fault _ fails;
   goes = first.goes;
   gave = first.gave;
@@ -121,8 +140,10 @@ makes_front S T fault old new a b t xs ys fails first = record {
 pub makes_after : {T : Type 0} (result : Result T Fault) (old mid new : World) (a b c : Held) (t : Trail) (xs : List Stroke) → but_pages b ≡ but_pages a → Quiet old mid → IsOpen old a t → Makes result mid new b c t xs
     → Makes result old new a c t xs
 makes_after result old mid new a b c t xs same quiet is makes = record {
-  left = strokes_composed after_stroke (StandsIn (name_of a)) (OfFiles (name_of a)) old mid new t [] xs (none_yet old mid a t [] quiet is)
-      (subst (λ (n : List ℕ). Strikes mid new n t xs) (ap (λ (h : Held). name_of h) same) makes.left);
+  left = strokes_composed after_stroke (StandsIn (name_of a)) (WrittenIn a.files.state (name_of a)) old mid new t [] xs (none_on old mid (WrittenIn a.files.state (name_of a)) a t [] quiet is)
+      (moved_state mid new a b (ap (λ (h : Held). name_of h) same) (ap (λ (h : Held). h.files.state) same) t xs makes.left);
+  long = grows_joined old mid new (name_of a) a.files.page_size t [] xs (grows_not old mid (name_of a) a.files.page_size t [] quiet)
+      (moved_size mid new a b (ap (λ (h : Held). name_of h) same) (ap (λ (h : Held). h.files.page_size) same) t xs makes.long);
   opened = makes.opened;
   goes = goes_on a b c (goes_nowhere a b same) makes.goes;
   gave = nothing_joined old mid new (gave_none old mid quiet) makes.gave;

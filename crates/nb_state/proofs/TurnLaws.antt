@@ -1,6 +1,6 @@
 -- What is open after the turns of a backup.
-use Rattle.std.proofs.Common.{◌≡◌, ◌≢◌, ◌⊎◌, ⊎_elim, ℕ, ◌+◌, ◌<◌, ◌≤◌, List, [], ◌∷◌, ◌++◌, length, drop, refl, sym, ap, subst, ◌∙◌, arith, length-append, drop_at, Bool, true, false, Option, Some, None, Result, Ok, Err}
-use Rattle.nb_state.proofs.Common.{eq-eqb, ne_eqb, is_header, state_of, normal_state, stalled_state, merge_state, World, IsStill, Fault, Refused, Device, Memory, Refusal, weaker_has, strokes_composed, reached_front, Image, first_page, image_state, image_scn, image_guid, trimmed, Ask, Base, Cause, Stroke, begin, ends, finish, with_control, Trail, StandsIn, after_stroke, control_state, header-long, header-room, some_page, trail_base, OfFiles, AreMerged, Strikes, with_control-first, Quiet, GaveNothing, after_strokes, but_drafts, Held, AgreesWith, IsOpen, name_of, Tested, unless_by, begin_cause, end_cause, Begins, Ends, Merges, begun_image, ended_image}
+use Rattle.std.proofs.Common.{◌≡◌, ◌≢◌, ◌⊎◌, inl, ⊎_elim, ℕ, ◌+◌, ◌<◌, ◌≤◌, List, [], ◌∷◌, ◌++◌, length, drop, refl, sym, ap, subst, ◌∙◌, arith, length-append, drop_at, Bool, true, false, Option, Some, None, Result, Ok, Err}
+use Rattle.nb_state.proofs.Common.{eq-eqb, ne_eqb, is_header, state_of, normal_state, stalled_state, merge_state, World, IsStill, Fault, Refused, Device, Memory, Refusal, weaker_has, strokes_composed, reached_front, Image, first_page, image_state, image_scn, image_guid, trimmed, Ask, Base, Cause, Stroke, begin, ends, finish, with_control, Trail, StandsIn, after_stroke, control_state, header-long, header-room, some_page, trail_base, OfFiles, AreMerged, FileIs, GrowsWithin, HasAfterFirst, KeepsFile, Strikes, StrikesOn, with_control-first, Quiet, GaveNothing, after_strokes, but_drafts, Held, AgreesWith, IsOpen, name_of, Tested, unless_by, begin_cause, end_cause, Begins, Ends, Merges, begun_image, ended_image}
 use Rattle.nb_host.specs.Moments.{IsTimely, Passes}
 use Rattle.nb_host.specs.declared.faults.HostFault.{HostFault}
 use Rattle.nb_change.proofs.CallLaws.{still_alone}
@@ -10,6 +10,9 @@ use Rattle.nb_owner.specs.Open.{IsOpen as PairOpen}
 use Rattle.nb_state.specs.declared.turns.Progress.{Progress}
 use Rattle.nb_state.proofs.AgreeLaws.{agrees_front, agrees_control}
 use Rattle.nb_state.proofs.MakesLaws.{none_yet, gave_none}
+use Rattle.nb_change.specs.Changes.{Only}
+use Rattle.nb_base.proofs.StaysLaws.{grows_not, quiet_keeps, grows_joined, call_keeps, still_is}
+use Rattle.nb_base.proofs.TouchLaws.{strikes_more}
 use Rattle.nb_host.proofs.PlainLaws.{none_there}
 
 -- calls that change no file, and then strokes
@@ -21,6 +24,15 @@ still_struck old mid new held t xs is timely still silent time struck =
 -- a front of the strokes is one of more
 pub struck_front : (old new : World) (name : List ℕ) (t : Trail) (xs ys : List Stroke) → Strikes old new name t xs → Strikes old new name t (xs ++ ys)
 struck_front old new name t xs ys struck = weaker_has old new (OfFiles name) _ _ struck (reached_front after_stroke (StandsIn name) t xs ys)
+
+-- an entry more that is merged is no operation, and touches the main file alone
+pub struck_more : (old new : World) (name : List ℕ) (t : Trail) → StrikesOn old new (Only name) name t [] → Strikes old new name t (finish ∷ [])
+struck_more old new name t struck = struck_front old new name t [] (finish ∷ []) (strikes_more old new (Only name) (OfFiles name) name t [] struck (λ m one. inl one))
+
+-- calls that change no file, and then the main file grows
+pub still_grown : (old mid new : World) (name : List ℕ) (size : ℕ) (t : Trail) (xs : List Stroke) → IsTimely old → IsStill old mid → Passes old mid → GrowsWithin mid new name size t xs → GrowsWithin old new name size t xs
+still_grown old mid new name size t xs timely still time grows =
+    grows_joined old mid new name size t [] xs (λ most within is. call_keeps old mid name _ timely time is (still_is old mid name _ still is)) grows
 
 -- the GUID that was given is the one that may have been given
 first_of : List (List ℕ) → List ℕ
@@ -185,20 +197,26 @@ unless_none cause strokes none = ap (λ (c : Cause). unless_by c strokes) none
 
 -- A backup that may begin, with the GUID that was given.
 module _ (old mid new : World) (before after : Held) (t : Trail) (guid : List ℕ) (ask : Option Ask) (is : IsOpen old before t) (allowed : begin_cause t.base.image ≡ None) (struck : Strikes old new (name_of before) t (begin guid ask ∷ []))
+    (grown : GrowsWithin old new (name_of before) before.files.page_size t (begin guid ask ∷ []))
     (gave : mid.guids ≡ old.guids ++ guid ∷ []) (nothing : GaveNothing mid new) (times : mid.times ≡ old.times) (running : after.running ≡ before.running) (name : name_of after ≡ name_of before) where
   left : Strikes old new (name_of before) t (unless_by (begin_cause t.base.image) (begin guid ask ∷ []))
   left = subst (λ (ss : List Stroke). Strikes old new (name_of before) t ss) (sym (unless_none (begin_cause t.base.image) (begin guid ask ∷ []) allowed)) struck
+
+  long : GrowsWithin old new (name_of before) before.files.page_size t (unless_by (begin_cause t.base.image) (begin guid ask ∷ []))
+  long = subst (λ (ss : List Stroke). GrowsWithin old new (name_of before) before.files.page_size t ss) (sym (unless_none (begin_cause t.base.image) (begin guid ask ∷ []) allowed)) grown
 
   allows : (r : Refusal) → begin_cause t.base.image ≡ Some r → Quiet old new
   allows r some = absurd (none_there (sym allowed ∙ some))
 
   pub begin_failed : Begins (Err Device) old new before after t guid ask
-  begin_failed = record { test = tt; left = left; opened = tt; answer = tt; gave = tt; times = nothing.times ∙ times; refused = tt; idle = allows; running = running; name = name }
+  begin_failed = record { test = tt; left = left; long = long; frozen = tt; opened = tt; answer = tt; gave = tt; times = nothing.times ∙ times; refused = tt; idle = allows; running = running; name = name }
 
-  pub begin_done : (scn : ℕ) → scn ≡ before.scn + 1 → IsOpen new after (after_strokes t (begin guid ask ∷ [])) → Begins (Ok scn) old new before after t guid ask
-  begin_done scn next opened = record {
+  pub begin_done : (scn : ℕ) → scn ≡ before.scn + 1 → IsOpen new after (after_strokes t (begin guid ask ∷ [])) → FileIs new (name_of before) (λ file. file ≡ new.files (name_of before)) → Begins (Ok scn) old new before after t guid ask
+  begin_done scn next opened frozen = record {
     test = allowed;
     left = left;
+    long = long;
+    frozen = frozen;
     opened = opened;
     answer = next ∙ ap (λ (n : ℕ). n + 1) is.agrees.scn;
     gave = nothing.guids ∙ gave;
@@ -209,11 +227,49 @@ module _ (old mid new : World) (before after : Held) (t : Trail) (guid : List �
     name = name;
   }
 
+-- A begin that is refused changes nothing.
+pub begin_refused : (w : World) (held : Held) (t : Trail) (guid : List ℕ) (ask : Option Ask) (fault : Fault) → IsOpen w held t → Quiet w w → Tested {T = Unit {0}} (Err fault) (begin_cause t.base.image) → Begins (Err fault) w w held held t guid ask
+begin_refused w held t guid ask (Refused r) is quiet test = record {
+  test = test;
+  left = none_yet w w held t _ quiet is;
+  long = grows_not w w (name_of held) held.files.page_size t _ quiet;
+  frozen = tt;
+  opened = tt;
+  answer = tt;
+  gave = tt;
+  times = refl;
+  refused = (refl, quiet);
+  idle = λ r some. quiet;
+  running = refl;
+  name = refl;
+}
+begin_refused w held t guid ask Device is quiet test = record { test = tt; left = none_yet w w held t _ quiet is; long = grows_not w w (name_of held) held.files.page_size t _ quiet; frozen = tt; opened = tt; answer = tt; gave = tt; times = refl; refused = tt; idle = λ r some. quiet; running = refl; name = refl }
+begin_refused w held t guid ask Memory is quiet test = record { test = tt; left = none_yet w w held t _ quiet is; long = grows_not w w (name_of held) held.files.page_size t _ quiet; frozen = tt; opened = tt; answer = tt; gave = tt; times = refl; refused = tt; idle = λ r some. quiet; running = refl; name = refl }
+
+-- A begin for which no GUID was given.
+pub begin_unasked : (old new : World) (held : Held) (t : Trail) (guid : List ℕ) (ask : Option Ask) → IsOpen old held t → begin_cause t.base.image ≡ None → Quiet old new → Begins (Err Device) old new held held t guid ask
+begin_unasked old new held t guid ask is allowed quiet = record {
+  test = tt;
+  left = none_yet old new held t _ quiet is;
+  long = grows_not old new (name_of held) held.files.page_size t _ quiet;
+  frozen = tt;
+  opened = tt;
+  answer = tt;
+  gave = tt;
+  times = quiet.times;
+  refused = tt;
+  idle = λ r some. quiet;
+  running = refl;
+  name = refl;
+}
+
 -- An end that is refused changes nothing.
 pub end_refused : (w : World) (held : Held) (t : Trail) (session : ℕ) (fault : Fault) → IsOpen w held t → Quiet w w → Tested {T = Unit {0}} (Err fault) (end_cause t.base.image held.running session) → Ends (Err fault) w w held held t session
 end_refused w held t session (Refused r) is quiet test = record {
   test = test;
   left = none_yet w w held t _ quiet is;
+  long = grows_not w w (name_of held) held.files.page_size t _ quiet;
+  rest = λ bytes. quiet_keeps w w (name_of held) _ quiet;
   opened = tt;
   answer = tt;
   begins = tt;
@@ -222,26 +278,31 @@ end_refused w held t session (Refused r) is quiet test = record {
   idle = λ r some. quiet;
   name = refl;
 }
-end_refused w held t session Device is quiet test = record { test = tt; left = none_yet w w held t _ quiet is; opened = tt; answer = tt; begins = tt; gave = gave_none w w quiet; refused = tt; idle = λ r some. quiet; name = refl }
-end_refused w held t session Memory is quiet test = record { test = tt; left = none_yet w w held t _ quiet is; opened = tt; answer = tt; begins = tt; gave = gave_none w w quiet; refused = tt; idle = λ r some. quiet; name = refl }
+end_refused w held t session Device is quiet test = record { test = tt; left = none_yet w w held t _ quiet is; long = grows_not w w (name_of held) held.files.page_size t _ quiet; rest = λ bytes. quiet_keeps w w (name_of held) _ quiet; opened = tt; answer = tt; begins = tt; gave = gave_none w w quiet; refused = tt; idle = λ r some. quiet; name = refl }
+end_refused w held t session Memory is quiet test = record { test = tt; left = none_yet w w held t _ quiet is; long = grows_not w w (name_of held) held.files.page_size t _ quiet; rest = λ bytes. quiet_keeps w w (name_of held) _ quiet; opened = tt; answer = tt; begins = tt; gave = gave_none w w quiet; refused = tt; idle = λ r some. quiet; name = refl }
 
 -- An end that may be.
-module _ (old new : World) (before after : Held) (t : Trail) (session : ℕ) (allowed : end_cause t.base.image before.running session ≡ None) (struck : Strikes old new (name_of before) t (end_strokes t.base.image)) (gave : GaveNothing old new)
+module _ (old new : World) (before after : Held) (t : Trail) (session : ℕ) (allowed : end_cause t.base.image before.running session ≡ None) (struck : Strikes old new (name_of before) t (end_strokes t.base.image))
+    (grown : GrowsWithin old new (name_of before) before.files.page_size t (end_strokes t.base.image)) (rest : (bytes : List ℕ) → KeepsFile old new (name_of before) (HasAfterFirst before.files.page_size bytes)) (gave : GaveNothing old new)
     (name : name_of after ≡ name_of before) where
   end_left : Strikes old new (name_of before) t (unless_by (end_cause t.base.image before.running session) (end_strokes t.base.image))
   end_left = subst (λ (ss : List Stroke). Strikes old new (name_of before) t ss) (sym (unless_none (end_cause t.base.image before.running session) (end_strokes t.base.image) allowed)) struck
+
+  end_long : GrowsWithin old new (name_of before) before.files.page_size t (unless_by (end_cause t.base.image before.running session) (end_strokes t.base.image))
+  end_long = subst (λ (ss : List Stroke). GrowsWithin old new (name_of before) before.files.page_size t ss) (sym (unless_none (end_cause t.base.image before.running session) (end_strokes t.base.image) allowed)) grown
 
   end_allows : (r : Refusal) → end_cause t.base.image before.running session ≡ Some r → Quiet old new
   end_allows r some = absurd (none_there (sym allowed ∙ some))
 
   pub end_failed : Ends (Err Device) old new before after t session
-  end_failed = record { test = tt; left = end_left; opened = tt; answer = tt; begins = tt; gave = gave; refused = tt; idle = end_allows; name = name }
+  end_failed = record { test = tt; left = end_left; long = end_long; rest = rest; opened = tt; answer = tt; begins = tt; gave = gave; refused = tt; idle = end_allows; name = name }
 
   pub end_done : (scn : ℕ) → scn ≡ end_scn t.base.image → IsOpen new after (after_strokes t (end_strokes t.base.image)) → after.running ≡ Some session → after.merged ≡ 0 → Ends (Ok scn) old new before after t session
-  end_done scn is opened running merged = record { test = allowed; left = end_left; opened = opened; answer = is; begins = (running, merged); gave = gave; refused = tt; idle = end_allows; name = name }
+  end_done scn is opened running merged = record { test = allowed; left = end_left; long = end_long; rest = rest; opened = opened; answer = is; begins = (running, merged); gave = gave; refused = tt; idle = end_allows; name = name }
 
 -- A turn of a merge that failed.
-pub merge_failed : (old new : World) (before after : Held) (t : Trail) (result : Result Progress HostFault) (fault : HostFault) → result ≡ Err fault → Strikes old new (name_of before) t (finish ∷ []) → (before.merged < length t.base.diverted → Strikes old new (name_of before) t [])
+pub merge_failed : (old new : World) (before after : Held) (t : Trail) (result : Result Progress HostFault) (fault : HostFault) → result ≡ Err fault → Strikes old new (name_of before) t (finish ∷ []) → GrowsWithin old new (name_of before) before.files.page_size t (finish ∷ [])
+    → (before.merged < length t.base.diverted → StrikesOn old new (Only (name_of before)) (name_of before) t [])
     → GaveNothing old new → name_of after ≡ name_of before → Merges result old new before after t
-merge_failed old new before after t result fault failed left more gave name =
-    subst (λ (r : Result Progress HostFault). Merges r old new before after t) (sym failed) (record { left = left; more = more; on = tt; gave = gave; name = name })
+merge_failed old new before after t result fault failed left long more gave name =
+    subst (λ (r : Result Progress HostFault). Merges r old new before after t) (sym failed) (record { left = left; long = long; more = more; puts = tt; on = tt; gave = gave; name = name })

@@ -1,5 +1,5 @@
 -- A database is created or opened.
-use Rattle.std.specs.Prelude.{◌≡◌, ℕ, true, false, List, [], None, Result, Ok, Err}
+use Rattle.std.specs.Prelude.{◌≡◌, ℕ, ◌*◌, length, true, false, List, [], None, Result, Ok, Err}
 use Rattle.nb_host.specs.World.{World}
 use Rattle.nb_host.specs.declared.faults.Fault.{Fault}
 use Rattle.nb_host.specs.declared.faults.Fault.TheVariants.{Refused, Device, Memory}
@@ -13,6 +13,7 @@ use Rattle.nb_model.specs.Account.{Base, base_of}
 use Rattle.nb_model.specs.Owner.{delta_name, owner}
 use Rattle.nb_model.specs.Trail.{ShowsIn, settled}
 use Rattle.nb_base.specs.Beginnings.{CreateLeft, CreateReads}
+use Rattle.nb_base.specs.Stays.{FileIs, EndsWithin}
 use Rattle.nb_state.specs.Open.{Held, IsOpen, name_of}
 
 -- what is held is the database that the two files were as the call began, and each crash from now on leaves it
@@ -22,6 +23,8 @@ pub record IsAttached (held : Held) (old new : World) (name : List ℕ) : Type 0
   pub named : name_of held ≡ name
   pub nothing_runs : held.running ≡ None
   pub opened : IsOpen new held (settled base)
+  -- the main file is durable, byte for byte
+  pub durable : FileIs new name (λ file. file ≡ old.files name)
 
 -- it answers the database, or why there is none to open
 abbrev pub Attaches : Result Held Fault → (old new : World) (name : List ℕ) → Type 0
@@ -41,6 +44,8 @@ pub record IsCreated (held : Held) (old new : World) (name : List ℕ) (image : 
   pub named : name_of held ≡ name
   pub nothing_runs : held.running ≡ None
   pub opened : IsOpen new held (settled (base_of image))
+  -- it ends with its last page
+  pub long : FileIs new name (EndsWithin (length image * held.files.page_size))
 
 -- it answers the new database, or that the name is not free
 abbrev pub CreateAnswers : Result Held Fault → (old new : World) (name : List ℕ) (image : Image) → Type 0

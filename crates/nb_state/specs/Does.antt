@@ -12,7 +12,8 @@ use Rattle.nb_model.specs.Outcomes.{Outcome}
 use Rattle.nb_model.specs.Strokes.{Stroke}
 use Rattle.nb_model.specs.Trail.{Trail}
 use Rattle.nb_change.specs.Gave.{GaveNothing}
-use Rattle.nb_base.specs.Takes.{Strikes, after_strokes}
+use Rattle.nb_base.specs.Takes.{StrikesIn, after_strokes}
+use Rattle.nb_base.specs.Stays.{GrowsWithin}
 use Rattle.nb_state.specs.Open.{Held, IsOpen, name_of}
 
 -- what is answered is the reply; a failure says nothing of it
@@ -69,10 +70,12 @@ pub record Goes (before after : Held) : Type 0 where
   pub merged : after.merged ≡ before.merged
   pub cap : after.cap ≡ before.cap
 
--- The call makes these strokes in order: at each moment a crash leaves what may be left of what was seen after a front of them, and
--- once the call has ended the database is open after all of them. It asks for no GUID and no time.
+-- The call makes these operations in order: at each moment a crash leaves what may be left of what was seen after a prefix of them, and
+-- once the call has ended the database is open after all of them. The files that the backup state has pages written to are touched alone, and
+-- the main file grows no longer than what is seen. It asks for no GUID and no time.
 pub record Makes {T : Type 0} (result : Result T Fault) (old new : World) (before after : Held) (t : Trail) (strokes : List Stroke) : Type 0 where
-  pub left : Strikes old new (name_of before) t strokes
+  pub left : StrikesIn old new before.files.state (name_of before) t strokes
+  pub long : GrowsWithin old new (name_of before) before.files.page_size t strokes
   pub opened : WhereEnded result (IsOpen new after (after_strokes t strokes))
   pub goes : Goes before after
   pub gave : GaveNothing old new

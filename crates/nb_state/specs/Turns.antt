@@ -8,6 +8,7 @@ use Rattle.nb_host.specs.declared.faults.HostFault.{HostFault}
 use Rattle.nb_host.specs.declared.refusals.Refusal.{Refusal}
 use Rattle.nb_host.specs.declared.refusals.Refusal.TheVariants.{WrongState}
 use Rattle.nb_page.specs.Quiet.{Quiet}
+use Rattle.nb_change.specs.Changes.{Only}
 use Rattle.nb_change.specs.Gave.{GaveNothing}
 use Rattle.nb_model.specs.Account.{Ask}
 use Rattle.nb_model.specs.Image.{Image, image_state, image_scn}
@@ -17,7 +18,8 @@ use Rattle.nb_model.specs.Strokes.{begin, finish}
 use Rattle.nb_model.specs.Owner.{delta_name}
 use Rattle.nb_model.specs.Trail.{Trail}
 use Rattle.nb_base.specs.Merging.{PutsPage}
-use Rattle.nb_base.specs.Takes.{Strikes, after_strokes}
+use Rattle.nb_base.specs.Takes.{Strikes, StrikesOn, after_strokes}
+use Rattle.nb_base.specs.Stays.{FileIs, KeepsFile, HasAfterFirst, GrowsWithin}
 use Rattle.nb_state.specs.Open.{Held, IsOpen, name_of}
 use Rattle.nb_state.specs.Does.{WhereRefused, unless_by}
 use Rattle.nb_state.specs.declared.turns.Progress.{Progress}
@@ -39,6 +41,9 @@ GaveAtMost old new guid = (new.guids ≡ old.guids) ⊎ (new.guids ≡ old.guids
 pub record Begins (result : Result ℕ Fault) (old new : World) (before after : Held) (t : Trail) (guid : List ℕ) (ask : Option Ask) : Type 0 where
   pub test : Tested result (begin_cause t.base.image)
   pub left : Strikes old new (name_of before) t (unless_by (begin_cause t.base.image) (begin guid ask ∷ []))
+  pub long : GrowsWithin old new (name_of before) before.files.page_size t (unless_by (begin_cause t.base.image) (begin guid ask ∷ []))
+  -- the main file is durable then, byte for byte
+  pub frozen : OnOk result (FileIs new (name_of before) (λ file. file ≡ new.files (name_of before)))
   pub opened : OnOk result (IsOpen new after (after_strokes t (begin guid ask ∷ [])))
   pub answer : IfOk result (λ scn. scn ≡ image_scn t.base.image + 1)
   pub gave : OnOk result (new.guids ≡ old.guids ++ guid ∷ [])
@@ -52,6 +57,9 @@ pub record Begins (result : Result ℕ Fault) (old new : World) (before after : 
 pub record Ends (result : Result ℕ Fault) (old new : World) (before after : Held) (t : Trail) (session : ℕ) : Type 0 where
   pub test : Tested result (end_cause t.base.image before.running session)
   pub left : Strikes old new (name_of before) t (unless_by (end_cause t.base.image before.running session) (end_strokes t.base.image))
+  pub long : GrowsWithin old new (name_of before) before.files.page_size t (unless_by (end_cause t.base.image before.running session) (end_strokes t.base.image))
+  -- of the main file it changes page 0 alone
+  pub rest : (bytes : List ℕ) → KeepsFile old new (name_of before) (HasAfterFirst before.files.page_size bytes)
   pub opened : OnOk result (IsOpen new after (after_strokes t (end_strokes t.base.image)))
   pub answer : IfOk result (λ scn. scn ≡ end_scn t.base.image)
   pub begins : OnOk result ((after.running ≡ Some session) × (after.merged ≡ 0))
@@ -80,8 +88,10 @@ MergesOn (Err fault) new before after t = Unit {0}
 
 pub record Merges (result : Result Progress HostFault) (old new : World) (before after : Held) (t : Trail) : Type 0 where
   pub left : Strikes old new (name_of before) t (finish ∷ [])
-  -- but in its last turn it changes no page
-  pub more : before.merged < length t.base.diverted → Strikes old new (name_of before) t []
+  pub long : GrowsWithin old new (name_of before) before.files.page_size t (finish ∷ [])
+  -- but in its last turn it changes no page of the database, and the main file alone is touched
+  pub more : before.merged < length t.base.diverted → StrikesOn old new (Only (name_of before)) (name_of before) t []
+  pub puts : IfOk result (λ progress. PutsOn progress old.files new.files before)
   pub on : MergesOn result new before after t
   pub gave : GaveNothing old new
   pub name : name_of after ≡ name_of before

@@ -9,8 +9,9 @@ ghost use Rattle.nb_page.specs.Quiet.{Quiet};
 ghost use Rattle.nb_model.specs.Image.{page_at};
 ghost use Rattle.nb_model.specs.Strokes.{page as page_stroke};
 ghost use Rattle.nb_model.specs.Trail.{Trail, settled};
-ghost use Rattle.nb_base.specs.Takes.{Takes, Strikes};
-ghost use Rattle.nb_base.specs.Touches.{WritesIn};
+ghost use Rattle.nb_base.specs.Stays.{GrowsWithin};
+ghost use Rattle.nb_base.specs.Takes.{TakesOn, StrikesIn};
+ghost use Rattle.nb_base.specs.Touches.{WrittenIn};
 ghost use Rattle.nb_cache.specs.Held.{slot_of};
 ghost use Rattle.nb_owner.specs.Open.{may_wait};
 ghost use Rattle.nb_state.specs.Open.{IsOpen, HasBlock, NoPageWaits, but_pages, name_of, pair_of};
@@ -194,14 +195,13 @@ impl Store {
         requires control_block { number ≡ 0 → IsTrue H.tells → HasBlock (H.world host.old) self.old page.now }
         ensures makes { (t : Trail) → IsTrue H.tells → IsOpen (H.world host.old) self.old t
             → Makes (as_answer result) (H.world host.old) (H.world host.new) self.old self.new t (page_stroke number page.now ∷ []) }
-        ensures touches { (t : Trail) → IsTrue H.tells → IsOpen (H.world host.old) self.old t → WritesIn (H.world host.old) (H.world host.new) self.old.files.state (name_of self.old) }
         ensures added { OnOk result (number < self.new.files.count) }
         ensures goes { Goes self.old self.new }
         ensures reads { (H.world host.new).reads ≡ (H.world host.old).reads }
         ensures cause { CountsRun result (H.faults host.old) (H.faults host.new) }
         ensures waits { may_wait (pair_of self.old) number ≡ true → (self.old.files.state ≡ normal_state → IsOk result) × IfErr result (λ error. error ≡ RunError.Memory) × (host.new ≡ host.old) }
         ensures on_memory { (t : Trail) → IsTrue H.tells → IsOpen (H.world host.old) self.old t → result ≡ Err RunError.Memory
-            → Strikes (H.world host.old) (H.world host.new) (name_of self.old) t [] × IsOpen (H.world host.new) self.new t }
+            → StrikesIn (H.world host.old) (H.world host.new) self.old.files.state (name_of self.old) t [] × IsOpen (H.world host.new) self.new t }
         ensures idle { NoPageWaits self.old → result ≡ Err RunError.Memory → (self.new ≡ self.old) × (host.new ≡ host.old) }
         ensures forced { (t : Trail) → IsTrue H.tells → IsOpen (H.world host.old) self.old t → self.old.files.forced ≡ true → result ≡ Err RunError.Memory → (self.new ≡ self.old) × (host.new ≡ host.old) }
         ensures takes_none { self.old.files.state ≢ stalled_state → IfErr result (λ error. error ≢ RunError.Memory) }
@@ -225,8 +225,8 @@ impl Store {
     /// Writes out what waits, and keeps both files for good. It changes no page.
     pub fn sync<H: Host>(&mut self, host: &mut H) -> Result<(), HostFault>
         ensures takes { (t : Trail) → IsTrue H.tells → IsOpen (H.world host.old) self.old t
-            → Takes result (H.world host.old) (H.world host.new) (name_of self.old) (IsOpen (H.world host.new) self.new) t [] }
-        ensures touches { (t : Trail) → IsTrue H.tells → IsOpen (H.world host.old) self.old t → WritesIn (H.world host.old) (H.world host.new) self.old.files.state (name_of self.old) }
+            → TakesOn result (H.world host.old) (H.world host.new) (WrittenIn self.old.files.state (name_of self.old)) (name_of self.old) (IsOpen (H.world host.new) self.new) t [] }
+        ensures long { (t : Trail) → IsTrue H.tells → IsOpen (H.world host.old) self.old t → GrowsWithin (H.world host.old) (H.world host.new) (name_of self.old) self.old.files.page_size t [] }
         ensures settled { (t : Trail) → IsTrue H.tells → IsOpen (H.world host.old) self.old t → OnOk result (IsOpen (H.world host.new) self.new (settled t.base)) }
         ensures same { but_pages self.new ≡ but_pages self.old }
         ensures gave { GaveNothing (H.world host.old) (H.world host.new) }
@@ -239,8 +239,8 @@ impl Store {
     /// Writes out what waits. It changes no page. Where nothing waits it makes no call, and at a settled point nothing does.
     pub fn write_out<H: Host>(&mut self, host: &mut H) -> Result<(), HostFault>
         ensures takes { (t : Trail) → IsTrue H.tells → IsOpen (H.world host.old) self.old t
-            → Takes result (H.world host.old) (H.world host.new) (name_of self.old) (IsOpen (H.world host.new) self.new) t [] }
-        ensures touches { (t : Trail) → IsTrue H.tells → IsOpen (H.world host.old) self.old t → WritesIn (H.world host.old) (H.world host.new) self.old.files.state (name_of self.old) }
+            → TakesOn result (H.world host.old) (H.world host.new) (WrittenIn self.old.files.state (name_of self.old)) (name_of self.old) (IsOpen (H.world host.new) self.new) t [] }
+        ensures long { (t : Trail) → IsTrue H.tells → IsOpen (H.world host.old) self.old t → GrowsWithin (H.world host.old) (H.world host.new) (name_of self.old) self.old.files.page_size t [] }
         ensures none { OnOk result (NoPageWaits self.new) }
         ensures idle { NoPageWaits self.old → IsOk result × (self.new ≡ self.old) × (host.new ≡ host.old) }
         ensures at_settled { (t : Trail) → IsTrue H.tells → IsOpen (H.world host.old) self.old t → t.earlier ≡ [] → IsOk result × (self.new ≡ self.old) × (host.new ≡ host.old) }

@@ -8,6 +8,7 @@ ghost use Rattle.nb_model.specs.Account.{Ask};
 ghost use Rattle.nb_model.specs.Image.{Image, image_state, image_scn};
 ghost use Rattle.nb_model.specs.Strokes.{begin as begin_stroke, ends as ends_stroke};
 ghost use Rattle.nb_model.specs.Trail.{Trail};
+ghost use Rattle.nb_base.specs.Stays.{FileIs, KeepsFile, HasAfterFirst, GrowsWithin};
 ghost use Rattle.nb_base.specs.Takes.{Takes};
 ghost use Rattle.nb_state.specs.Open.{IsOpen, name_of};
 ghost use Rattle.nb_model.specs.Causes.{Tested};
@@ -106,6 +107,8 @@ impl Store {
         requires scn { self.old.scn < 4294967294 }
         ensures takes { (t : Trail) (ask : Option Ask) → IsTrue H.tells → IsOpen (H.world host.old) self.old t
             → Takes result (H.world host.old) (H.world host.new) (name_of self.old) (IsOpen (H.world host.new) self.new) t (begin_stroke guid.now ask ∷ []) }
+        ensures long { (t : Trail) → IsTrue H.tells → IsOpen (H.world host.old) self.old t → GrowsWithin (H.world host.old) (H.world host.new) (name_of self.old) self.old.files.page_size t [] }
+        ensures frozen { IsTrue H.tells → OnOk result (FileIs (H.world host.new) (name_of self.old) (λ file. file ≡ (H.world host.new).files (name_of self.old))) }
         ensures answer { IfOk result (λ scn. scn ≡ self.old.scn + 1) }
         ensures gave { GaveNothing (H.world host.old) (H.world host.new) }
         ensures running { self.new.running ≡ self.old.running }
@@ -147,6 +150,8 @@ impl Store {
         requires stalled { self.old.files.state ≡ stalled_state }
         ensures takes { (t : Trail) → IsTrue H.tells → IsOpen (H.world host.old) self.old t
             → Takes result (H.world host.old) (H.world host.new) (name_of self.old) (IsOpen (H.world host.new) self.new) t (ends_stroke ∷ []) }
+        ensures long { (t : Trail) → IsTrue H.tells → IsOpen (H.world host.old) self.old t → GrowsWithin (H.world host.old) (H.world host.new) (name_of self.old) self.old.files.page_size t [] }
+        ensures rest { (t : Trail) (bytes : List ℕ) → IsTrue H.tells → IsOpen (H.world host.old) self.old t → KeepsFile (H.world host.old) (H.world host.new) (name_of self.old) (HasAfterFirst self.old.files.page_size bytes) }
         ensures answer { self.old.scn < 4294967295 → IfOk result (λ scn. scn ≡ self.old.scn + 1) }
         ensures begins { OnOk result ((self.new.running ≡ Some session) × (self.new.merged ≡ 0)) }
         ensures state { OnOk result (self.new.files.state ≡ merge_state) }

@@ -3,6 +3,9 @@ use Rattle.nb_base.proofs.Common.{fresh_page, fresh_count-least, with_file-named
 use Rattle.nb_change.proofs.GaveLaws.{silent_gave, nothing_joined}
 use Rattle.nb_base.proofs.CreateLaws.{rest_begun, far_behind, rest_more}
 use Rattle.nb_base.proofs.MakingLaws.{made, made_reads, making_reads, making_begun, page_more, synced, synced_reads, synced_whole, rest_kept, first_page, first_page_reads, settled}
+use Rattle.nb_base.proofs.Common.{Files, length-fresh_page}
+use Rattle.nb_base.proofs.CreateLaws.{looped_within}
+use Rattle.nb_base.proofs.MakingLaws.{made_within}
 use Rattle.nb_base.proofs.beginnings.make_file.Goals as goal
 
 pub returns-in_err-make-clause-left : goal.returns-in_err-make-clause-left
@@ -97,3 +100,10 @@ returns-clause-made g c tells =
     let kept = rest_kept _ _ _ _ _ _ _ _ _ _ _ _ tells c.requires.size c.requires.few c.requires.count c.loop-number-test.false loop.auto.number-end loop.invariant sync.files sync.log sync.time in
     let page_is = c.fresh-2.ensures.image ∙ ap (λ size. fresh_page size c.args.raw 0) loop.auto.page in
     settled _ _ _ _ _ _ _ _ _ _ tells page_is kept (c.in_ok-write_page-2.ensures.files.files tells) c.sync-2.ensures.files
+
+pub returns-clause-within : goal.returns-clause-within
+returns-clause-within g c tells =
+    let loop = c.loop-number in
+    let page_is = c.fresh-2.ensures.image ∙ ap (λ size. fresh_page size c.args.raw 0) loop.auto.page in
+    let within = looped_within _ c.args.raw loop.number c.args.count c.requires.size _ _ c.loop-number-test.false loop.auto.number-end c.requires.count (loop.invariant.pages tells) (ap (λ (f : Files). f c.args.name.now) c.in_ok-sync.ensures.files.still.files) in
+    made_within g.H.Host.tells c.sync-2.result (g.H.Host.world c.sync.new.self) (g.H.Host.world c.write_page-2.new.self) (g.H.Host.world c.sync-2.new.self) c.args.name.now c.args.count _ _ tells within (ap length page_is ∙ length-fresh_page _ c.args.raw 0 c.requires.size) (c.in_ok-write_page-2.ensures.files.files tells) c.sync-2.ensures.files

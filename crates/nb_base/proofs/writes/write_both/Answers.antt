@@ -4,6 +4,7 @@ use Rattle.nb_base.proofs.OutcomeLaws.{write_later}
 use Rattle.nb_base.proofs.MergedLaws.{both_after}
 use Rattle.nb_base.proofs.TouchLaws.{delta_of, touched_joined, touched_more}
 use Rattle.nb_base.proofs.WriteLaws.{not_done, merges_later, entry_later}
+use Rattle.nb_base.proofs.StaysLaws.{delta_keeps, keeps_joined}
 use Rattle.nb_base.proofs.writes.write_both.Goals as goal
 
 pub returns-in_err-write_slot-clause-takes : goal.returns-in_err-write_slot-clause-takes
@@ -37,3 +38,10 @@ returns-in_err-write_slot-clause-touches g c tells k named slot = delta_of _ _ c
 pub returns-clause-touches : goal.returns-clause-touches
 returns-clause-touches g c tells k named slot =
     touched_joined _ _ _ _ (delta_of _ _ c.args.name.now _ named (c.write_slot.ensures.touches tells k slot)) (touched_more _ _ _ _ (c.write_hidden.ensures.touches tells) (λ m one. inl one))
+
+pub returns-in_err-write_slot-clause-within : goal.returns-in_err-write_slot-clause-within
+returns-in_err-write_slot-clause-within g c most k tells named slot low = delta_keeps _ _ c.args.name.now _ _ _ named (c.write_slot.ensures.touches tells k slot)
+
+pub returns-clause-within : goal.returns-clause-within
+returns-clause-within g c most k tells named slot low =
+    keeps_joined _ _ _ c.args.name.now _ (delta_keeps _ _ c.args.name.now _ _ _ named (c.write_slot.ensures.touches tells k slot)) (c.write_hidden.ensures.within most tells low)

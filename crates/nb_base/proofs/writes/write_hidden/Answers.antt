@@ -1,6 +1,8 @@
 use Rattle.nb_base.proofs.Common.{on_ok_weaker, whole_on_ok}
 use Rattle.nb_base.proofs.TouchLaws.{page_touched}
 use Rattle.nb_base.proofs.HiddenLaws.{hides, struck_hidden, hidden_seen}
+use Rattle.std.proofs.Common.{refl}
+use Rattle.nb_base.proofs.StaysLaws.{page_within}
 use Rattle.nb_base.proofs.writes.write_hidden.Goals as goal
 
 pub returns-clause-takes : goal.returns-clause-takes
@@ -21,3 +23,6 @@ returns-clause-touches g c tells =
 
 pub returns-clause-put : goal.returns-clause-put
 returns-clause-put g c tells = whole_on_ok c.write_page.result _ _ _ (c.write_page.ensures.files.files tells)
+
+pub returns-clause-within : goal.returns-clause-within
+returns-clause-within g c most tells low = page_within g.H.Host.tells c.write_page.result (g.H.Host.world c.args.host.now) (g.H.Host.world c.write_page.new.self) c.args.name.now c.args.number most _ c.args.page.now tells (g.met.H.Host.timely c.args.host.now) c.write_page.ensures.files c.write_page.ensures.time refl low

@@ -1,7 +1,8 @@
-use Rattle.std.proofs.Common.{sym, ◌∙◌}
+use Rattle.std.proofs.Common.{refl, sym, ◌∙◌}
 use Rattle.nb_base.proofs.Common.{on_ok_weaker, still_more, on_ok}
 use Rattle.nb_base.proofs.TouchLaws.{page_touched, still_touched}
 use Rattle.nb_base.proofs.WriteLaws.{not_done, struck_main, main_shown, main_synced, stays_seen}
+use Rattle.nb_base.proofs.StaysLaws.{page_within, keeps_joined, still_keeps}
 use Rattle.nb_base.proofs.writes.write_main.Goals as goal
 
 pub returns-in_err-write_page-clause-takes : goal.returns-in_err-write_page-clause-takes
@@ -57,3 +58,15 @@ returns-then-synced-clause-touches g c tells =
 
 pub returns-then-synced-clause-put : goal.returns-then-synced-clause-put
 returns-then-synced-clause-put g c tells = on_ok c.sync.result (c.sync.ensures.files.still.files ∙ c.in_ok-write_page.ensures.files.files tells)
+
+pub returns-in_err-write_page-clause-within : goal.returns-in_err-write_page-clause-within
+returns-in_err-write_page-clause-within g c most tells low = page_within g.H.Host.tells c.write_page.result (g.H.Host.world c.args.host.now) (g.H.Host.world c.write_page.new.self) c.args.name.now c.args.number most _ c.args.page.now tells (g.met.H.Host.timely c.args.host.now) c.write_page.ensures.files c.write_page.ensures.time refl low
+
+pub returns-else-synced-clause-within : goal.returns-else-synced-clause-within
+returns-else-synced-clause-within g c most tells low = page_within g.H.Host.tells c.write_page.result (g.H.Host.world c.args.host.now) (g.H.Host.world c.write_page.new.self) c.args.name.now c.args.number most _ c.args.page.now tells (g.met.H.Host.timely c.args.host.now) c.write_page.ensures.files c.write_page.ensures.time refl low
+
+pub returns-then-synced-clause-within : goal.returns-then-synced-clause-within
+returns-then-synced-clause-within g c most tells low =
+    keeps_joined _ _ _ c.args.name.now _
+    (page_within g.H.Host.tells c.write_page.result (g.H.Host.world c.args.host.now) (g.H.Host.world c.write_page.new.self) c.args.name.now c.args.number most _ c.args.page.now tells (g.met.H.Host.timely c.args.host.now) c.write_page.ensures.files c.write_page.ensures.time refl low)
+    (still_keeps (g.H.Host.world c.write_page.new.self) (g.H.Host.world c.sync.new.self) c.args.name.now _ (g.met.H.Host.timely _) c.sync.ensures.time c.sync.ensures.files.still)

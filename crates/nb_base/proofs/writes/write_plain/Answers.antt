@@ -5,6 +5,7 @@ use Rattle.nb_base.proofs.MergedLaws.{plain_after}
 use Rattle.nb_base.proofs.PlaceLaws.{slot_answered, none_found}
 use Rattle.nb_base.proofs.TouchLaws.{main_in, both_in}
 use Rattle.nb_base.proofs.WriteLaws.{takes_from, merges_where, none_at}
+use Rattle.nb_base.proofs.StaysLaws.{keeps_from}
 use Rattle.nb_base.proofs.writes.write_plain.Goals as goal
 
 pub returns-in-Some-clause-takes : goal.returns-in-Some-clause-takes
@@ -53,3 +54,13 @@ returns-in-None-clause-touches g c tells empty named =
     let new = g.H.Host.world c.write_main.new.host in
     subst (λ (w : World). WritesIn w new c.args.state c.args.name.now) (ap g.H.Host.world c.slot_of.ensures.no_call)
     (main_in (g.H.Host.world c.slot_of.new._host) new c.args.state c.args.name.now c.requires.plain (c.write_main.ensures.touches tells))
+
+pub returns-in-Some-clause-within : goal.returns-in-Some-clause-within
+returns-in-Some-clause-within g c most tells named low =
+    let slot = slot_answered c.slot_of.result c.args.delta.now.page_size c.in-Some.slot c.args.number c.args.delta.now.entries c.in_ok-slot.field-0 c.in_ok-slot.was c.slot_of.ensures.slot c.in-Some.is in
+    keeps_from _ _ (g.H.Host.world c.write_both.new.host) c.args.name.now _ (ap g.H.Host.world c.slot_of.ensures.no_call)
+    (c.write_both.ensures.within most slot.k tells (ap (λ (k : Known). k.name) c.slot_of.ensures.same ∙ named) (slot.place ∙ ap (λ (k : Known). slot_place k.page_size slot.k) (sym c.slot_of.ensures.same)) low)
+
+pub returns-in-None-clause-within : goal.returns-in-None-clause-within
+returns-in-None-clause-within g c most tells named low =
+    keeps_from _ _ (g.H.Host.world c.write_main.new.host) c.args.name.now _ (ap g.H.Host.world c.slot_of.ensures.no_call) (c.write_main.ensures.within most tells low)

@@ -4,6 +4,7 @@ use Rattle.nb_base.proofs.AttachLaws.{there}
 use Rattle.nb_base.proofs.OpenedLaws.{answer_at, start_refused, delta_refused, read_base, read_shows, read_size, read_some, read_attached}
 use Rattle.nb_base.proofs.OpeningReads.{opened_reads}
 use Rattle.nb_base.proofs.PageReads.{first_read}
+use Rattle.nb_base.proofs.StaysLaws.{durable_file}
 use Rattle.nb_base.proofs.files.TwoFiles.attach.Goals as goal
 
 pub returns-in_err-start-clause-attaches : goal.returns-in_err-start-clause-attaches
@@ -97,3 +98,14 @@ returns-clause-page g c t tells opened =
     ∙ first_read kept.files c.args.name.now c.count_with.new.delta t.base c.read_owned.new.into _ shown (ap (λ (d : Known). d.page_size) same ∙ opened.agrees.page_size) (ap (λ (d : Known). d.entries) same ∙ opened.agrees.entries)
     (some_page t.base.image opened.agrees.header) (omega (arith, c.deref_mut-2.ensures.len, c.in_ok-first.ensures.len, ap (λ (d : Known). d.page_size) known, c.in_ok-delta.ensures.known.page_size))
     (ap (λ (d : Known). d.name) known ∙ c.in_ok-delta.ensures.known.name ∙ c.delta-beside.ensures) (λ bytes. c.in_ok-read_owned.ensures.page bytes tells)
+
+pub returns-clause-durable : goal.returns-clause-durable
+returns-clause-durable g c tells =
+    let old : World = g.H.Host.world c.args.host.now in
+    let name : List ℕ = c.args.name.now in
+    let kept : World = g.H.Host.world c.keep_files.new.host in
+    let new : World = g.H.Host.world c.read_owned.new.host in
+    let counted = ap (λ (h : _). (g.H.Host.world h).files) c.in_ok-count.ensures.no_call ∙ c.in_ok-main_count.ensures.quiet.still.files ∙ c.in_ok-delta.ensures.quiet.still.files ∙ c.in_ok-start.ensures.quiet.still.files in
+    let still = c.in_ok-read_owned.ensures.quiet.still in
+    durable_file new name (old.files name) (ap (λ (f : Files). f name) (still.files ∙ c.in_ok-keep_files.ensures.quiet.still.files ∙ counted))
+    (durable_still kept new name _ still (subst (λ (x : File). IsDurable kept name x) (ap (λ (f : Files). f name) counted) (c.in_ok-keep_files.ensures.main tells)))

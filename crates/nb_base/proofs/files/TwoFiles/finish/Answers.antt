@@ -1,10 +1,12 @@
-use Rattle.std.proofs.Common.{◌≡◌, [], ◌∷◌, length, sym, subst, None, OnOk}
+use Rattle.std.proofs.Common.{◌≡◌, ◌*◌, [], ◌∷◌, length, sym, subst, None, OnOk}
 use Rattle.nb_base.proofs.Common.{World, delta_name, finish, Held, IsOpen, AreMerged, StrikesFirm}
 use Rattle.nb_base.proofs.AgreeLaws.{open_seen}
 use Rattle.nb_base.proofs.FilledLaws.{open_still, merged_still, quiet_struck}
 use Rattle.nb_base.proofs.MergingLaws.{struck_quiet}
 use Rattle.nb_base.proofs.StrokeLaws.{not_struck}
 use Rattle.nb_base.proofs.WriteLaws.{not_done}
+use Rattle.nb_base.specs.Stays.{KeepsFile, EndsWithin}
+use Rattle.nb_base.proofs.StaysLaws.{quiet_keeps, keeps_joined}
 use Rattle.nb_base.proofs.files.TwoFiles.finish.Goals as goal
 
 pub returns-in_err-count-clause-takes : goal.returns-in_err-count-clause-takes
@@ -32,3 +34,13 @@ returns-clause-takes g c t tells is equal =
 
 pub returns-clause-gone : goal.returns-clause-gone
 returns-clause-gone g c tells = subst (λ (h : Held). OnOk c.finish_with.result ((g.H.Host.world c.finish_with.new.host).files (delta_name h.name) ≡ None)) c.count_filled.ensures.same (c.finish_with.ensures.gone tells)
+
+pub returns-in_err-count-clause-within : goal.returns-in_err-count-clause-within
+returns-in_err-count-clause-within g c most tells some = quiet_keeps _ _ c.args.self.now.name _ c.count_filled.ensures.quiet
+
+pub returns-clause-within : goal.returns-clause-within
+returns-clause-within g c most tells some =
+    let mid = g.H.Host.world c.count_filled.new.host in
+    let new = g.H.Host.world c.finish_with.new.host in
+    keeps_joined _ _ _ c.args.self.now.name _ (quiet_keeps _ mid c.args.self.now.name _ c.count_filled.ensures.quiet)
+    (subst (λ (h : Held). KeepsFile mid new h.name (EndsWithin (most * h.page_size))) c.count_filled.ensures.same (c.finish_with.ensures.within most tells some))

@@ -1,11 +1,15 @@
-use Rattle.std.proofs.Common.{◌≡◌, ◌+◌, ◌*◌, [], length, refl, sym, ap, subst, ◌∙◌, arith, slice_index, IsTrue}
+use Rattle.std.proofs.Common.{◌≡◌, ◌+◌, ◌*◌, ◌<◌, [], length, refl, sym, ap, subst, ◌∙◌, arith, slice_index, IsTrue}
 use Rattle.nb_base.proofs.Common.{take_at, on_ok_weaker, Files, bytes_of, with_file, World, whole_on_ok, Known, image_in, delta_name, owned_page, Trail, Held, IsOpen, AreMerged, StrikesFirm, the_view, ok_equal}
 use Rattle.nb_host.specs.Files.{with_page}
 use Rattle.nb_base.specs.Merging.{PutsPage}
 use Rattle.nb_base.proofs.AgreeLaws.{open_seen, seen_open}
 use Rattle.nb_base.proofs.StrokeLaws.{h0}
-use Rattle.nb_base.proofs.MergingLaws.{ReadsEntry, seen_still, struck_quiet, struck_joined, its_entry, merging, read_formed, read_size, its_hiding, merged_next}
+use Rattle.nb_base.proofs.MergingLaws.{ReadsEntry, seen_still, struck_quiet, struck_joined, its_entry, its_place, merging, read_formed, read_size, its_hiding, merged_next}
 use Rattle.nb_base.proofs.HiddenLaws.{struck_hidden, hidden_seen}
+use Rattle.nb_base.specs.Stays.{KeepsFile, EndsWithin}
+use Rattle.nb_base.proofs.Common.{Only, Touches}
+use Rattle.nb_base.proofs.StaysLaws.{quiet_keeps, keeps_joined, keeps_from, page_within}
+use Rattle.nb_base.proofs.TouchLaws.{quiet_touched, touched_joined, page_touched}
 use Rattle.nb_base.proofs.files.TwoFiles.merge_entry.Goals as goal
 
 -- The page of the entry was read, and is written.
@@ -103,3 +107,31 @@ returns-clause-put g c tells =
       put = subst (λ (f : Files). new.files ≡ with_file f name (with_page (f name) (c.in_ok-number.number * length page) page)) still put ∙ ap (λ n. with_file old.files name (with_page (old.files name) n page)) at;
     }))
     (whole_on_ok c.write_page.result _ _ _ (c.write_page.ensures.files.files tells))
+
+pub returns-in_err-read_owned-clause-within : goal.returns-in_err-read_owned-clause-within
+returns-in_err-read_owned-clause-within g c t most tells given inside =
+    keeps_from _ _ _ c.args.self.now.name _ (ap g.H.Host.world c.in_ok-number.ensures.no_call) (quiet_keeps (g.H.Host.world c.entry.new._host) _ c.args.self.now.name _ c.in_err-read_owned.ensures.quiet)
+
+pub returns-clause-within : goal.returns-clause-within
+returns-clause-within g c t most tells given inside =
+    let mid : World = g.H.Host.world c.read_owned.new.host in
+    let new : World = g.H.Host.world c.write_page.new.self in
+    let name = c.self.inside.name in
+    let lower : c.in_ok-number.number < most = omega (arith, its_place (g.H.Host.world c.entry.new._host) (the_view c.self.inside) t c.args.k c.in_ok-number.number c.deref.result.now (entry g c t tells given), inside) in
+    subst (λ (h : Held). KeepsFile (g.H.Host.world c.args.host.now) new h.name (EndsWithin (most * h.page_size))) c.self.view_is
+    (keeps_from _ _ new name _ (ap g.H.Host.world c.in_ok-number.ensures.no_call)
+    (keeps_joined _ mid new name _ (quiet_keeps (g.H.Host.world c.entry.new._host) mid name _ c.in_ok-read_owned.ensures.quiet)
+    (page_within g.H.Host.tells c.write_page.result mid new name c.in_ok-number.number most _ c.deref.result.now tells (g.met.H.Host.timely _) c.write_page.ensures.files c.write_page.ensures.time (long g c) lower)))
+
+pub returns-in_err-read_owned-clause-touches : goal.returns-in_err-read_owned-clause-touches
+returns-in_err-read_owned-clause-touches g c tells =
+    subst (λ (h : _). Touches (g.H.Host.world h) (g.H.Host.world c.read_owned.new.host) (Only c.args.self.now.name)) c.in_ok-number.ensures.no_call (quiet_touched _ _ _ c.in_err-read_owned.ensures.quiet)
+
+pub returns-clause-touches : goal.returns-clause-touches
+returns-clause-touches g c tells =
+    let mid : World = g.H.Host.world c.read_owned.new.host in
+    let new : World = g.H.Host.world c.write_page.new.self in
+    subst (λ (h : Held). Touches (g.H.Host.world c.args.host.now) new (Only h.name)) c.self.view_is
+    (subst (λ (h : _). Touches (g.H.Host.world h) new (Only c.self.inside.name)) c.in_ok-number.ensures.no_call
+    (touched_joined _ mid new _ (quiet_touched _ mid _ c.in_ok-read_owned.ensures.quiet)
+    (page_touched g.H.Host.tells c.write_page.result mid new c.self.inside.name _ c.deref.result.now tells (g.met.H.Host.timely _) c.write_page.ensures.files c.write_page.ensures.log.said c.write_page.ensures.time)))

@@ -1,8 +1,10 @@
-use Rattle.std.proofs.Common.{◌≡◌, refl, sym, subst, ap, ◌∙◌}
+use Rattle.std.proofs.Common.{◌≡◌, ◌*◌, length, refl, sym, subst, ap, ◌∙◌}
 use Rattle.nb_base.proofs.Common.{true≢false, on_ok_weaker, Known, noted, Held, IsOpen, AreMerged, noted_in, WritesIn, the_view}
 use Rattle.nb_base.proofs.AgreeLaws.{open_seen, takes_named}
 use Rattle.nb_base.proofs.TouchLaws.{delta_in}
 use Rattle.nb_base.proofs.WriteLaws.{takes_passed, takes_done, seen_table, no_entries}
+use Rattle.nb_base.specs.Stays.{KeepsFile, EndsWithin}
+use Rattle.nb_base.proofs.StaysLaws.{frozen_keeps, keeps_sized}
 use Rattle.nb_base.proofs.files.TwoFiles.put.Goals as goal
 
 pub returns-in_err-write_plain-clause-takes : goal.returns-in_err-write_plain-clause-takes
@@ -77,3 +79,28 @@ returns-in_ok-write_plain-clause-touches g c t tells open_ =
     let o = subst (λ (h : Held). IsOpen old h t) (sym c.self.view_is) open_ in
     subst (λ (h : Held). WritesIn old new h.state h.name) c.self.view_is
     (c.write_plain.ensures.touches tells (λ normal. o.agrees.entries ∙ no_entries c.self.inside.name t old (open_seen old _ t o) (sym o.agrees.state ∙ normal)) c.self.invariant.5)
+
+pub returns-then-is_diverted-clause-within : goal.returns-then-is_diverted-clause-within
+returns-then-is_diverted-clause-within g c t most tells open_ low =
+    let old = g.H.Host.world c.args.host.now in
+    let new = g.H.Host.world c.write_stalled.new.host in
+    let o = subst (λ (h : Held). IsOpen old h t) (sym c.self.view_is) open_ in
+    let stalled = c.is_diverted.ensures.0 c.if-is_diverted.true in
+    subst (λ (h : Held). KeepsFile old new h.name (EndsWithin (most * h.page_size))) c.self.view_is
+    (frozen_keeps old new c.self.inside.state c.self.inside.name _ stalled
+    (delta_in old new c.self.inside.state c.self.inside.name c.self.inside.delta.name stalled c.self.invariant.5
+    (c.write_stalled.ensures.touches tells (seen_table c.self.inside.name t old (open_seen old _ t o) (sym o.agrees.state ∙ stalled) _ _ _ c.self.invariant.5 o.agrees.page_size (sym o.agrees.entries)))))
+
+pub returns-in_err-write_plain-clause-within : goal.returns-in_err-write_plain-clause-within
+returns-in_err-write_plain-clause-within g c t most tells open_ low =
+    let old = g.H.Host.world c.args.host.now in
+    let new = g.H.Host.world c.write_plain.new.host in
+    keeps_sized old new c.args.self.now.name most _ _ c.requires.size
+    (subst (λ (h : Held). KeepsFile old new h.name (EndsWithin (most * length c.args.page.now))) c.self.view_is (c.write_plain.ensures.within most tells c.self.invariant.5 low))
+
+pub returns-in_ok-write_plain-clause-within : goal.returns-in_ok-write_plain-clause-within
+returns-in_ok-write_plain-clause-within g c t most tells open_ low =
+    let old = g.H.Host.world c.args.host.now in
+    let new = g.H.Host.world c.write_plain.new.host in
+    keeps_sized old new c.args.self.now.name most _ _ c.requires.size
+    (subst (λ (h : Held). KeepsFile old new h.name (EndsWithin (most * length c.args.page.now))) c.self.view_is (c.write_plain.ensures.within most tells c.self.invariant.5 low))

@@ -43,3 +43,9 @@ returns-clause-others g c =
     ap (λ (h : Held). h.pages) c.forget_behind.ensures ∙ ap (λ n. but_below (n - mid.files.count) n mid.pages) (c.count-before.ensures.value ∙ ap (λ (h : Held). h.files.count) c.self.view_is)
     ∙ ap (λ n. but_below (old.files.count - n) old.files.count mid.pages) (ap (λ (h : Held). h.files.count) (sym c.forget_behind.ensures))
     ∙ ap (but_below (old.files.count - new.files.count) old.files.count) c.in_ok-finish_files.ensures.others
+
+pub returns-in_err-finish_files-clause-within : goal.returns-in_err-finish_files-clause-within
+returns-in_err-finish_files-clause-within g c t tells is = c.finish_files.ensures.within t tells is
+
+pub returns-clause-within : goal.returns-clause-within
+returns-clause-within g c t tells is = c.finish_files.ensures.within t tells is

@@ -1,5 +1,6 @@
 use Rattle.std.proofs.Common.{◌≡◌, inl, inr, refl, sym, ap, ◌∙◌, arith}
 use Rattle.nb_owner.proofs.Common.{normal_state, stalled_state, Only, weakened, image_state, delta_name, StandsIn, OfFiles, touched, main_in, delta_in, Held, on_ok}
+use Rattle.nb_base.proofs.StaysLaws.{delta_keeps}
 use Rattle.nb_owner.proofs.pair.Pair.flush_all.Goals as goal
 
 pub returns-then-state-eq-STALLED-clause-takes : goal.returns-then-state-eq-STALLED-clause-takes
@@ -38,3 +39,14 @@ returns-else-state-eq-STALLED-clause-touches g c t tells is =
 pub returns-else-state-eq-STALLED-clause-no_drafts : goal.returns-else-state-eq-STALLED-clause-no_drafts
 returns-else-state-eq-STALLED-clause-no_drafts g c =
     on_ok c.flush_main.result (ap (λ f. f.drafted) c.flush_main.ensures.files ∙ ap (λ (h : Held). h.files.drafted) (sym c.self.view_is) ∙ c.state.ensures.stalled (λ one. c.if-state-eq-STALLED.false one))
+
+pub returns-then-state-eq-STALLED-clause-within : goal.returns-then-state-eq-STALLED-clause-within
+returns-then-state-eq-STALLED-clause-within g c t tells is most within =
+    let name = c.args.self.now.files.name in delta_keeps (g.H.Host.world c.args.host.now) (g.H.Host.world c.flush_delta.new.host) name (delta_name name) (StandsIn name t) _ refl (c.flush_delta.ensures.left t tells is)
+
+pub returns-else-state-eq-STALLED-clause-within : goal.returns-else-state-eq-STALLED-clause-within
+returns-else-state-eq-STALLED-clause-within g c t tells is most within =
+    let waiting = is.waits.each c.requires.some.0 c.requires.some.1 c.requires.some.2 in
+    let state = c.state.ensures.value ∙ ap (λ (h : Held). h.files.state) c.self.view_is ∙ is.agrees.state in
+    let normal : image_state t.base.image ≡ normal_state = omega (arith, c.if-state-eq-STALLED.false, state, waiting.early) in
+    c.flush_main.ensures.within t most tells is normal within

@@ -2,6 +2,7 @@ use Rattle.std.proofs.Common.{sym, subst}
 use Rattle.nb_owner.proofs.Common.{on_ok_weaker, Only, begun, settled, IsFirm, StandsIn, IsOnTheWay, Held, GoesOut, NoScnWaits, the_view}
 use Rattle.nb_base.specs.Open.{IsOpen as AreOpen}
 use Rattle.nb_owner.proofs.OutLaws.{start_way, start_firm, synced_firm, reads_agree, none_scn, quiet_more}
+use Rattle.nb_base.proofs.StaysLaws.{begun_keeps, quiet_keeps, keeps_joined}
 use Rattle.nb_owner.proofs.pair.Pair.flush_first.Goals as goal
 
 pub returns-in_err-flush_scn_pages-in-Some-clause-left : goal.returns-in_err-flush_scn_pages-in-Some-clause-left
@@ -37,3 +38,13 @@ pub returns-in-None-clause-out : goal.returns-in-None-clause-out
 returns-in-None-clause-out g c t is tells unsettled normal =
     let none = none_scn t c.args.self.now.pages normal is.waits.each c.in-None.ensures in
     (start_firm (g.H.Host.world c.args.host.now) c.args.self.now t is normal none, none)
+
+pub returns-in_err-flush_scn_pages-in-Some-clause-within : goal.returns-in_err-flush_scn_pages-in-Some-clause-within
+returns-in_err-flush_scn_pages-in-Some-clause-within g c most tells below = c.flush_scn_pages.ensures.within most tells below
+
+pub returns-in_ok-flush_scn_pages-in-Some-clause-within : goal.returns-in_ok-flush_scn_pages-in-Some-clause-within
+returns-in_ok-flush_scn_pages-in-Some-clause-within g c most tells below =
+    keeps_joined _ _ _ c.args.self.now.files.name _ (c.flush_scn_pages.ensures.within most tells below) (quiet_keeps (g.H.Host.world c.flush_scn_pages.new.host) (g.H.Host.world c.sync.new.host) c.args.self.now.files.name _ c.sync.ensures.quiet)
+
+pub returns-in-None-clause-within : goal.returns-in-None-clause-within
+returns-in-None-clause-within g c most tells below = begun_keeps (g.H.Host.world c.args.host.now) c.args.self.now.files.name _ (g.met.H.Host.timely c.args.host.now)

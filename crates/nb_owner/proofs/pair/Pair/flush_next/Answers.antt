@@ -1,7 +1,8 @@
-use Rattle.std.proofs.Common.{◌≡◌, length, sym, subst, ap, ◌∙◌, arith, IsTrue}
+use Rattle.std.proofs.Common.{◌*◌, ◌≡◌, length, sym, subst, ap, ◌∙◌, arith, IsTrue}
 use Rattle.nb_owner.proofs.Common.{take_at, Only, Changes, page_at, page, on_base, Trail, ShowsIn, MayPut, PutLeft, rank_of, NoneWaits, Held, AreOf}
 use Rattle.nb_owner.proofs.RankLaws.{marked_none}
 use Rattle.nb_owner.proofs.OpenLaws.{peeked, valid_marked}
+use Rattle.nb_base.specs.Stays.{KeepsFile, EndsWithin}
 use Rattle.nb_owner.proofs.pair.Pair.flush_next.Goals as goal
 use Rattle.nb_owner.proofs.pair.Pair.flush_next.Goals.{After-put_out}
 
@@ -57,3 +58,9 @@ returns-clause-put g c t b tells pages shows may =
 
 pub returns-clause-long : goal.returns-clause-long
 returns-clause-long g c t pages = long g (goal.at.returns-clause-long g c).After-put_out t pages
+
+pub returns-in_err-put_out-clause-within : goal.returns-in_err-put_out-clause-within
+returns-in_err-put_out-clause-within g c most tells low = subst (λ (h : Held). KeepsFile (g.H.Host.world c.args.host.now) (g.H.Host.world c.put_out.new.host) h.files.name (EndsWithin (most * h.files.page_size))) c.self.view_is (c.put_out.ensures.within most tells low)
+
+pub returns-clause-within : goal.returns-clause-within
+returns-clause-within g c most tells low = subst (λ (h : Held). KeepsFile (g.H.Host.world c.args.host.now) (g.H.Host.world c.put_out.new.host) h.files.name (EndsWithin (most * h.files.page_size))) c.self.view_is (c.put_out.ensures.within most tells low)

@@ -1,15 +1,19 @@
-use Rattle.std.proofs.Common.{◌<◌, sym, subst, ap}
+use Rattle.std.proofs.Common.{◌*◌, ◌<◌, sym, subst, ap}
 use Rattle.nb_owner.proofs.Common.{IsFirm, Held, GoesOut, NoScnWaits}
-use Rattle.nb_owner.proofs.KeepLaws.{keeps_begun, keeps_on}
+use Rattle.nb_owner.proofs.KeepLaws.{keeps_begun, keeps_on, below_on}
 use Rattle.nb_owner.proofs.RankLaws.{waiting_count, fewer_wait}
 use Rattle.nb_owner.proofs.OutLaws.{firm_begun, firm_changes, firm_more, none_more, out_open}
 use Rattle.nb_owner.proofs.WaitLaws.{open_settled}
+use Rattle.nb_base.specs.Stays.{KeepsFile, EndsWithin}
+use Rattle.nb_owner.specs.Open.{AreBelow}
+use Rattle.nb_base.proofs.StaysLaws.{begun_keeps, keeps_joined}
 use Rattle.nb_owner.proofs.pair.Pair.flush_pages.Goals as goal
 
 pub loop-number-init : goal.loop-number-init
 loop-number-init g c = record {
   keeps = keeps_begun (g.H.Host.world c.args.host.now) c.args.self.now (g.H.Host.faults c.args.host.now);
   out = λ f t tells given cond. (firm_begun (g.H.Host.world c.args.host.now) c.args.self.now f t given cond (g.met.H.Host.timely c.args.host.now), given, cond);
+  grows = λ most tells below. (below, begun_keeps (g.H.Host.world c.args.host.now) c.args.self.now.files.name _ (g.met.H.Host.timely c.args.host.now));
 }
 
 pub loop-number-smaller : goal.loop-number-smaller
@@ -33,6 +37,13 @@ loop-number-preserved g c =
                 (firm_more _ c.loop-number.self f t so.1 so.2 new c.in-Some.number c.in-Some.ensures.next.0 c.in-Some.ensures.next.1 size by (λ b shows may. ok.put t b tells so.1.pages shows may)),
             subst (λ (h : Held). NoScnWaits t h.pages) (sym ok.done) (none_more _ c.loop-number.self f t so.1 so.2 new c.in-Some.number c.in-Some.ensures.next.0 c.in-Some.ensures.next.1 size by),
           );
+      grows = λ most tells below.
+          let so = loop.grows most tells below in (
+            subst (λ (h : Held). AreBelow most h.pages) (sym ok.done) (below_on most c.in-Some.number c.in-Some.ensures.next.0 c.loop-number.self.pages c.in-Some.ensures.next.1 so.0),
+            keeps_joined _ (g.H.Host.world c.loop-number.host) (g.H.Host.world c.flush_next.new.host) c.args.self.now.files.name _ so.1
+                (subst (λ (f : Rattle.nb_base.specs.Open.Held). KeepsFile (g.H.Host.world c.loop-number.host) (g.H.Host.world c.flush_next.new.host) f.name (EndsWithin (most * f.page_size))) loop.keeps.files
+                (c.flush_next.ensures.within most tells (so.0 c.in-Some.number c.in-Some.ensures.next.0 c.in-Some.ensures.next.1))),
+          );
     }
 
 pub returns-in_err-flush_next-clause-left : goal.returns-in_err-flush_next-clause-left
@@ -49,3 +60,14 @@ pub returns-clause-out : goal.returns-clause-out
 returns-clause-out g c f t tells given cond =
     let so = c.loop-number.invariant.out f t tells given cond in
     open_settled (g.H.Host.world c.loop-number.host) c.loop-number.self t c.in_default.ensures.next (out_open (g.H.Host.world c.loop-number.host) c.loop-number.self f t so.1 c.in_default.ensures.next) so.1.pages
+
+pub returns-in_err-flush_next-clause-within : goal.returns-in_err-flush_next-clause-within
+returns-in_err-flush_next-clause-within g c most tells below =
+    let loop = c.loop-number.invariant in
+    let so = loop.grows most tells below in
+    keeps_joined _ (g.H.Host.world c.loop-number.host) (g.H.Host.world c.flush_next.new.host) c.args.self.now.files.name _ so.1
+    (subst (λ (f : Rattle.nb_base.specs.Open.Held). KeepsFile (g.H.Host.world c.loop-number.host) (g.H.Host.world c.flush_next.new.host) f.name (EndsWithin (most * f.page_size))) loop.keeps.files
+    (c.flush_next.ensures.within most tells (so.0 c.in-Some.number c.in-Some.ensures.next.0 c.in-Some.ensures.next.1)))
+
+pub returns-clause-within : goal.returns-clause-within
+returns-clause-within g c most tells below = (c.loop-number.invariant.grows most tells below).1

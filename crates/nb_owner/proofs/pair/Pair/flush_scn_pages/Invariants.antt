@@ -1,4 +1,6 @@
-use Rattle.std.proofs.Common.{◌≢◌, [], IsTrue}
+use Rattle.std.proofs.Common.{ℕ, ◌*◌, ◌≢◌, [], IsTrue}
+use Rattle.nb_base.specs.Stays.{KeepsFile, EndsWithin}
+use Rattle.nb_owner.specs.Open.{AreBelow}
 use Rattle.nb_owner.proofs.Common.{Only, Changes, Trail, StandsIn, IsOnTheWay, GoesOut}
 use Rattle.nb_owner.proofs.KeepLaws.{Keeps}
 use Rattle.nb_owner.proofs.RankLaws.{waiting_count}
@@ -9,6 +11,7 @@ invariant-loop-number g l = record {
   keeps : Keeps (g.H.Host.world l.fn.host) (g.H.Host.world l.host) l.fn.self l.self (g.H.Host.faults l.fn.host) (g.H.Host.faults l.host);
   out : (f t : Trail) → IsTrue g.H.Host.tells → GoesOut (g.H.Host.world l.fn.host) l.fn.self f t (IsOnTheWay f t) → t.earlier ≢ []
       → Changes (g.H.Host.world l.fn.host) (g.H.Host.world l.host) (Only l.fn.self.files.name) (StandsIn l.fn.self.files.name t) × GoesOut (g.H.Host.world l.host) l.self f t (IsOnTheWay f t);
+  grows : (most : ℕ) → IsTrue g.H.Host.tells → AreBelow most l.fn.self.pages → AreBelow most l.self.pages × KeepsFile (g.H.Host.world l.fn.host) (g.H.Host.world l.host) l.fn.self.files.name (EndsWithin (most * l.fn.self.files.page_size));
 }
 
 -- one page less waits each time

@@ -1,4 +1,4 @@
-use Rattle.std.proofs.Common.{sym, ap, ◌∙◌, Some}
+use Rattle.std.proofs.Common.{sym, ap, ◌∙◌}
 use Rattle.nb_owner.proofs.Common.{GoesFirst, rank_of, Held, none_some}
 use Rattle.nb_owner.proofs.RankLaws.{none_found}
 use Rattle.nb_owner.proofs.OpenLaws.{first_waits}

@@ -1,5 +1,6 @@
 use Rattle.nb_owner.proofs.Common.{StandsIn, OfFiles, touched_joined, quiet_touched, not_done, on_ok}
 use Rattle.nb_owner.proofs.OutLaws.{quiet_more}
+use Rattle.nb_base.proofs.StaysLaws.{quiet_keeps, keeps_joined}
 use Rattle.nb_owner.proofs.pair.Pair.sync.Goals as goal
 
 pub returns-in_err-write_out-clause-takes : goal.returns-in_err-write_out-clause-takes
@@ -21,3 +22,9 @@ returns-clause-touches g c t tells is =
     let mid = g.H.Host.world c.write_out.new.host in
     let new = g.H.Host.world c.sync_files.new.host in
     touched_joined (g.H.Host.world c.args.host.now) mid new _ (c.write_out.ensures.touches t tells is) (quiet_touched mid new _ c.sync_files.ensures.quiet)
+
+pub returns-clause-within : goal.returns-clause-within
+returns-clause-within g c t tells is most within =
+    let mid = g.H.Host.world c.write_out.new.host in
+    let new = g.H.Host.world c.sync_files.new.host in
+    keeps_joined _ mid new c.args.self.now.files.name _ (c.write_out.ensures.within t tells is most within) (quiet_keeps mid new c.args.self.now.files.name _ c.sync_files.ensures.quiet)

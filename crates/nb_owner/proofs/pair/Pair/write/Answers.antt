@@ -4,6 +4,8 @@ use Rattle.nb_host.specs.Causes.{CountsRun, FaultCount}
 use Rattle.nb_owner.proofs.RankLaws.{marked_bare, rank_marked, rank_marked_other, rank_kept_other, slot_kept}
 use Rattle.nb_owner.proofs.OpenLaws.{bare_put, may_write}
 use Rattle.nb_owner.proofs.WaitLaws.{may_wait_parts, held_open}
+use Rattle.nb_base.specs.Stays.{GrowsWithin}
+use Rattle.nb_base.proofs.StaysLaws.{grows_none, grows_first, grows_joined}
 use Rattle.nb_owner.proofs.pair.Pair.write.Goals as goal
 
 pub hold-requires-clause-early : goal.hold-requires-clause-early
@@ -169,3 +171,23 @@ returns-in_err-hold-clause-on_memory g c t tells is memory =
       subst (λ host. Strikes old (g.H.Host.world host) name t []) (sym c.hold.ensures.no_call) (begun old (OfFiles name) (Reached after_stroke (StandsIn name) t []) (g.met.H.Host.timely c.args.host.now) (λ files all. is.left files all)),
       subst (λ host. IsOpen (g.H.Host.world host) c.hold.new.self t) (sym c.hold.ensures.no_call) (subst (λ (h : Held). IsOpen old h t) (sym c.in_err-hold.ensures.only_memory.1) is),
     )
+
+pub returns-in_err-hold-clause-within : goal.returns-in_err-hold-clause-within
+returns-in_err-hold-clause-within g c t tells is = grows_none (g.H.Host.world c.args.host.now) (g.H.Host.world c.hold.new.host) c.args.self.now.files.name c.args.self.now.files.page_size t (page c.args.number c.args.page.now ∷ []) (g.met.H.Host.timely c.args.host.now) (ap g.H.Host.world c.hold.ensures.no_call)
+
+pub returns-then-may_wait-clause-within : goal.returns-then-may_wait-clause-within
+returns-then-may_wait-clause-within g c t tells is = grows_none (g.H.Host.world c.args.host.now) (g.H.Host.world c.hold.new.host) c.args.self.now.files.name c.args.self.now.files.page_size t (page c.args.number c.args.page.now ∷ []) (g.met.H.Host.timely c.args.host.now) (ap g.H.Host.world c.hold.ensures.no_call)
+
+pub returns-in_err-write_out-clause-within : goal.returns-in_err-write_out-clause-within
+returns-in_err-write_out-clause-within g c t tells is = grows_first (g.H.Host.world c.args.host.now) (g.H.Host.world c.write_out.new.host) c.args.self.now.files.name c.args.self.now.files.page_size t (page c.args.number c.args.page.now ∷ []) (c.write_out.ensures.within t tells is)
+
+pub returns-clause-within : goal.returns-clause-within
+returns-clause-within g c t tells is =
+    let old = g.H.Host.world c.args.host.now in
+    let mid = g.H.Host.world c.write_out.new.host in
+    let new = g.H.Host.world c.write_through.new.host in
+    let held = c.args.self.now in
+    let fits = may_write old held t c.args.number c.args.page.now is c.requires.low (λ first. c.requires.control_block first tells) in
+    grows_joined old mid new held.files.name held.files.page_size t [] (page c.args.number c.args.page.now ∷ []) (c.write_out.ensures.within t tells is)
+    (subst (λ (f : Rattle.nb_base.specs.Open.Held). GrowsWithin mid new f.name f.page_size t (page c.args.number c.args.page.now ∷ [])) c.write_out.ensures.files
+    (c.write_through.ensures.within t tells (c.in_ok-write_out.ensures.takes t tells is).done fits))

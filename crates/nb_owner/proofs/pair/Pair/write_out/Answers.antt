@@ -1,4 +1,4 @@
-use Rattle.std.proofs.Common.{◌≡◌, [], sym, subst, ◌∙◌, None, Some, true}
+use Rattle.std.proofs.Common.{◌≡◌, [], sym, subst, ◌∙◌, true}
 use Rattle.nb_owner.proofs.Common.{true≢false, World, is_forced, Trail, NoneWaits, Held, Pages, IsOpen, none_there, on_ok}
 use Rattle.nb_owner.proofs.RankLaws.{none_found}
 use Rattle.nb_owner.proofs.WaitLaws.{none_drafted, settled_none, forced_none}
@@ -30,3 +30,9 @@ returns-in-None-clause-at_forced g c t tells is forced = c.enter_rest.ensures.id
 
 pub returns-in-None-clause-none : goal.returns-in-None-clause-none
 returns-in-None-clause-none g c = on_ok c.enter_rest.result (subst (λ (ps : Pages). NoneWaits ps) (sym c.enter_rest.ensures.pages) c.in-None.ensures.next)
+
+pub returns-in-Some-clause-within : goal.returns-in-Some-clause-within
+returns-in-Some-clause-within g c t tells is = c.flush_all.ensures.within t tells is
+
+pub returns-in-None-clause-within : goal.returns-in-None-clause-within
+returns-in-None-clause-within g c t tells is = c.enter_rest.ensures.within t tells is

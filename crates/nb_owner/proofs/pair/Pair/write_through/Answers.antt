@@ -1,7 +1,9 @@
-use Rattle.std.proofs.Common.{[], ◌∷◌, refl, ap, sym, subst, ◌∙◌}
+use Rattle.std.proofs.Common.{◌*◌, [], ◌∷◌, refl, ap, sym, subst, ◌∙◌}
 use Rattle.nb_owner.proofs.Common.{page, after_stroke, Strikes, WritesIn, strikes_left, not_done, NoneWaits, rank_of, Held, Pages, IsOpen, AreOf, bare, used, the_view}
 use Rattle.nb_owner.proofs.OpenLaws.{of_written, none_dropped, none_waits_kept, kept_pages, valid_kept, bare_put}
 use Rattle.nb_owner.proofs.WaitLaws.{files_open, open_settled}
+use Rattle.nb_base.specs.Stays.{KeepsFile, EndsWithin}
+use Rattle.nb_base.proofs.StaysLaws.{written_within}
 use Rattle.nb_owner.proofs.pair.Pair.write_through.Goals as goal
 
 pub returns-in_err-write-clause-takes : goal.returns-in_err-write-clause-takes
@@ -81,3 +83,19 @@ returns-clause-touches g c t tells given =
     let is = subst (λ (h : Held). IsOpen old h t) (sym c.self.view_is) given in
     let none = subst (λ (h : Held). NoneWaits h.pages) (sym c.self.view_is) c.requires.none in
     subst (λ (h : Held). WritesIn old new h.files.state h.files.name) c.self.view_is (c.write.ensures.touches t tells (files_open old (the_view c.self.inside) t none is))
+
+pub returns-in_err-write-clause-within : goal.returns-in_err-write-clause-within
+returns-in_err-write-clause-within g c t tells given fits most within =
+    let old = g.H.Host.world c.args.host.now in
+    let new = g.H.Host.world c.write.new.host in
+    let is = subst (λ (h : Held). IsOpen old h t) (sym c.self.view_is) given in
+    let none = subst (λ (h : Held). NoneWaits h.pages) (sym c.self.view_is) c.requires.none in
+    subst (λ (h : Held). KeepsFile old new h.files.name (EndsWithin (most * h.files.page_size))) c.self.view_is (c.write.ensures.within t most tells (files_open old (the_view c.self.inside) t none is) (written_within most t c.args.number c.args.page.now fits.low within))
+
+pub returns-clause-within : goal.returns-clause-within
+returns-clause-within g c t tells given fits most within =
+    let old = g.H.Host.world c.args.host.now in
+    let new = g.H.Host.world c.write.new.host in
+    let is = subst (λ (h : Held). IsOpen old h t) (sym c.self.view_is) given in
+    let none = subst (λ (h : Held). NoneWaits h.pages) (sym c.self.view_is) c.requires.none in
+    subst (λ (h : Held). KeepsFile old new h.files.name (EndsWithin (most * h.files.page_size))) c.self.view_is (c.write.ensures.within t most tells (files_open old (the_view c.self.inside) t none is) (written_within most t c.args.number c.args.page.now fits.low within))

@@ -15,4 +15,4 @@ returns-clause-attaches g c tells =
     let front = c.front_of-front.result in
     let is = c.front_of-front.ensures in
     let new = g.H.Host.world c.attach.new.host in
-    attached _ c.in_ok-pair.pair _ new c.args.name.now (pair.attaches tells) pair.blank.none refl refl (λ t files open_. open_read new c.in_ok-pair.pair t _ open_ (c.deref.ensures.value ∙ pair.page t tells files) front.scn front.guid front.read_only is.four is.scn is.guid is.read_only)
+    attached _ c.in_ok-pair.pair _ new c.args.name.now (pair.attaches tells) pair.blank.none (pair.durable tells) refl refl (λ t files open_. open_read new c.in_ok-pair.pair t _ open_ (c.deref.ensures.value ∙ pair.page t tells files) front.scn front.guid front.read_only is.four is.scn is.guid is.read_only)

@@ -3,6 +3,8 @@ use Rattle.nb_state.proofs.Common.{stalled_state, World, Fault, Device, Stroke, 
 use Rattle.nb_state.proofs.MakesLaws.{none_yet, gave_none}
 use Rattle.nb_state.proofs.TurnLaws.{open_struck, end_stalled, end_other, scn_stalled, scn_other, end_refused, end_failed, end_done}
 use Rattle.nb_page.proofs.QuietLaws.{quiet_begun}
+use Rattle.nb_model.specs.Pages.{end_strokes}
+use Rattle.nb_base.proofs.StaysLaws.{grows_first, grows_not, quiet_keeps}
 use Rattle.nb_state.proofs.store.Store.end.Goals as goal
 
 pub returns-in_err-check_end-clause-ends : goal.returns-in_err-check_end-clause-ends
@@ -21,8 +23,10 @@ returns-in_err-scn-clause-ends g c t tells is =
     let stalled = sym is.files.agrees.state ∙ sym (ap (λ (h : Held). h.files.state) c.self.view_is) ∙ sym c.state.ensures.value ∙ c.if-state-eq-STALLED.true in
     let allowed = c.in_ok-check_end.ensures.test t.base.image is.files.agrees.state in
     let struck = subst (λ (ss : List Stroke). Strikes old new (name_of held) t ss) (sym (end_stalled t.base.image stalled)) (c.end_stalled.ensures.takes t tells is).left in
+    let grown = grows_first old new (name_of held) held.files.page_size t (end_strokes t.base.image) (c.end_stalled.ensures.long t tells is) in
+    let rest = λ (bytes : List ℕ). c.end_stalled.ensures.rest t bytes tells is in
     subst (λ (r : Result ℕ Fault). Ends r old new held c.end_stalled.new.self t c.args.session) (sym (passed_on c.from_residual-in_err-scn.result Device c.from_residual-in_err-scn.ensures))
-    (end_failed old new held c.end_stalled.new.self t c.args.session allowed struck c.end_stalled.ensures.gave c.end_stalled.ensures.name)
+    (end_failed old new held c.end_stalled.new.self t c.args.session allowed struck grown rest c.end_stalled.ensures.gave c.end_stalled.ensures.name)
 
 pub returns-then-state-eq-STALLED-clause-ends : goal.returns-then-state-eq-STALLED-clause-ends
 returns-then-state-eq-STALLED-clause-ends g c t tells is =
@@ -37,7 +41,9 @@ returns-then-state-eq-STALLED-clause-ends g c t tells is =
     let strokes = end_stalled t.base.image stalled in
     let struck = subst (λ (ss : List Stroke). Strikes old new (name_of held) t ss) (sym strokes) takes.left in
     let room = header-room _ is.files.agrees.header stalled in
-    end_done old new held c.end_stalled.new.self t c.args.session allowed struck ended.gave ended.name c.in_ok-scn.scn
+    let grown = grows_first old new (name_of held) held.files.page_size t (end_strokes t.base.image) (c.end_stalled.ensures.long t tells is) in
+    let rest = λ (bytes : List ℕ). c.end_stalled.ensures.rest t bytes tells is in
+    end_done old new held c.end_stalled.new.self t c.args.session allowed struck grown rest ended.gave ended.name c.in_ok-scn.scn
     (ended.answer (omega (arith, room, is.agrees.scn)) ∙ ap (λ (n : ℕ). n + 1) is.agrees.scn ∙ sym (scn_stalled t.base.image stalled))
     (subst (λ (ss : List Stroke). IsOpen new c.end_stalled.new.self (after_strokes t ss)) (sym strokes) takes.done) ended.begins.0 ended.begins.1
 
@@ -50,5 +56,5 @@ returns-clause-ends g c t tells given =
     let other : image_state t.base.image ≡ stalled_state → ⊥ = λ e. c.if-state-eq-STALLED.false (c.state.ensures.value ∙ is.files.agrees.state ∙ e) in
     let allowed = c.in_ok-check_end.ensures.test t.base.image given.files.agrees.state in
     let strokes = end_other t.base.image other in
-    end_done old old held _ t c.args.session allowed (none_yet old old held t _ quiet given) (gave_none old old quiet) (ap (λ (h : Held). name_of h) c.self.view_is) _ (is.agrees.scn ∙ sym (scn_other t.base.image other))
+    end_done old old held _ t c.args.session allowed (none_yet old old held t _ quiet given) (grows_not old old (name_of held) held.files.page_size t _ quiet) (λ bytes. quiet_keeps old old (name_of held) _ quiet) (gave_none old old quiet) (ap (λ (h : Held). name_of h) c.self.view_is) _ (is.agrees.scn ∙ sym (scn_other t.base.image other))
     (open_struck old _ t c.args.session _ strokes is) refl refl

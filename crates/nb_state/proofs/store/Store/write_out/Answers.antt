@@ -1,6 +1,7 @@
 use Rattle.std.proofs.Common.{◌≡◌, [], refl, sym, subst, ap, ◌∙◌, Result, Ok, Err, OnOk}
-use Rattle.nb_state.proofs.Common.{on_ok_weaker, AreMerged, Strikes, WritesIn, NoneWaits, Held, IsOpen, name_of}
+use Rattle.nb_state.proofs.Common.{on_ok_weaker, AreMerged, NoneWaits, Held, IsOpen, name_of, OfFiles, StrikesIn, WrittenIn, GrowsWithin}
 use Rattle.nb_state.proofs.TurnLaws.{open_out}
+use Rattle.nb_base.proofs.TouchLaws.{narrowed}
 use Rattle.nb_state.proofs.store.Store.write_out.Goals as goal
 
 on_ok_pair : {T E : Type 0} (P Q : Type 0) (result : Result T E) → OnOk result P → OnOk result Q → OnOk result (P × Q)
@@ -17,7 +18,8 @@ returns-clause-takes g c t tells given =
     let is = subst (λ (h : Held). IsOpen old h t) (sym c.self.view_is) given in
     let takes = c.write_out.ensures.takes t tells is.files in
     record {
-      left = subst (λ (h : Held). Strikes old new (name_of h) t []) c.self.view_is takes.left;
+      left = subst (λ (h : Held). StrikesIn old new h.files.state (name_of h) t []) c.self.view_is
+          (narrowed old new (OfFiles c.self.inside.pair.files.name) (WrittenIn c.self.inside.pair.files.state c.self.inside.pair.files.name) _ takes.left (c.write_out.ensures.touches t tells is.files));
       done = on_ok_weaker c.write_out.result
           (λ opened. open_out old new _ c.write_out.new.self t t is refl c.write_out.ensures.files opened (λ apart merged.
           let idle = c.write_out.ensures.outside apart in
@@ -35,9 +37,9 @@ returns-clause-at_settled g c t tells given none =
       same.2,
     )
 
-pub returns-clause-touches : goal.returns-clause-touches
-returns-clause-touches g c t tells given =
+pub returns-clause-long : goal.returns-clause-long
+returns-clause-long g c t tells given =
     let old = g.H.Host.world c.args.host.now in
     let new = g.H.Host.world c.write_out.new.host in
     let is = subst (λ (h : Held). IsOpen old h t) (sym c.self.view_is) given in
-    subst (λ (h : Held). WritesIn old new h.files.state (name_of h)) c.self.view_is (c.write_out.ensures.touches t tells is.files)
+    subst (λ (h : Held). GrowsWithin old new (name_of h) h.files.page_size t []) c.self.view_is (c.write_out.ensures.within t tells is.files)
