@@ -6,11 +6,11 @@ pub use Rattle.nb_alloc.specs.Make.{GoesOn, IsOnward, IsSupplied, IsWell, behind
 pub use Rattle.nb_alloc.specs.Mark.{bit_for, bit_stroke, mark_cause, mark_stroke, mark_strokes}
 pub use Rattle.nb_alloc.specs.Put.{Reads, entry_cause, must_raise, not_taken, put_stroke, raise_stroke, raise_strokes}
 pub use Rattle.nb_alloc.specs.Search.{AtKnown, AtPlace, EndsBy, Finds, GoesTo, IsSearchable, IsShort, Refuses, Searches}
-pub use Rattle.nb_alloc.specs.Tries.{StopsBehind, StopsShort, Tries, WhereMemory}
+pub use Rattle.nb_alloc.specs.Tries.{StopsEarly, StopsShort, Tries, WhereMemory}
 pub use Rattle.nb_alloc.specs.Way.{way_cause}
 pub use Rattle.nb_alloc.specs.declared.behind.Behind.{Behind}
 pub use Rattle.nb_base.proofs.AttachLaws.{applies, first_here, first_next}
-pub use Rattle.nb_base.specs.Takes.{IsNoRefusal, Strikes, after_strokes}
+pub use Rattle.nb_base.specs.Takes.{IsNoRefusal, Strikes, StrikesIn, after_strokes}
 pub use Rattle.nb_change.proofs.FaultLaws.{counts_passed, memory_wanted, none_wanted}
 pub use Rattle.nb_change.proofs.ReachedLaws.{after_all-joined, strokes_composed}
 pub use Rattle.nb_change.proofs.ResultLaws.{passed_on}

@@ -59,7 +59,7 @@ sure_of (Err Memory) cause none tested = tt
 
 -- a failure is the same of a result of another type
 pub makes_as : (S T : Type 0) (fault : Fault) (old new : World) (a b : Held) (t : Trail) (xs : List Stroke) → Makes {T = S} (Err fault) old new a b t xs → Makes {T = T} (Err fault) old new a b t xs
-makes_as S T fault old new a b t xs makes = record { left = makes.left; opened = by fault _ makes.opened; goes = makes.goes; gave = makes.gave }
+makes_as S T fault old new a b t xs makes = record { left = makes.left; long = makes.long; opened = by fault _ makes.opened; goes = makes.goes; gave = makes.gave }
   where
     by : (f : Fault) (P : Type 0) → WhereEnded {T = S} (Err f) P → WhereEnded {T = T} (Err f) P
     by (RefusedFault r) P is = is
@@ -76,7 +76,7 @@ tries_other S T fault old new a b t cause xs tries = record {
 
 -- and so is a call that answers by what another has answered
 pub makes_valued : {S T : Type 0} (v : S) (w : T) (old new : World) (a b : Held) (t : Trail) (xs : List Stroke) → Makes (Ok v) old new a b t xs → Makes (Ok w) old new a b t xs
-makes_valued v w old new a b t xs makes = record { left = makes.left; opened = makes.opened; goes = makes.goes; gave = makes.gave }
+makes_valued v w old new a b t xs makes = record { left = makes.left; long = makes.long; opened = makes.opened; goes = makes.goes; gave = makes.gave }
 
 pub tries_valued : {S T : Type 0} (v : S) (w : T) (old new : World) (a b : Held) (t : Trail) (cause : Cause) (xs : List Stroke) → Tries (Ok v) old new a b t cause xs → Tries (Ok w) old new a b t cause xs
 tries_valued v w old new a b t cause xs tries = record { test = tries.test; makes = makes_valued v w old new a b t (unless_by cause xs) tries.makes; idle = tries.idle; stops = tt }
@@ -143,7 +143,7 @@ tries_front S T fault old new a b t cause xs ys first = by fault first
         record {
           test = first.test;
           makes = subst (λ (ss : List Stroke). Makes {T = T} (Err (RefusedFault r)) old new a b t ss) none
-              (record { left = first.makes.left; opened = first.makes.opened; goes = first.makes.goes; gave = first.makes.gave });
+              (record { left = first.makes.left; long = first.makes.long; opened = first.makes.opened; goes = first.makes.goes; gave = first.makes.gave });
           idle = first.idle;
           stops = tt;
         }

@@ -1,5 +1,5 @@
 -- What a call does that may be refused before its strokes, and what it has done where memory ran out.
-use Rattle.std.specs.Prelude.{◌≡◌, List, ◌∷◌, ◌++◌, Some, Result, Ok, Err}
+use Rattle.std.specs.Prelude.{◌≡◌, List, [], ◌∷◌, ◌++◌, Some, Result, Ok, Err}
 use Rattle.nb_host.specs.World.{World}
 use Rattle.nb_host.specs.declared.faults.Fault.{Fault}
 use Rattle.nb_host.specs.declared.faults.Fault.TheVariants.{Refused, Device, Memory}
@@ -36,10 +36,12 @@ pub record Tries {T : Type 0} (result : Result T Fault) (old new : World) (befor
   pub idle : (r : Refusal) → cause ≡ Some r → Quiet old new
   pub stops : WhereMemory result (StopsShort old new before after t (unless_by cause strokes))
 
--- The call has wanted memory: it has made a front of these strokes and no other, and the database is open after it.
-pub record StopsBehind (old new : World) (before after : Held) (t : Trail) (strokes : List Stroke) : Type 0 where
+-- Memory ran out in a call that makes these strokes, if it makes any: a prefix of them was made and no other, which is all of them only where
+-- there are none, and the database is open after it.
+pub record StopsEarly (old new : World) (before after : Held) (t : Trail) (strokes : List Stroke) : Type 0 where
   pub made : List Stroke
   pub rest : List Stroke
-  pub front : made ++ rest ≡ strokes
+  pub whole : made ++ rest ≡ strokes
+  pub short : rest ≡ [] → strokes ≡ []
   pub left : Strikes old new (name_of before) t made
   pub opened : IsOpen new after (after_strokes t made)

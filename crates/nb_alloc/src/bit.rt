@@ -10,11 +10,10 @@ ghost use Rattle.nb_model.specs.Image.{page_at};
 ghost use Rattle.nb_model.specs.Forms.{inventory_of};
 ghost use Rattle.nb_model.specs.Causes.{not_kind};
 ghost use Rattle.nb_model.specs.Trail.{Trail};
-ghost use Rattle.nb_base.specs.Takes.{Strikes};
+ghost use Rattle.nb_base.specs.Takes.{StrikesIn};
 ghost use Rattle.nb_state.specs.Open.{IsOpen, name_of};
 ghost use Rattle.nb_state.specs.Does.{Goes, Makes};
-ghost use Rattle.nb_alloc.specs.Tries.{Tries, StopsBehind};
-ghost use Rattle.nb_alloc.specs.Put.{raise_strokes};
+ghost use Rattle.nb_alloc.specs.Tries.{Tries};
 ghost use Rattle.nb_alloc.specs.Mark.{bit_for, bit_stroke, mark_cause, mark_strokes};
 
 use crate::pages::{InventoryPage, ScnPage};
@@ -45,7 +44,7 @@ fn write_bit<H: Host>(
     ensures cause { CountsRun result (H.faults host.old) (H.faults host.new) }
     ensures takes_none { store.old.files.state ≢ stalled_state → IfErr result (λ error. error ≢ RunError.Memory) }
     ensures on_memory { (t : Trail) → IsTrue H.tells → IsOpen (H.world host.old) store.old t → result ≡ Err RunError.Memory
-        → Strikes (H.world host.old) (H.world host.new) (name_of store.old) t [] × IsOpen (H.world host.new) store.new t }
+        → StrikesIn (H.world host.old) (H.world host.new) store.old.files.state (name_of store.old) t [] × IsOpen (H.world host.new) store.new t }
 {
     map.set(index, free, store.scn(), place);
     store.write(host, place, map.as_slice())
@@ -74,8 +73,6 @@ pub(crate) fn put_map<H: Host>(
     ensures once { IsTrue H.tells → (H.world host.new).reads ≤ (H.world host.old).reads + 1 }
     ensures cause { CountsDevice result (H.faults host.old) (H.faults host.new) }
     ensures takes_none { store.old.files.state ≢ stalled_state → IfErr result (λ fault. fault ≢ Memory) }
-    ensures on_memory { (t : Trail) → IsTrue H.tells → IsOpen (H.world host.old) store.old t → result ≡ Err Memory
-        → StopsBehind (H.world host.old) (H.world host.new) store.old store.new t (raise_strokes t.base.image (inventory_of t.base.image number)) }
 {
     let page_size = store.page_size();
     let (k, index) = covers(page_size, number);
@@ -109,8 +106,6 @@ pub fn mark<H: Host>(
     ensures once { IsTrue H.tells → (H.world host.new).reads ≤ (H.world host.old).reads + 2 }
     ensures cause { CountsDevice result (H.faults host.old) (H.faults host.new) }
     ensures takes_none { store.old.files.state ≢ stalled_state → IfErr result (λ fault. fault ≢ Memory) }
-    ensures on_memory { (t : Trail) → IsTrue H.tells → IsOpen (H.world host.old) store.old t → result ≡ Err Memory
-        → StopsBehind (H.world host.old) (H.world host.new) store.old store.new t (raise_strokes t.base.image (inventory_of t.base.image number)) }
 {
     let page_size = store.page_size();
     let (k, _) = covers(page_size, number);

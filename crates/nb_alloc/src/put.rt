@@ -8,7 +8,7 @@ ghost use Rattle.nb_host.specs.Faults.{as_answer};
 ghost use Rattle.nb_model.specs.Image.{page_at};
 ghost use Rattle.nb_model.specs.Forms.{scn_page_of};
 ghost use Rattle.nb_model.specs.Trail.{Trail};
-ghost use Rattle.nb_base.specs.Takes.{Strikes};
+ghost use Rattle.nb_base.specs.Takes.{StrikesIn};
 ghost use Rattle.nb_state.specs.Open.{IsOpen, name_of};
 ghost use Rattle.nb_state.specs.Looks.{Looks};
 ghost use Rattle.nb_state.specs.Does.{Goes, Makes};
@@ -68,7 +68,7 @@ fn raise<H: Host>(
     ensures cause { CountsRun result (H.faults host.old) (H.faults host.new) }
     ensures takes_none { store.old.files.state ≢ stalled_state → IfErr result (λ error. error ≢ RunError.Memory) }
     ensures on_memory { (t : Trail) → IsTrue H.tells → IsOpen (H.world host.old) store.old t → result ≡ Err RunError.Memory
-        → Strikes (H.world host.old) (H.world host.new) (name_of store.old) t [] × IsOpen (H.world host.new) store.new t }
+        → StrikesIn (H.world host.old) (H.world host.new) store.old.files.state (name_of store.old) t [] × IsOpen (H.world host.new) store.new t }
 {
     let page_size = store.page_size();
     let (k, index) = nb_scn::covers(page_size, number);
@@ -96,8 +96,6 @@ pub fn raise_entry<H: Host>(
     ensures once { IsTrue H.tells → (H.world host.new).reads ≤ (H.world host.old).reads + 1 }
     ensures cause { CountsDevice result (H.faults host.old) (H.faults host.new) }
     ensures takes_none { store.old.files.state ≢ stalled_state → IfErr result (λ fault. fault ≢ Memory) }
-    ensures on_memory { (t : Trail) → IsTrue H.tells → IsOpen (H.world host.old) store.old t → result ≡ Err Memory
-        → Strikes (H.world host.old) (H.world host.new) (name_of store.old) t [] × IsOpen (H.world host.new) store.new t }
 {
     if must_raise(store, host, number, scn_page)? {
         raise(store, host, number, scn_page)?;
@@ -128,7 +126,7 @@ pub fn write_raw<H: Host>(
     ensures cause { CountsRun result (H.faults host.old) (H.faults host.new) }
     ensures takes_none { store.old.files.state ≢ stalled_state → IfErr result (λ error. error ≢ RunError.Memory) }
     ensures on_memory { (t : Trail) → IsTrue H.tells → IsOpen (H.world host.old) store.old t → result ≡ Err RunError.Memory
-        → Strikes (H.world host.old) (H.world host.new) (name_of store.old) t [] × IsOpen (H.world host.new) store.new t }
+        → StrikesIn (H.world host.old) (H.world host.new) store.old.files.state (name_of store.old) t [] × IsOpen (H.world host.new) store.new t }
 {
     put_text(page, text);
     stamp(page, PageKind::Raw.code(), store.scn(), number);

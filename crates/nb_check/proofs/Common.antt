@@ -1,6 +1,6 @@
 -- The definitions that the proofs of this crate speak in, and the laws of other crates that they cite, passed on from one place. Declares nothing.
-pub use Rattle.nb_alloc.proofs.DoesLaws.{refused_does, seeing, sure_of, tested_by_name, tested_does, tested_on, tries_after, tries_does, tries_made, tries_other, tries_passed, tries_valued, valued_does}
-pub use Rattle.nb_alloc.proofs.WantLaws.{short_front, short_then, wanted_so}
+pub use Rattle.nb_alloc.proofs.DoesLaws.{refused_does, seeing, sure_of, tested_by_name, tested_does, tested_on, tries_after, tries_does, tries_made, tries_other, tries_passed, tries_stops, tries_valued, valued_does}
+pub use Rattle.nb_alloc.proofs.WantLaws.{early_quiet, early_short, short_front, short_then, wanted_any, wanted_so}
 pub use Rattle.nb_base.specs.Takes.{IsNoRefusal, after_strokes}
 pub use Rattle.nb_change.proofs.ResultLaws.{on_ok_then, passed_on}
 pub use Rattle.nb_check.specs.Passes.{AreSized, HasEntryOf, HoldsTaken, IsFirstBelow, IsLowestAt, IsMapOf, IsOf}
@@ -14,7 +14,7 @@ pub use Rattle.nb_check.specs.declared.set.Marks.{Marks}
 pub use Rattle.nb_check.specs.declared.facts.Broken.{Broken}
 pub use Rattle.nb_check.specs.declared.facts.Extent.{Extent}
 pub use Rattle.nb_engine.specs.Mark.{mark_cause}
-pub use Rattle.nb_engine.specs.Tries.{StopsShort, Tries, WhereMemory}
+pub use Rattle.nb_engine.specs.Tries.{StopsEarly, StopsShort, Tries, WhereMemory}
 pub use Rattle.nb_fields.proofs.PlaceLaws.{bits-least, entries-least}
 pub use Rattle.nb_fields.proofs.SizeLaws.{SizeFacts, size_facts}
 pub use Rattle.nb_fields.specs.Bytes.{is_zeros, part}

@@ -14,7 +14,7 @@ ghost use Rattle.nb_state.specs.Open.{IsOpen};
 ghost use Rattle.nb_state.specs.Looks.{Looks};
 ghost use Rattle.nb_model.specs.Causes.{Tested};
 ghost use Rattle.nb_state.specs.Does.{Does, Goes};
-ghost use Rattle.nb_engine.specs.Tries.{Tries};
+ghost use Rattle.nb_engine.specs.Tries.{StopsEarly, Tries, WhereMemory};
 ghost use Rattle.nb_model.specs.Facts.{unsound};
 ghost use Rattle.nb_model.specs.Leaks.{leaked, reached};
 ghost use Rattle.nb_check.specs.Passes.{HoldsTaken, AreSized};
@@ -161,6 +161,9 @@ pub fn reclaim<H: Host>(alloc: Global, host: &mut H, engine: &mut Engine) -> Res
     ensures once { (t : Trail) → IsTrue H.tells → IsOpen (H.world host.old) engine.old t
         → OnOk result ((H.world host.new).reads ≤ (H.world host.old).reads + engine.old.files.count + 3 + length (found_pages Catalogue t.base.image) + length (reached t.base.image) + 2 * length (leaked t.base.image)) }
     ensures cause { CountsDevice result (H.faults host.old) (H.faults host.new) }
+    // Where memory is wanted a prefix of the pages was given back, and not all, if there were any.
+    ensures short { (s : Seen) (t : Trail) → IsTrue H.tells → t.base ≡ s.base → IsOpen (H.world host.old) engine.old t
+        → WhereMemory result (StopsEarly (H.world host.old) (H.world host.new) engine.old engine.new t (reclaim_turn s).strokes) }
     // Outside the stalled state memory is wanted before the first page is given back, or not at all.
     ensures on_memory { engine.old.files.state ≢ stalled_state → result ≡ Err Memory → Quiet (H.world host.old) (H.world host.new) }
 {

@@ -49,6 +49,6 @@ module _ (t : Trail) (guid : List ℕ) (ask : Option Ask) where
 
 -- A begin that failed or was refused.
 pub begin_failed : (fault : Fault) (old new : World) (a b : Held) (t : Trail) (guid : List ℕ) (ask : Option Ask) (session : ℕ) (bare : LevelHead) → Starts (Err fault) old new a b t guid ask → BeginsFor (Err fault) old new a b t guid ask session bare
-begin_failed (Refused r) old new a b t guid ask session bare is = record { test = is.test; left = is.left; opened = tt; head = tt; gave = tt; times = is.times; idle = is.idle; running = tt; name = is.name }
-begin_failed Device old new a b t guid ask session bare is = record { test = tt; left = is.left; opened = tt; head = tt; gave = tt; times = is.times; idle = is.idle; running = tt; name = is.name }
-begin_failed Memory old new a b t guid ask session bare is = record { test = tt; left = is.left; opened = tt; head = tt; gave = tt; times = is.times; idle = is.idle; running = tt; name = is.name }
+begin_failed (Refused r) old new a b t guid ask session bare is = record { test = is.test; left = is.left; long = is.long; frozen = tt; opened = tt; head = tt; gave = tt; times = is.times; idle = is.idle; running = tt; name = is.name }
+begin_failed Device old new a b t guid ask session bare is = record { test = tt; left = is.left; long = is.long; frozen = tt; opened = tt; head = tt; gave = tt; times = is.times; idle = is.idle; running = tt; name = is.name }
+begin_failed Memory old new a b t guid ask session bare is = record { test = tt; left = is.left; long = is.long; frozen = tt; opened = tt; head = tt; gave = tt; times = is.times; idle = is.idle; running = tt; name = is.name }

@@ -1,7 +1,16 @@
--- The turns of a backup: the file alone is touched, and then the two files of the database.
+-- The turns of a backup: the file alone is touched, and then the difference file of the database.
 use Rattle.std.proofs.Common.{◌≡◌, ◌≢◌, ◌<◌, ◌⊎◌, inl, inr, ⊎_elim, ℕ, List, [], ◌∷◌, ◌++◌, length, drop, refl, sym, ap, subst, ◌∙◌, arith, length-append, drop_at, None, Some, Result, Ok, Err, OnOk, Option}
-use Rattle.nb_copy.proofs.Common.{stalled_state, File, Files, with_file, World, Leaves, LeavesAll, IsStill, IsTimely, Passes, Fault, Device, Changes, Only, Reached, Remade, GaveNothing, left_before, still_alone, with_file-other, left_with, weakened, composed_within, Base, close_backup, backup_slot, put_slot, drafted, HasItsEntry, Image, file_of, count_in, Backing, Seen, next_time, delta_name, Stroke, Trail, StandsIn, StandsOn, after_stroke, OfFiles, Strikes, after_strokes, Held, IsOpen, name_of, open_beside, WhereEnded, unless_by, still_struck, struck_front, unless_none, write_cause, Tries, sure_of, IsKept, IsUnfinishedOr, FileCopy, Pages, file_name, file_count, file_next, file_written, whole_file, whole_count, IsFileCopying, IsSameFile, Backed, IsBackingUp, OfBackup, GaveTimeAtMost, CloseLeft, Closes, BackupTurn, asked_scn, earlier_scn, page_reads, on_ok}
+use Rattle.nb_copy.proofs.Common.{stalled_state, File, Files, with_file, World, Leaves, LeavesAll, IsStill, IsTimely, Passes, Fault, Device, Changes, Only, Reached, Remade, GaveNothing, left_before, still_alone, with_file-other, left_with, weakened, composed_within, Base, close_backup, backup_slot, put_slot, drafted, HasItsEntry, Image, file_of, count_in, Backing, Seen, next_time, delta_name, Stroke, Trail, StandsIn, StandsOn, after_stroke, OfFiles, Strikes, after_strokes, Held, IsOpen, name_of, open_beside, WhereEnded, unless_by, still_struck, unless_none, write_cause, Tries, sure_of, IsKept, IsUnfinishedOr, FileCopy, Pages, file_name, file_count, file_next, file_written, whole_file, whole_count, IsFileCopying, IsSameFile, Backed, IsBackingUp, OfBackup, GaveTimeAtMost, CloseLeft, Closes, BackupTurn, asked_scn, earlier_scn, page_reads, on_ok}
 use Rattle.nb_change.proofs.SettledLaws.{durable_is, durable_other}
+use Rattle.nb_change.proofs.ChangesLaws.{weaker_has}
+use Rattle.nb_change.proofs.ReachedLaws.{reached_front, strokes_composed}
+use Rattle.nb_base.proofs.TouchLaws.{narrowed, touched as touches_only}
+use Rattle.nb_base.specs.Takes.{StrikesIn, StrikesOn}
+use Rattle.nb_base.specs.Touches.{WrittenIn}
+use Rattle.nb_alloc.proofs.WantLaws.{wanted_as, wanted_so}
+use Rattle.nb_alloc.specs.Tries.{StopsShort, WhereMemory}
+use Rattle.nb_copy.specs.Closing.{ClosesShort}
+use Rattle.nb_state.specs.declared.turns.Progress.{Progress}
 use Rattle.nb_state.specs.declared.turns.Progress.TheVariants.{More, Finished}
 use Rattle.nb_engine.proofs.LinkLaws.{write_low}
 use Rattle.nb_model.specs.Making.{kept_of}
@@ -34,25 +43,31 @@ ended_ok (Err fault) P is = tt
 
 -- The close: the clock, and then the row.
 module _ (old mid : World) (a : Held) (t : Trail) (is : IsOpen old a t) (timely : IsTimely old) (still : IsStill old mid) (silent : mid.said ≡ old.said) (passes : Passes old mid) (guids : mid.guids ≡ old.guids) where
+  -- the clock touches no file
+  waited : StrikesIn old mid a.files.state (name_of a) t []
+  waited = still_alone old mid (WrittenIn a.files.state (name_of a)) (StandsIn (name_of a) t) timely still silent passes is.files.left
+
   -- the clock failed
   pub close_waits : (time : ℕ) (xs : List Stroke) → Closes (Err Device) old mid a a t time xs
   close_waits time xs = record {
-    left = struck_front old mid (name_of a) t [] xs (still_alone old mid (OfFiles (name_of a)) (StandsIn (name_of a) t) timely still silent passes is.files.left);
+    left = weaker_has old mid (WrittenIn a.files.state (name_of a)) _ _ waited (reached_front after_stroke (StandsIn (name_of a)) t [] xs);
     opened = tt;
     times = tt;
     guids = guids;
     sure = tt;
+    stops = tt;
   }
 
   -- the row is written
   pub close_row : (result : Result (Unit {0}) Fault) (new : World) (b : Held) (time p : ℕ) (xs : List Stroke) → mid.times ≡ old.times ++ time ∷ [] → HasItsEntry t.base.image p → p < length t.base.image
       → Tries result mid new a b t (write_cause t.base.image p) xs → Closes result old new a b t time xs
   close_row result new b time p xs gave entry low tries = record {
-    left = still_struck old mid new a t xs is timely still silent passes (subst (λ (ss : List Stroke). Strikes mid new (name_of a) t ss) made tries.makes.left);
+    left = strokes_composed after_stroke (StandsIn (name_of a)) (WrittenIn a.files.state (name_of a)) old mid new t [] xs waited (subst (λ (ss : List Stroke). StrikesIn mid new a.files.state (name_of a) t ss) made tries.makes.left);
     opened = ended_ok result _ (subst (λ (ss : List Stroke). WhereEnded result (IsOpen new b (after_strokes t ss))) made tries.makes.opened);
     times = on_ok result (tries.makes.gave.times ∙ gave);
     guids = tries.makes.gave.guids ∙ guids;
     sure = sure_of result (write_cause t.base.image p) none tries.test;
+    stops = wanted_so result (StopsShort mid new a b t (unless_by (write_cause t.base.image p) xs)) (StopsShort old new a b t xs) short tries.stops;
   }
     where
       none : write_cause t.base.image p ≡ None
@@ -60,6 +75,16 @@ module _ (old mid : World) (a : Held) (t : Trail) (is : IsOpen old a t) (timely 
 
       made : unless_by (write_cause t.base.image p) xs ≡ xs
       made = unless_none (write_cause t.base.image p) xs none
+
+      short : StopsShort mid new a b t (unless_by (write_cause t.base.image p) xs) → StopsShort old new a b t xs
+      short stops = record {
+        made = stops.made;
+        next = stops.next;
+        rest = stops.rest;
+        whole = stops.whole ∙ made;
+        left = still_struck old mid new a t stops.made is timely still silent passes stops.left;
+        opened = stops.opened;
+      }
 
 -- The file of a backup of a database that is open.
 module _ (old : World) (a : Held) (t : Trail) (is : IsOpen old a t) (name whole : List ℕ) (apart : OfFiles (name_of a) name → ⊥) (reads : Leaves old name (old.files name)) where
@@ -88,16 +113,16 @@ module _ (old : World) (a : Held) (t : Trail) (is : IsOpen old a t) (name whole 
         (λ files others has. inl (has, stands files others))
 
     -- and one that made strokes then
-    pub close_left : (new : World) (xs : List Stroke) → IsKept mid name whole → Strikes mid new (name_of a) t xs → Changes old new (OfBackup name (name_of a)) (CloseLeft old name whole (name_of a) t xs)
+    pub close_left : (new : World) (xs : List Stroke) → IsKept mid name whole → StrikesOn mid new (Only (delta_name (name_of a))) (name_of a) t xs → Changes old new (OfBackup name (name_of a)) (CloseLeft old name whole (name_of a) t xs)
     close_left new xs kept struck =
-        composed_within old mid new (Only name) (OfFiles (name_of a)) (OfBackup name (name_of a)) (Remade old name (IsUnfinishedOr whole)) (Reached after_stroke (StandsIn (name_of a)) t xs) (CloseLeft old name whole (name_of a) t xs) file struck
-        (λ m one. inl one) (λ m one. inr one) (λ files others has. inl (has, stands files others)) (λ files others has. inr (durable_is mid name (Some whole) kept.durable (files name) (others name apart), has))
+        composed_within old mid new (Only name) (Only (delta_name (name_of a))) (OfBackup name (name_of a)) (Remade old name (IsUnfinishedOr whole)) (Reached after_stroke (StandsIn (name_of a)) t xs) (CloseLeft old name whole (name_of a) t xs) file struck
+        (λ m one. inl one) (λ m one. inr one) (λ files others has. inl (has, stands files others)) (λ files others has. inr (durable_is mid name (Some whole) kept.durable (files name) (others name (λ e. apart (inr e))), has))
 
     -- the file stays
-    pub kept_still : (new : World) (xs : List Stroke) → IsKept mid name whole → Strikes mid new (name_of a) t xs → IsKept new name whole
+    pub kept_still : (new : World) (xs : List Stroke) → IsKept mid name whole → StrikesOn mid new (Only (delta_name (name_of a))) (name_of a) t xs → IsKept new name whole
     kept_still new xs kept struck = record {
-      durable = durable_other mid new (OfFiles (name_of a)) _ name (Some whole) struck apart kept.durable;
-      reads = struck.others_read name apart ∙ kept.reads;
+      durable = durable_other mid new (Only (delta_name (name_of a))) _ name (Some whole) struck (λ e. apart (inr e)) kept.durable;
+      reads = struck.others_read name (λ e. apart (inr e)) ∙ kept.reads;
     }
 
 -- the file of a copier, by its name
@@ -148,6 +173,10 @@ its_reads copier f frozen filed asked =
 pub its_end : (copier : Backed) (f : FileCopy) → f ≡ copier.file → file_next f ≡ file_count f → file_next copier.file ≡ file_count copier.file
 its_end copier f filed all = subst (λ (x : FileCopy). file_next x ≡ file_count x) filed all
 
+-- what a close leaves where memory ran out is what its turn leaves
+closed_short : {P Q : Type 0} (fault : Fault) → WhereMemory {T = Unit {0}} (Err fault) P → (P → Q) → WhereMemory {T = Progress} (Err fault) Q
+closed_short {P} {Q} fault is so = wanted_as (Unit {0}) Progress fault Q (wanted_so {T = Unit {0}} (Err fault) P Q so is)
+
 -- A turn, after that of its file.
 module _ (old mid : World) (a b : Held) (copier : Backed) (t : Trail) (is : IsOpen old a t) (stalled : a.files.state ≡ stalled_state) (apart : OfFiles (name_of a) copier.backing.name → ⊥) (reads : Leaves old copier.backing.name (old.files copier.backing.name)) (same : b ≡ a)
     (backing : IsBackingUp old copier t.base.frozen) (f : FileCopy) (filed : f ≡ copier.file)
@@ -165,7 +194,7 @@ module _ (old mid : World) (a b : Held) (copier : Backed) (t : Trail) (is : IsOp
   mid_open = subst (λ (h : Held). IsOpen mid h t) (sym same) (open_other old a t is copier.backing.name whole apart reads mid file stalled)
 
   pub turn_failed : (later : Backed) (time : ℕ) (xs : List Stroke) → BackupTurn (Err Device) old mid a b copier later t time xs
-  turn_failed later time xs = record { left = file_left old a t is copier.backing.name whole apart reads mid file xs; alone = λ some. file; answer = tt; guids = gave.guids; sure = tt }
+  turn_failed later time xs = record { left = file_left old a t is copier.backing.name whole apart reads mid file xs; alone = λ some. file; answer = tt; guids = gave.guids; sure = tt; stops = tt }
 
   pub turn_more : (later : Backed) (time : ℕ) (xs : List Stroke) → later.backing ≡ copier.backing → IsSameFile f later.file t.base.frozen → (IsFileCopying old f t.base.frozen → IsFileCopying mid later.file t.base.frozen)
       → BackupTurn (Ok More) old mid a b copier later t time xs
@@ -181,6 +210,7 @@ module _ (old mid : World) (a b : Held) (copier : Backed) (t : Trail) (is : IsOp
     };
     guids = gave.guids;
     sure = tt;
+    stops = tt;
   }
 
   -- The file is whole, and the backup is closed.
@@ -204,8 +234,25 @@ module _ (old mid : World) (a b : Held) (copier : Backed) (t : Trail) (is : IsOp
         subst (λ (x : Backing). Closes result mid new b d t time (close_backup s x).strokes) backed
         (does mid_open (subst (λ (x : Backing). HasItsEntry t.base.image x.page) (sym backed) entry) (subst (λ (x : Backing). x.page < length t.base.image) (sym backed) below) (asked_behind old mid new time gave given))
 
-    struck : (result : Result (Unit {0}) Fault) → DoesClose result → Strikes mid new (name_of a) t xs
-    struck result does = subst (λ (h : Held). Strikes mid new (name_of h) t xs) same (closes result does).left
+    -- in the stalled state strokes touch the difference file alone
+    frozen_struck : (ys : List Stroke) → StrikesIn mid new b.files.state (name_of b) t ys → StrikesOn mid new (Only (delta_name (name_of a))) (name_of a) t ys
+    frozen_struck ys struck = subst (λ (n : ℕ). StrikesIn mid new n (name_of a) t ys) stalled (subst (λ (h : Held). StrikesIn mid new h.files.state (name_of h) t ys) same struck)
+
+    struck : (result : Result (Unit {0}) Fault) → DoesClose result → StrikesOn mid new (Only (delta_name (name_of a))) (name_of a) t xs
+    struck result does = frozen_struck xs (closes result does).left
+
+    -- and where memory runs out, a prefix of them does
+    short : (result : Result (Unit {0}) Fault) → DoesClose result → StopsShort mid new b d t xs → ClosesShort old new a d copier t xs
+    short result does stops =
+        let narrow = narrowed mid new (OfFiles (name_of a)) (Only (delta_name (name_of a))) _ (subst (λ (h : Held). Strikes mid new (name_of h) t stops.made) same stops.left) (touches_only mid new (Only (delta_name (name_of a))) _ (struck result does)) in
+        record {
+          made = stops.made;
+          next = stops.next;
+          rest = stops.rest;
+          whole = stops.whole;
+          left = close_left old a t is copier.backing.name whole apart reads mid file new stops.made kept narrow;
+          opened = stops.opened;
+        }
 
     pub close_failed : (fault : Fault) → DoesClose (Err fault) → BackupTurn (Err fault) old new a d copier later t time xs
     close_failed fault does = record {
@@ -214,6 +261,7 @@ module _ (old mid : World) (a b : Held) (copier : Backed) (t : Trail) (is : IsOp
       answer = tt;
       guids = (closes (Err fault) does).guids ∙ gave.guids;
       sure = (closes (Err fault) does).sure;
+      stops = closed_short fault (closes (Err fault) does).stops (short (Err fault) does);
     }
 
     pub close_finished : DoesClose (Ok tt) → file_written later.file ≡ file_written f → BackupTurn (Ok Finished) old new a d copier later t time xs
@@ -228,4 +276,5 @@ module _ (old mid : World) (a b : Held) (copier : Backed) (t : Trail) (is : IsOp
       };
       guids = (closes (Ok tt) does).guids ∙ gave.guids;
       sure = tt;
+      stops = tt;
     }

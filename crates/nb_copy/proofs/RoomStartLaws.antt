@@ -5,13 +5,21 @@ use Rattle.nb_host.specs.declared.faults.Fault.TheVariants.{Refused as RefusedFa
 use Rattle.nb_model.proofs.PagesOnly.{WritesPages, drafts_write_pages, pages_stay}
 use Rattle.nb_model.proofs.RoomThere.{room_keeps}
 use Rattle.nb_engine.specs.declared.walk.Room.{Room as Kept}
+use Rattle.nb_base.specs.Stays.{FileIs, GrowsWithin}
+use Rattle.nb_base.proofs.StaysLaws.{grows_front, grows_joined, other_keeps}
+use Rattle.nb_base.proofs.TouchLaws.{strikes_in}
+use Rattle.nb_state.specs.Does.{Makes}
+use Rattle.nb_host.specs.Files.{File}
+use Rattle.nb_alloc.specs.Tries.{StopsEarly}
+use Rattle.nb_alloc.proofs.WantLaws.{early_short}
+use Rattle.std.proofs.lemmas.List.{append-nil}
 use Rattle.nb_copy.proofs.AsideLaws.{open_aside}
 use Rattle.nb_copy.proofs.BegunLaws.{begun_frozen, begun_long, begun_size, begun_state}
 use Rattle.nb_copy.proofs.FileCopyLaws.{IsFrozenOf, frozen_parts}
 use Rattle.nb_copy.proofs.FileStartLaws.{file_first, file_starts}
 use Rattle.nb_copy.proofs.RoomedLaws.{roomed_is, roomed_first}
 use Rattle.nb_copy.proofs.BesideLaws.{starts_struck, starts_made, starts_then, starts_more, made_kept}
-use Rattle.nb_copy.proofs.StartLaws.{early, strokes, started, struck_some, struck_most, turn_late, turn_told, turn_strokes, turn_started}
+use Rattle.nb_copy.proofs.StartLaws.{early, strokes, started, grown_some, short_some, struck_some, struck_most, turn_late, turn_told, turn_strokes, turn_started}
 
 -- what a page 0 says of why no backup begins
 abbrev starting_of : Page → Cause
@@ -36,19 +44,33 @@ module _ (old mid : World) (a b : Held) (t : Trail) (s : Seen) (session : ℕ) (
   abbrev outcome : Outcome
   outcome = turn_since s session since name
 
+  -- the two files of the database are touched at most
+  struck_by : {T : Type 0} {result : Result T Fault} {w : World} {d : Held} {ss : List Stroke} → Makes result old w a d t ss → Strikes old w (name_of a) t ss
+  struck_by {w = w} {ss = ss} makes = strikes_in old w a.files.state (name_of a) t ss makes.left
+
   not_begun : (w : World) (o : Outcome) → w.guids ≡ old.guids → StartMakes old w name (name_of a) t o xs → HasNotBegun old w name (name_of a) t o
   not_begun w o guids makes = record { guids = guids; room = subst (λ (x : Base). StartMakes old w name (name_of a) t o (room_in x.image).draft.strokes) (sym at) makes }
 
   -- no room was made
   module _ (T : Type 0) where
     roomless : (fault : Fault) (o : Outcome) → Tries {T = T} (Err fault) old mid a b t (room_cause image) xs → HasNotBegun old mid name (name_of a) t o
-    roomless fault o tries = not_begun mid o tries.makes.gave.guids (starts_struck name (name_of a) apart t o old mid xs (struck_most old mid (name_of a) t (room_cause image) xs tries.makes.left))
+    roomless fault o tries = not_begun mid o tries.makes.gave.guids (starts_struck name (name_of a) apart t o old mid xs (struck_most old mid (name_of a) t (room_cause image) xs (struck_by tries.makes)))
 
     -- strokes that more would have followed
     roomless_left : (fault : Fault) → Tries {T = T} (Err fault) old mid a b t (room_cause image) xs → StartMakes old mid name (name_of a) t outcome outcome.strokes
     roomless_left fault tries =
         starts_struck name (name_of a) apart t outcome old mid outcome.strokes
-        (subst (λ (ss : List Stroke). Strikes old mid (name_of a) t ss) (sym (turn_strokes s session since name none)) (struck_some old mid (name_of a) t (room_cause image) xs (begin guid (Some ask) ∷ []) tries.makes.left))
+        (subst (λ (ss : List Stroke). Strikes old mid (name_of a) t ss) (sym (turn_strokes s session since name none)) (struck_some old mid (name_of a) t (room_cause image) xs (begin guid (Some ask) ∷ []) (struck_by tries.makes)))
+
+    roomless_long : (fault : Fault) → Tries {T = T} (Err fault) old mid a b t (room_cause image) xs → GrowsWithin old mid (name_of a) a.files.page_size t outcome.strokes
+    roomless_long fault tries =
+        subst (λ (ss : List Stroke). GrowsWithin old mid (name_of a) a.files.page_size t ss) (sym (turn_strokes s session since name none))
+        (grown_some old mid (name_of a) a.files.page_size t (room_cause image) xs (begin guid (Some ask) ∷ []) tries.makes.long)
+
+    roomless_early : Tries {T = T} (Err Memory) old mid a b t (room_cause image) xs → StopsEarly old mid a b t outcome.strokes
+    roomless_early tries =
+        subst (λ (ss : List Stroke). StopsEarly old mid a b t ss) (sym (turn_strokes s session since name none))
+        (early_short old mid a b t _ (short_some old mid a b t (room_cause image) xs (begin guid (Some ask) ∷ []) tries.stops))
 
     pub start_roomless : (fault : Fault) → Tries {T = T} (Err fault) old mid a b t (room_cause image) xs → StartsBackup (Err fault) old mid a b t name guid outcome
     start_roomless (RefusedFault r) tries =
@@ -56,7 +78,10 @@ module _ (old mid : World) (a b : Held) (t : Trail) (s : Seen) (session : ℕ) (
         let o : Outcome = says s (Refused r) [] in
         subst (λ (x : Outcome). StartsBackup (Err (RefusedFault r)) old mid a b t name guid x) (sym (turn_late s session since name none r tries.test)) (record {
           says = refl;
-          left = starts_struck name (name_of a) apart t o old mid [] (subst (λ (ss : List Stroke). Strikes old mid (name_of a) t ss) nothing tries.makes.left);
+          left = starts_struck name (name_of a) apart t o old mid [] (subst (λ (ss : List Stroke). Strikes old mid (name_of a) t ss) nothing (struck_by tries.makes));
+          long = subst (λ (ss : List Stroke). GrowsWithin old mid (name_of a) a.files.page_size t ss) nothing tries.makes.long;
+          frozen = tt;
+          stops = tt;
           begun = inl (roomless (RefusedFault r) o tries);
           opened = subst (λ (ss : List Stroke). IsOpen mid b (after_strokes t ss)) nothing tries.makes.opened;
           running = tries.makes.goes.running ∙ runs;
@@ -69,6 +94,9 @@ module _ (old mid : World) (a b : Held) (t : Trail) (s : Seen) (session : ℕ) (
     start_roomless Device tries = record {
       says = tt;
       left = roomless_left Device tries;
+      long = roomless_long Device tries;
+      frozen = tt;
+      stops = tt;
       begun = inl (roomless Device outcome tries);
       opened = tt;
       running = tt;
@@ -81,6 +109,9 @@ module _ (old mid : World) (a b : Held) (t : Trail) (s : Seen) (session : ℕ) (
     start_roomless Memory tries = record {
       says = tt;
       left = roomless_left Memory tries;
+      long = roomless_long Memory tries;
+      frozen = tt;
+      stops = roomless_early tries;
       begun = inl (roomless Memory outcome tries);
       opened = tt;
       running = tt;
@@ -142,12 +173,21 @@ module _ (old mid : World) (a b : Held) (t : Trail) (s : Seen) (session : ℕ) (
     room_open = tries_opened value old mid a b t (room_cause image) xs tries
 
     room_left : Strikes old mid (name_of a) t xs
-    room_left = subst (λ (ss : List Stroke). Strikes old mid (name_of a) t ss) (unless_none (room_cause image) xs tries.test) tries.makes.left
+    room_left = subst (λ (ss : List Stroke). Strikes old mid (name_of a) t ss) (unless_none (room_cause image) xs tries.test) (struck_by tries.makes)
+
+    room_long : GrowsWithin old mid (name_of a) a.files.page_size t xs
+    room_long = subst (λ (ss : List Stroke). GrowsWithin old mid (name_of a) a.files.page_size t ss) (unless_none (room_cause image) xs tries.test) tries.makes.long
 
     -- a call on the file of the backup
     module _ (there : World) (reads : (m : List ℕ) → Leaves mid m (mid.files m)) (makes : Changes mid there (Only name) (Remade mid name IsEmpty)) (gave : GaveNothing mid there) where
       room_made : (o : Outcome) → o.reply ≡ None → StartMakes old there name (name_of a) t o xs
       room_made o silent = starts_made name (name_of a) apart t o old mid there xs silent room_left (reads name) makes
+
+      -- no file of the database is that one
+      made_long : GrowsWithin old there (name_of a) a.files.page_size t xs
+      made_long =
+          subst (λ (ss : List Stroke). GrowsWithin old there (name_of a) a.files.page_size t ss) (append-nil xs)
+          (grows_joined old mid there (name_of a) a.files.page_size t xs [] room_long (λ most within. other_keeps mid there (Only name) _ (name_of a) _ makes (λ same. apart (inl (sym same)))))
 
       pub made_gave : GaveNothing old there
       made_gave = record { guids = gave.guids ∙ tries.makes.gave.guids; times = gave.times ∙ tries.makes.gave.times }
@@ -158,6 +198,9 @@ module _ (old mid : World) (a b : Held) (t : Trail) (s : Seen) (session : ℕ) (
           subst (λ (x : Outcome). StartsBackup (Err Device) old there a b t name guid x) (sym (turn_started s session since name none tries.test)) (record {
             says = tt;
             left = starts_more name (name_of a) apart t (started s session since name) old there xs (begin guid (Some ask) ∷ []) (room_made (started s session since name) refl);
+            long = grows_front old there (name_of a) a.files.page_size t xs (begin guid (Some ask) ∷ []) made_long;
+            frozen = tt;
+            stops = tt;
             begun = inl (not_begun there (started s session since name) made_gave.guids (room_made (started s session since name) refl));
             opened = tt;
             running = tt;
@@ -181,6 +224,13 @@ module _ (old mid : World) (a b : Held) (t : Trail) (s : Seen) (session : ℕ) (
         begun_left : (result : Result LevelHead Fault) → BeginsFor result there new b d u guid (Some ask) session bare → StartMakes old new name (name_of a) t (started s session since name) (xs ++ begin guid (Some ask) ∷ [])
         begun_left result begins = starts_then name (name_of a) apart t (started s session since name) old there new xs (begin guid (Some ask) ∷ []) (room_made (started s session since name) refl) left (begin_struck result begins)
 
+        begun_grown : (result : Result LevelHead Fault) → BeginsFor result there new b d u guid (Some ask) session bare → GrowsWithin old new (name_of a) a.files.page_size t (xs ++ begin guid (Some ask) ∷ [])
+        begun_grown result begins =
+            grows_joined old there new (name_of a) a.files.page_size t xs (begin guid (Some ask) ∷ []) made_long
+            (subst (λ (n : ℕ). GrowsWithin there new (name_of a) n u (begin guid (Some ask) ∷ [])) tries.makes.goes.page_size
+            (subst (λ (n : List ℕ). GrowsWithin there new n b.files.page_size u (begin guid (Some ask) ∷ [])) tries.makes.goes.name
+            (subst (λ (ss : List Stroke). GrowsWithin there new (name_of b) b.files.page_size u ss) (unless_none (starting_cause u.base.image) (begin guid (Some ask) ∷ []) starts_there) begins.long)))
+
         pub still_made : (result : Result LevelHead Fault) → BeginsFor result there new b d u guid (Some ask) session bare → IsMade new name
         still_made result begins = made_kept there new (OfFiles (name_of a)) _ name (begin_struck result begins) apart made
 
@@ -190,6 +240,9 @@ module _ (old mid : World) (a b : Held) (t : Trail) (s : Seen) (session : ℕ) (
             subst (λ (x : Outcome). StartsBackup (Err Device) old new a d t name guid x) (sym (turn_started s session since name none tries.test)) (record {
               says = tt;
               left = begun_left (Err Device) begins;
+              long = begun_grown (Err Device) begins;
+              frozen = tt;
+              stops = tt;
               begun = inr (still_made (Err Device) begins, sure);
               opened = tt;
               running = tt;
@@ -214,6 +267,9 @@ module _ (old mid : World) (a b : Held) (t : Trail) (s : Seen) (session : ℕ) (
               subst (λ (x : Outcome). StartsBackup (Ok copier) old new a d t name guid x) (sym (turn_started s session since name none tries.test)) (record {
                 says = refl;
                 left = begun_left (Ok begun) begins;
+                long = begun_grown (Ok begun) begins;
+                frozen = subst (λ (n : List ℕ). FileIs new n (λ (file : File). file ≡ new.files n)) tries.makes.goes.name begins.frozen;
+                stops = tt;
                 begun = inr (still_made (Ok begun) begins, tt);
                 opened = subst (λ (w : Trail). IsOpen new d w) (sym all_strokes) begins.opened;
                 running = begins.running;

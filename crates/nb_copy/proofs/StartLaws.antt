@@ -4,6 +4,10 @@ use Rattle.nb_copy.proofs.Common.{normal_state, GaveAtMost, World, Fault, Device
 use Rattle.nb_host.specs.declared.faults.Fault.TheVariants.{Refused as RefusedFault}
 use Rattle.nb_copy.proofs.BesideLaws.{starts_quiet}
 use Rattle.nb_copy.proofs.StartCauses.{after_none}
+use Rattle.nb_base.specs.Stays.{GrowsWithin}
+use Rattle.nb_base.proofs.StaysLaws.{grows_front, grows_not}
+use Rattle.nb_alloc.specs.Tries.{StopsShort}
+use Rattle.nb_alloc.proofs.WantLaws.{early_quiet, short_front}
 use Rattle.nb_engine.proofs.BackupLaws.{strokes_by}
 
 -- the tests in the order of the calls are those of the turn
@@ -86,6 +90,15 @@ pub struck_most : (old new : World) (n : List ℕ) (t : Trail) (cause : Cause) (
 struck_most old new n t None xs struck = struck
 struck_most old new n t (Some r) xs struck = struck_front old new n t [] xs struck
 
+-- the same of how long the main file grows, and where memory ran out
+pub grown_some : (old new : World) (n : List ℕ) (size : ℕ) (t : Trail) (cause : Cause) (xs ys : List Stroke) → GrowsWithin old new n size t (unless_by cause xs) → GrowsWithin old new n size t (unless_by cause (xs ++ ys))
+grown_some old new n size t None xs ys grows = grows_front old new n size t xs ys grows
+grown_some old new n size t (Some r) xs ys grows = grows
+
+pub short_some : (old new : World) (a b : Held) (t : Trail) (cause : Cause) (xs ys : List Stroke) → StopsShort old new a b t (unless_by cause xs) → StopsShort old new a b t (unless_by cause (xs ++ ys))
+short_some old new a b t None xs ys stops = short_front old new a b t xs ys stops
+short_some old new a b t (Some r) xs ys stops = stops
+
 -- The turn, by what the calls found.
 module _ (s : Seen) (session : ℕ) (since : Since) (name : List ℕ) where
   abbrev turn : Outcome
@@ -133,6 +146,9 @@ module _ (old mid : World) (a b : Held) (t : Trail) (s : Seen) (session : ℕ) (
       subst (λ (x : Outcome). StartsBackup (Err (RefusedFault r)) old mid a b t name (next_guid s.given) x) (sym o) (record {
         says = refl;
         left = starts_quiet old mid a t name (says s (Refused r) []) [] quiet is;
+        long = grows_not old mid (name_of a) a.files.page_size t [] quiet;
+        frozen = tt;
+        stops = tt;
         begun = inl (none_begun (says s (Refused r) []));
         opened = still;
         running = ap (λ (h : Held). h.running) same ∙ runs;
@@ -148,6 +164,9 @@ module _ (old mid : World) (a b : Held) (t : Trail) (s : Seen) (session : ℕ) (
   start_failed Device e = record {
     says = tt;
     left = starts_quiet old mid a t name outcome outcome.strokes quiet is;
+    long = grows_not old mid (name_of a) a.files.page_size t outcome.strokes quiet;
+    frozen = tt;
+    stops = tt;
     begun = inl (none_begun outcome);
     opened = tt;
     running = tt;
@@ -160,6 +179,9 @@ module _ (old mid : World) (a b : Held) (t : Trail) (s : Seen) (session : ℕ) (
   start_failed Memory e = record {
     says = tt;
     left = starts_quiet old mid a t name outcome outcome.strokes quiet is;
+    long = grows_not old mid (name_of a) a.files.page_size t outcome.strokes quiet;
+    frozen = tt;
+    stops = early_quiet old mid a b t outcome.strokes quiet is still;
     begun = inl (none_begun outcome);
     opened = tt;
     running = tt;

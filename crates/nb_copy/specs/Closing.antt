@@ -8,9 +8,10 @@ use Rattle.nb_change.specs.Gave.{GaveNothing}
 use Rattle.nb_model.specs.Levels.{count_in}
 use Rattle.nb_model.specs.Strokes.{Stroke}
 use Rattle.nb_model.specs.Trail.{Trail, StandsIn, after_stroke}
-use Rattle.nb_base.specs.Open.{OfFiles}
-use Rattle.nb_base.specs.Takes.{Strikes, after_strokes, IsNoRefusal}
+use Rattle.nb_model.specs.Owner.{delta_name}
+use Rattle.nb_base.specs.Takes.{StrikesIn, after_strokes, IsNoRefusal}
 use Rattle.nb_state.specs.Open.{Held, IsOpen, name_of}
+use Rattle.nb_alloc.specs.Tries.{StopsShort, WhereMemory}
 use Rattle.nb_state.specs.declared.turns.Progress.{Progress}
 use Rattle.nb_state.specs.declared.turns.Progress.TheVariants.{More, Finished}
 use Rattle.nb_model.specs.Making.{kept_of}
@@ -18,9 +19,9 @@ use Rattle.nb_gather.specs.Making.{IsKept, IsUnfinishedOr}
 use Rattle.nb_copy.specs.FileCopying.{file_count, file_next, file_written, whole_file}
 use Rattle.nb_copy.specs.Starting.{Backed, IsBackingUp}
 
--- the file of a backup, and the two files of its database
+-- the file of a backup, and the difference file of its database: the main file is frozen, and isn't touched
 abbrev pub OfBackup : (name db : List ℕ) → Names
-OfBackup name db m = (m ≡ name) ⊎ OfFiles db m
+OfBackup name db m = (m ≡ name) ⊎ (m ≡ delta_name db)
 
 -- this time was given, or none
 abbrev pub GaveTimeAtMost : (old new : World) (time : ℕ) → Type 0
@@ -54,6 +55,15 @@ BackupAnswers (Ok More) old new before after copier later t time strokes = Copie
 BackupAnswers (Ok Finished) old new before after copier later t time strokes = CloseDone old new before after copier later t time strokes
 BackupAnswers (Err fault) old new before after copier later t time strokes = Unit {0}
 
+-- Memory ran out in the close: a prefix of its strokes that lacks the last was made, and the database is open after it.
+pub record ClosesShort (old new : World) (before after : Held) (copier : Backed) (t : Trail) (strokes : List Stroke) : Type 0 where
+  pub made : List Stroke
+  pub next : Stroke
+  pub rest : List Stroke
+  pub whole : made ++ next ∷ rest ≡ strokes
+  pub left : Changes old new (OfBackup copier.backing.name before.files.name) (CloseLeft old copier.backing.name (whole_file copier.file t.base.frozen) before.files.name t made)
+  pub opened : IsOpen new after (after_strokes t made)
+
 -- A turn of a backup: a page more, or the close with these strokes at that time.
 pub record BackupTurn (result : Result Progress Fault) (old new : World) (before after : Held) (copier later : Backed) (t : Trail) (time : ℕ) (strokes : List Stroke) : Type 0 where
   pub left : Changes old new (OfBackup copier.backing.name before.files.name) (CloseLeft old copier.backing.name (whole_file copier.file t.base.frozen) before.files.name t strokes)
@@ -62,6 +72,8 @@ pub record BackupTurn (result : Result Progress Fault) (old new : World) (before
   pub answer : BackupAnswers result old new before after copier later t time strokes
   pub guids : new.guids ≡ old.guids
   pub sure : IfErr result IsNoRefusal
+  -- memory runs out in the close alone, and before its last stroke
+  pub stops : WhereMemory result (ClosesShort old new before after copier t strokes)
 
 -- whether a page was left, and that the next one follows
 abbrev pub BackupCounts : Result Progress Fault → (copier later : Backed) → Type 0
@@ -71,11 +83,12 @@ BackupCounts (Err fault) copier later = Unit {0}
 
 -- The close of a backup makes these strokes at that time, and isn't refused.
 pub record Closes (result : Result (Unit {0}) Fault) (old new : World) (before after : Held) (t : Trail) (time : ℕ) (strokes : List Stroke) : Type 0 where
-  pub left : Strikes old new (name_of before) t strokes
+  pub left : StrikesIn old new before.files.state (name_of before) t strokes
   pub opened : OnOk result (IsOpen new after (after_strokes t strokes))
   pub times : OnOk result (new.times ≡ old.times ++ time ∷ [])
   pub guids : new.guids ≡ old.guids
   pub sure : IfErr result IsNoRefusal
+  pub stops : WhereMemory result (StopsShort old new before after t strokes)
 
 -- a turn that deals with a page reads two pages at most
 abbrev pub ReadsTwo : Result Progress Fault → (old new : World) → Type 0

@@ -24,8 +24,10 @@ use Rattle.nb_model.specs.Outcomes.{Backing, Copies, ClosesBackup, Seen, Outcome
 use Rattle.nb_model.specs.Trail.{Trail, StandsIn, after_stroke}
 use Rattle.nb_base.specs.Open.{OfFiles}
 use Rattle.nb_base.specs.Takes.{Strikes, after_strokes}
+use Rattle.nb_base.specs.Stays.{FileIs, GrowsWithin}
 use Rattle.nb_state.specs.Open.{Held, IsOpen, name_of}
 use Rattle.nb_state.specs.Does.{WhereEnded, has_only_told, unless_by}
+use Rattle.nb_alloc.specs.Tries.{StopsEarly, WhereMemory}
 use Rattle.nb_engine.specs.Turns.{SaysNone, starting_cause}
 use Rattle.nb_copy.specs.declared.file_copy.FileCopy.{FileCopy}
 use Rattle.nb_copy.specs.declared.since.Since.{Since}
@@ -81,6 +83,11 @@ IsNotMemory result = IfErr result (λ fault. fault ≢ Memory)
 pub record StartsBackup (result : Result Backed Fault) (old new : World) (before after : Held) (t : Trail) (file guid : List ℕ) (turn : Outcome) : Type 0 where
   pub says : SaysNone result turn.reply
   pub left : StartMakes old new file (name_of before) t turn turn.strokes
+  pub long : GrowsWithin old new (name_of before) before.files.page_size t turn.strokes
+  -- the main file is durable once it has begun, byte for byte
+  pub frozen : OnOk result (FileIs new (name_of before) (λ file. file ≡ new.files (name_of before)))
+  -- memory runs out before the last stroke, and before the file is made
+  pub stops : WhereMemory result (StopsEarly old new before after t turn.strokes)
   pub begun : HasNotBegun old new file (name_of before) t turn ⊎ (IsMade new file × IsNotMemory result)
   pub opened : WhereEnded result (IsOpen new after (after_strokes t turn.strokes))
   pub running : WhereEnded result (after.running ≡ turn.running)
@@ -146,6 +153,8 @@ ask_by head = record { level = head.level; previous = head.previous; previous_sc
 pub record BeginsFor (result : Result LevelHead Fault) (old new : World) (before after : Held) (t : Trail) (guid : List ℕ) (ask : Option Ask) (session : ℕ) (bare : LevelHead) : Type 0 where
   pub test : Tested result (starting_cause t.base.image)
   pub left : Strikes old new (name_of before) t (unless_by (starting_cause t.base.image) (begin guid ask ∷ []))
+  pub long : GrowsWithin old new (name_of before) before.files.page_size t (unless_by (starting_cause t.base.image) (begin guid ask ∷ []))
+  pub frozen : OnOk result (FileIs new (name_of before) (λ file. file ≡ new.files (name_of before)))
   pub opened : OnOk result (IsOpen new after (after_strokes t (begin guid ask ∷ [])))
   pub head : IfOk result (λ begun. begun ≡ record bare { guid = guid; scn = image_scn t.base.image })
   pub gave : OnOk result (new.guids ≡ old.guids ++ guid ∷ [])

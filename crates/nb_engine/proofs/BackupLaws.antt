@@ -3,6 +3,8 @@ use Rattle.std.proofs.Common.{◌≡◌, ℕ, ◌+◌, List, [], ◌∷◌, refl
 use Rattle.nb_engine.proofs.Common.{normal_state, World, Fault, Device, Memory, Refusal, Quiet, Refused, Scn, image_scn, Base, Ask, Stroke, begin, Cause, read_only, not_state, no_scn, Seen, Outcome, next_guid, without_guid, says, unless, begin_turn, end_turn, end_strokes, end_scn, ends_by, Trail, Strikes, after_strokes, Held, IsOpen, name_of, Tested, has_only_told, unless_by, open_still, none_yet, DoesBegin, DoesEnd, Starts, starting_cause, told_some, unless_refused, unless_allowed, seeing, first_here, first_next}
 use Rattle.nb_host.specs.declared.faults.Fault.TheVariants.{Refused as RefusedFault}
 use Rattle.nb_state.specs.Turns.{begin_cause, end_cause, Begins, Ends}
+use Rattle.nb_base.specs.Stays.{GrowsWithin}
+use Rattle.nb_base.proofs.StaysLaws.{grows_not}
 
 -- what a turn does that isn't refused, its strokes by the cause
 pub strokes_by : (s : Seen) (cause : Cause) (o : Outcome) → (unless s cause o).strokes ≡ unless_by cause o.strokes
@@ -36,6 +38,8 @@ refused_begin r old new a t s same quiet is closed =
     (subst (λ (o : Outcome). DoesBegin (Err (RefusedFault r)) old new a a t (next_guid s.given) o) (sym (begin_closed (seeing s t.base) r closed)) (record {
       answer = refl;
       left = none_yet old new a t [] quiet is;
+      long = grows_not old new (name_of a) a.files.page_size t [] quiet;
+      frozen = tt;
       opened = open_still old new a a t refl quiet is;
       gave = tt;
       times = quiet.times;
@@ -66,12 +70,17 @@ module _ (old new : World) (a b : Held) (t : Trail) (s : Seen) (is : IsOpen old 
       left strokes struck e =
           subst (λ (ss : List Stroke). Strikes old new (name_of a) t ss) (ap (λ (ss : List Stroke). unless_by (begin_cause t.base.image) ss) e ∙ sym (strokes_by here (begin_cause t.base.image) (begun here))) struck
 
+      long : GrowsWithin old new (name_of a) a.files.page_size t (unless_by (begin_cause t.base.image) (begin (next_guid s.given) None ∷ [])) → GrowsWithin old new (name_of a) a.files.page_size t turn.strokes
+      long grows = subst (λ (ss : List Stroke). GrowsWithin old new (name_of a) a.files.page_size t ss) (sym (strokes_by here (begin_cause t.base.image) (begun here))) grows
+
       by : (r : Result ℕ Fault) → Begins r old new a b t (next_guid s.given) None → DoesBegin r old new a b t (next_guid s.given) turn
       by (Ok scn) is_begun =
           let o = unless_allowed here (begin_cause t.base.image) (begun here) is_begun.test in
           record {
             answer = ap (λ (x : Outcome). x.reply) o ∙ ap (λ (n : ℕ). Some (Scn n)) (sym is_begun.answer);
             left = left _ is_begun.left refl;
+            long = long is_begun.long;
+            frozen = is_begun.frozen;
             opened = subst (λ (x : Outcome). IsOpen new b (after_strokes t x.strokes)) (sym o) is_begun.opened;
             gave = is_begun.gave;
             times = is_begun.times;
@@ -85,6 +94,8 @@ module _ (old new : World) (a b : Held) (t : Trail) (s : Seen) (is : IsOpen old 
           record {
             answer = ap (λ (x : Outcome). x.reply) o;
             left = left _ is_begun.left refl;
+            long = long is_begun.long;
+            frozen = tt;
             opened = subst (λ (x : Outcome). IsOpen new b (after_strokes t x.strokes)) (sym o) (open_still old new a b t is_begun.refused.0 is_begun.refused.1 is);
             gave = tt;
             times = is_begun.times;
@@ -93,8 +104,8 @@ module _ (old new : World) (a b : Held) (t : Trail) (s : Seen) (is : IsOpen old 
             running = is_begun.running;
             name = is_begun.name;
           }
-      by (Err Device) is_begun = record { answer = tt; left = left _ is_begun.left refl; opened = tt; gave = tt; times = is_begun.times; refused = tt; idle = λ told. begun_idle told is_begun.idle; running = is_begun.running; name = is_begun.name }
-      by (Err Memory) is_begun = record { answer = tt; left = left _ is_begun.left refl; opened = tt; gave = tt; times = is_begun.times; refused = tt; idle = λ told. begun_idle told is_begun.idle; running = is_begun.running; name = is_begun.name }
+      by (Err Device) is_begun = record { answer = tt; left = left _ is_begun.left refl; long = long is_begun.long; frozen = tt; opened = tt; gave = tt; times = is_begun.times; refused = tt; idle = λ told. begun_idle told is_begun.idle; running = is_begun.running; name = is_begun.name }
+      by (Err Memory) is_begun = record { answer = tt; left = left _ is_begun.left refl; long = long is_begun.long; frozen = tt; opened = tt; gave = tt; times = is_begun.times; refused = tt; idle = λ told. begun_idle told is_begun.idle; running = is_begun.running; name = is_begun.name }
 
   -- and ends as the store does
   pub does_end : (result : Result ℕ Fault) (session : ℕ) → t.base ≡ s.base → a.running ≡ s.running → Ends result old new a b t session → DoesEnd result old new a b t (end_scn t.base.image) (end_turn s session)
@@ -121,12 +132,17 @@ module _ (old new : World) (a b : Held) (t : Trail) (s : Seen) (is : IsOpen old 
       left : Strikes old new (name_of a) t (unless_by cause (end_strokes t.base.image)) → Strikes old new (name_of a) t turn.strokes
       left struck = subst (λ (ss : List Stroke). Strikes old new (name_of a) t ss) (sym (strokes_by here cause ended)) struck
 
+      long : GrowsWithin old new (name_of a) a.files.page_size t (unless_by cause (end_strokes t.base.image)) → GrowsWithin old new (name_of a) a.files.page_size t turn.strokes
+      long grows = subst (λ (ss : List Stroke). GrowsWithin old new (name_of a) a.files.page_size t ss) (sym (strokes_by here cause ended)) grows
+
       by : (r : Result ℕ Fault) → Ends r old new a b t session → DoesEnd r old new a b t (end_scn t.base.image) turn
       by (Ok scn) is_ended =
           let o = unless_allowed here cause ended is_ended.test in
           record {
             says = ap (λ (x : Outcome). x.reply) o;
             left = left is_ended.left;
+            long = long is_ended.long;
+            rest = is_ended.rest;
             opened = subst (λ (x : Outcome). IsOpen new b (after_strokes t x.strokes)) (sym o) is_ended.opened;
             running = is_ended.begins.0 ∙ sym (ap (λ (x : Outcome). x.running) o);
             answer = is_ended.answer;
@@ -141,6 +157,8 @@ module _ (old new : World) (a b : Held) (t : Trail) (s : Seen) (is : IsOpen old 
           record {
             says = ap (λ (x : Outcome). x.reply) o;
             left = left is_ended.left;
+            long = long is_ended.long;
+            rest = is_ended.rest;
             opened = subst (λ (x : Outcome). IsOpen new b (after_strokes t x.strokes)) (sym o) (open_still old new a b t is_ended.refused.0 is_ended.refused.1 is);
             running = ap (λ (h : Held). h.running) is_ended.refused.0 ∙ runs ∙ sym (ap (λ (x : Outcome). x.running) o);
             answer = tt;
@@ -150,8 +168,8 @@ module _ (old new : World) (a b : Held) (t : Trail) (s : Seen) (is : IsOpen old 
             idle = idle is_ended.idle;
             name = is_ended.name;
           }
-      by (Err Device) is_ended = record { says = tt; left = left is_ended.left; opened = tt; running = tt; answer = tt; merged = tt; gave = is_ended.gave; refused = tt; idle = idle is_ended.idle; name = is_ended.name }
-      by (Err Memory) is_ended = record { says = tt; left = left is_ended.left; opened = tt; running = tt; answer = tt; merged = tt; gave = is_ended.gave; refused = tt; idle = idle is_ended.idle; name = is_ended.name }
+      by (Err Device) is_ended = record { says = tt; left = left is_ended.left; long = long is_ended.long; rest = is_ended.rest; opened = tt; running = tt; answer = tt; merged = tt; gave = is_ended.gave; refused = tt; idle = idle is_ended.idle; name = is_ended.name }
+      by (Err Memory) is_ended = record { says = tt; left = left is_ended.left; long = long is_ended.long; rest = is_ended.rest; opened = tt; running = tt; answer = tt; merged = tt; gave = is_ended.gave; refused = tt; idle = idle is_ended.idle; name = is_ended.name }
 
 -- A backup that is asked for is refused before it begins, or begins as in the store.
 module _ (t : Trail) (guid : List ℕ) (ask : Option Ask) where
@@ -159,6 +177,8 @@ module _ (t : Trail) (guid : List ℕ) (ask : Option Ask) where
   not_started {r = r} w a quiet is closed = record {
     test = first_here (read_only t.base.image) (not_state normal_state t.base.image ∷ no_scn t.base.image ∷ []) r closed;
     left = none_yet w w a t _ quiet is;
+    long = grows_not w w (name_of a) a.files.page_size t _ quiet;
+    frozen = tt;
     opened = tt;
     answer = tt;
     gave = tt;
@@ -175,6 +195,8 @@ module _ (t : Trail) (guid : List ℕ) (ask : Option Ask) where
       record {
         test = subst (λ (c : Cause). Tested result c) (sym same) begins.test;
         left = subst (λ (c : Cause). Strikes old new (name_of a) t (unless_by c (begin guid ask ∷ []))) (sym same) begins.left;
+        long = subst (λ (c : Cause). GrowsWithin old new (name_of a) a.files.page_size t (unless_by c (begin guid ask ∷ []))) (sym same) begins.long;
+        frozen = begins.frozen;
         opened = begins.opened;
         answer = begins.answer;
         gave = begins.gave;

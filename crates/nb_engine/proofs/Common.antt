@@ -11,7 +11,7 @@ pub use Rattle.nb_alloc.proofs.ReadyLaws.{page_strokes_are}
 pub use Rattle.nb_alloc.proofs.RoomsLaws.{IsFreeBehind, behind_long, behind_short, free_behind, grown_judged, grown_unmade, needs_broken, no_entry_broken, unmade_long, unmade_short}
 pub use Rattle.nb_alloc.proofs.SearchReads.{inventory_most}
 pub use Rattle.nb_alloc.proofs.TestLaws.{at_ok, inventory_place_is, le_from, lt_from, read_broken, read_refused, read_says, text_short, vec_whole, write_closed, write_fits, write_long}
-pub use Rattle.nb_alloc.proofs.WantLaws.{Stays, not_passed, refused_memory, short_first, wanted_by, stops_after, stops_first, stops_then, strikes_after}
+pub use Rattle.nb_alloc.proofs.WantLaws.{Stays, not_passed, refused_memory, short_first, wanted_by, strikes_after}
 pub use Rattle.nb_alloc.specs.Behind.{behind_cause, entry_broken, give_broken, page_in}
 pub use Rattle.nb_alloc.specs.Data.{data_cause, new_behind, new_data, owner_by, put_data, second_data, unmade}
 pub use Rattle.nb_alloc.specs.Make.{new_of, new_raw, page_strokes}

@@ -1,6 +1,6 @@
 -- Why a raw page isn't written, and the turn that writes it.
 use Rattle.std.proofs.Common.{◌≡◌, ◌≢◌, inl, inr, ℕ, ◌<◌, List, [], ◌∷◌, ◌++◌, length, refl, sym, ap, ◌∙◌, arith, true, false, not, ◌==◌, nat_le, Some, None, Result, Ok, IfErr}
-use Rattle.nb_engine.proofs.Common.{eqb-true, leb_tells, is_header, entries_in, kind_of, text_payload, inventory_kind, raw_kind, scn_kind, World, Fault, Refusal, SystemPage, Refused, Done, Page, Image, first_page, page_at, image_size, Base, Draft, drafted, put, inventory_of, Cause, first_cause, when, past_end, read_only, not_kind, not_raw, too_long, not_of_form, no_room, Seen, says, unless, write_turn, Trail, header-kind, no_first, not_when, IsNoRefusal, Held, IsOpen, Makes, Does, entry_cause, raise_strokes, raw_stroke, Stays, Tries, WhereMemory, refused_by, judged_by, unless_these, seeing, tries_does, if_ok, put_stroke-after, put_strokes, put_form, put_room, put_refused, done, first_here, first_next, no_cause, true≢false, not_false}
+use Rattle.nb_engine.proofs.Common.{eqb-true, leb_tells, is_header, entries_in, kind_of, text_payload, inventory_kind, raw_kind, scn_kind, World, Fault, Refusal, SystemPage, Refused, Done, Page, Image, first_page, page_at, image_size, Base, Draft, drafted, put, inventory_of, Cause, first_cause, when, past_end, read_only, not_kind, not_raw, too_long, not_of_form, no_room, Seen, says, unless, write_turn, Trail, header-kind, no_first, not_when, IsNoRefusal, Held, IsOpen, Makes, Does, entry_cause, raise_strokes, raw_stroke, Stays, StopsShort, Tries, WhereMemory, refused_by, judged_by, unless_these, seeing, tries_does, tries_stops, if_ok, put_stroke-after, put_strokes, put_form, put_room, put_refused, done, first_here, first_next, no_cause, true≢false, not_false}
 use Rattle.nb_alloc.proofs.PageLaws.{then_page}
 
 -- what a taken raw page is
@@ -76,11 +76,23 @@ module _ (s : Seen) (p : ℕ) (text : List ℕ) where
         ∙ unless_these s (entry_cause image p) Done draft.strokes _ (λ none. let is = is_raw image p raw in put_strokes s.base p 8 (text_payload text) is.low is.plain some none)
 
 -- The text is written into a page that was read before its entry was raised.
-pub write_does : (result : Result (Unit {0}) Fault) (old mid new : World) (a b c : Held) (t : Trail) (s : Seen) (p : ℕ) (text : List ℕ) (read : Page) → t.base ≡ s.base → not_raw t.base.image p ≡ None
-    → first_cause (read_only t.base.image ∷ too_long text ∷ []) ≡ None → 0 < entries_in (image_size t.base.image) → Tries {T = Unit {0}} (Ok tt) old mid a b t (entry_cause t.base.image p) (raise_strokes t.base.image p)
+pub write_tries : (result : Result (Unit {0}) Fault) (old mid new : World) (a b c : Held) (t : Trail) (p : ℕ) (text : List ℕ) (read : Page) → not_raw t.base.image p ≡ None
+    → 0 < entries_in (image_size t.base.image) → Tries {T = Unit {0}} (Ok tt) old mid a b t (entry_cause t.base.image p) (raise_strokes t.base.image p)
     → read ≡ page_at t.base.image p → IfErr result IsNoRefusal → ((u : Trail) → IsOpen mid b u → read ≡ page_at u.base.image p → Makes result mid new b c u (raw_stroke u.base.image p text ∷ []))
-    → ((u : Trail) → IsOpen mid b u → WhereMemory result (Stays mid new b c u)) → Does done result old new a c t (write_turn s p text)
-write_does result old mid new a b c t s p text read same raw free some first is never writes stays =
-    tries_does done result old new a c t s (λ (x : Seen). write_turn x p text) (entry_cause t.base.image p) Done refl (raise_strokes t.base.image p ++ raw_stroke t.base.image p text ∷ []) same
-    (write_is (seeing s t.base) p text raw free some) (if_ok result (λ value. done value ≡ Done) (λ value. refl))
-    (then_page old mid a b t p (is_raw t.base.image p raw).plain some first result new c read (λ (x : Image). raw_stroke x p text) is (put_stroke-after t.base.image _ p 8 (text_payload text)) never writes stays)
+    → ((u : Trail) → IsOpen mid b u → WhereMemory result (Stays mid new b c u)) → Tries result old new a c t (entry_cause t.base.image p) (raise_strokes t.base.image p ++ raw_stroke t.base.image p text ∷ [])
+write_tries result old mid new a b c t p text read raw some first is never writes stays =
+    then_page old mid a b t p (is_raw t.base.image p raw).plain some first result new c read (λ (x : Image). raw_stroke x p text) is (put_stroke-after t.base.image _ p 8 (text_payload text)) never writes stays
+
+-- so the call does the turn, and where it answers Memory it has stopped before the last stroke
+module _ (result : Result (Unit {0}) Fault) (old new : World) (a b : Held) (t : Trail) (s : Seen) (p : ℕ) (text : List ℕ) (same : t.base ≡ s.base) (raw : not_raw t.base.image p ≡ None)
+    (free : first_cause (read_only t.base.image ∷ too_long text ∷ []) ≡ None) (some : 0 < entries_in (image_size t.base.image))
+    (tries : Tries result old new a b t (entry_cause t.base.image p) (raise_strokes t.base.image p ++ raw_stroke t.base.image p text ∷ [])) where
+  pub write_does : Does done result old new a b t (write_turn s p text)
+  write_does =
+      tries_does done result old new a b t s (λ (x : Seen). write_turn x p text) (entry_cause t.base.image p) Done refl (raise_strokes t.base.image p ++ raw_stroke t.base.image p text ∷ []) same
+      (write_is (seeing s t.base) p text raw free some) (if_ok result (λ value. done value ≡ Done) (λ value. refl)) tries
+
+  pub write_stops : WhereMemory result (StopsShort old new a b t (write_turn s p text).strokes)
+  write_stops =
+      tries_stops result old new a b t s (λ (x : Seen). write_turn x p text) (entry_cause t.base.image p) Done (raise_strokes t.base.image p ++ raw_stroke t.base.image p text ∷ []) same
+      (write_is (seeing s t.base) p text raw free some) tries

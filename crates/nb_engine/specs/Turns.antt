@@ -16,6 +16,7 @@ use Rattle.nb_model.specs.Strokes.{begin}
 use Rattle.nb_model.specs.Outcomes.{Outcome}
 use Rattle.nb_model.specs.Trail.{Trail}
 use Rattle.nb_base.specs.Takes.{Strikes, after_strokes}
+use Rattle.nb_base.specs.Stays.{FileIs, KeepsFile, HasAfterFirst, GrowsWithin}
 use Rattle.nb_state.specs.Open.{Held, IsOpen, name_of}
 use Rattle.nb_state.specs.Does.{Answers, WhereEnded, WhereRefused, has_only_told, unless_by}
 use Rattle.nb_engine.specs.Replies.{scn_is}
@@ -24,6 +25,9 @@ use Rattle.nb_engine.specs.Replies.{scn_is}
 pub record DoesBegin (result : Result ℕ Fault) (old new : World) (before after : Held) (t : Trail) (guid : List ℕ) (turn : Outcome) : Type 0 where
   pub answer : Answers scn_is result turn.reply
   pub left : Strikes old new (name_of before) t turn.strokes
+  pub long : GrowsWithin old new (name_of before) before.files.page_size t turn.strokes
+  -- the main file is durable then, byte for byte
+  pub frozen : OnOk result (FileIs new (name_of before) (λ file. file ≡ new.files (name_of before)))
   pub opened : WhereEnded result (IsOpen new after (after_strokes t turn.strokes))
   pub gave : OnOk result (new.guids ≡ old.guids ++ guid ∷ [])
   pub times : new.times ≡ old.times
@@ -43,6 +47,9 @@ SaysNone (Err Memory) said = Unit {0}
 pub record DoesEnd (result : Result ℕ Fault) (old new : World) (before after : Held) (t : Trail) (scn : ℕ) (turn : Outcome) : Type 0 where
   pub says : SaysNone result turn.reply
   pub left : Strikes old new (name_of before) t turn.strokes
+  pub long : GrowsWithin old new (name_of before) before.files.page_size t turn.strokes
+  -- of the main file it changes page 0 alone
+  pub rest : (bytes : List ℕ) → KeepsFile old new (name_of before) (HasAfterFirst before.files.page_size bytes)
   pub opened : WhereEnded result (IsOpen new after (after_strokes t turn.strokes))
   pub running : WhereEnded result (after.running ≡ turn.running)
   -- what is said once all is merged
@@ -61,6 +68,9 @@ starting_cause image = first_cause (read_only image ∷ not_state normal_state i
 pub record Starts (result : Result ℕ Fault) (old new : World) (before after : Held) (t : Trail) (guid : List ℕ) (ask : Option Ask) : Type 0 where
   pub test : Tested result (starting_cause t.base.image)
   pub left : Strikes old new (name_of before) t (unless_by (starting_cause t.base.image) (begin guid ask ∷ []))
+  pub long : GrowsWithin old new (name_of before) before.files.page_size t (unless_by (starting_cause t.base.image) (begin guid ask ∷ []))
+  -- the main file is durable then, byte for byte
+  pub frozen : OnOk result (FileIs new (name_of before) (λ file. file ≡ new.files (name_of before)))
   pub opened : OnOk result (IsOpen new after (after_strokes t (begin guid ask ∷ [])))
   pub answer : IfOk result (λ scn. scn ≡ image_scn t.base.image + 1)
   pub gave : OnOk result (new.guids ≡ old.guids ++ guid ∷ [])

@@ -9,7 +9,9 @@ ghost use Rattle.nb_model.specs.Image.{page_at};
 ghost use Rattle.nb_model.specs.Lines.{flag};
 ghost use Rattle.nb_model.specs.Trail.{Trail, settled};
 ghost use Rattle.nb_base.specs.Reads.{opening_reads};
-ghost use Rattle.nb_base.specs.Takes.{Takes};
+ghost use Rattle.nb_base.specs.Stays.{GrowsWithin};
+ghost use Rattle.nb_base.specs.Takes.{TakesOn};
+ghost use Rattle.nb_base.specs.Touches.{WrittenIn};
 ghost use Rattle.nb_state.specs.Open.{IsOpen, NoPageWaits, but_pages, name_of};
 ghost use Rattle.nb_state.specs.Looks.{Looks};
 ghost use Rattle.nb_cache.specs.Held.{slot_of};
@@ -220,7 +222,8 @@ impl Engine {
     /// Keeps the database for good, with each page that waits. It changes no page.
     pub fn sync<H: Host>(&mut self, host: &mut H) -> Result<(), HostFault>
         ensures takes { (t : Trail) → IsTrue H.tells → IsOpen (H.world host.old) self.old t
-            → Takes result (H.world host.old) (H.world host.new) (name_of self.old) (IsOpen (H.world host.new) self.new) t [] }
+            → TakesOn result (H.world host.old) (H.world host.new) (WrittenIn self.old.files.state (name_of self.old)) (name_of self.old) (IsOpen (H.world host.new) self.new) t [] }
+        ensures long { (t : Trail) → IsTrue H.tells → IsOpen (H.world host.old) self.old t → GrowsWithin (H.world host.old) (H.world host.new) (name_of self.old) self.old.files.page_size t [] }
         ensures settled { (t : Trail) → IsTrue H.tells → IsOpen (H.world host.old) self.old t → OnOk result (IsOpen (H.world host.new) self.new (settled t.base)) }
         ensures same { but_pages self.new ≡ but_pages self.old }
         ensures gave { GaveNothing (H.world host.old) (H.world host.new) }
@@ -233,7 +236,8 @@ impl Engine {
     /// Writes each page that waits into its file. It changes no page. Where none waits it makes no call, and at a settled point none does.
     pub fn write_out<H: Host>(&mut self, host: &mut H) -> Result<(), HostFault>
         ensures takes { (t : Trail) → IsTrue H.tells → IsOpen (H.world host.old) self.old t
-            → Takes result (H.world host.old) (H.world host.new) (name_of self.old) (IsOpen (H.world host.new) self.new) t [] }
+            → TakesOn result (H.world host.old) (H.world host.new) (WrittenIn self.old.files.state (name_of self.old)) (name_of self.old) (IsOpen (H.world host.new) self.new) t [] }
+        ensures long { (t : Trail) → IsTrue H.tells → IsOpen (H.world host.old) self.old t → GrowsWithin (H.world host.old) (H.world host.new) (name_of self.old) self.old.files.page_size t [] }
         ensures none { OnOk result (NoPageWaits self.new) }
         ensures idle { NoPageWaits self.old → IsOk result × (self.new ≡ self.old) × (host.new ≡ host.old) }
         ensures at_settled { (t : Trail) → IsTrue H.tells → IsOpen (H.world host.old) self.old t → t.earlier ≡ [] → IsOk result × (self.new ≡ self.old) × (host.new ≡ host.old) }

@@ -1,5 +1,5 @@
 // The flags in page 0: whether writes are forced, and whether the database may be changed.
-ghost use Rattle.std.specs.Prelude.{◌≡◌, ◌≢◌, ◌<◌, ◌≤◌, [], IsTrue, IfErr, Err, None, OnOk, true, length};
+ghost use Rattle.std.specs.Prelude.{◌≡◌, ◌≢◌, ◌<◌, ◌≤◌, IsTrue, IfErr, Err, None, OnOk, true, length};
 ghost use Rattle.nb_fields.specs.Header.{is_header};
 ghost use Rattle.nb_fields.specs.Places.{is_page_size};
 ghost use Rattle.nb_fields.specs.States.{stalled_state};
@@ -10,11 +10,10 @@ ghost use Rattle.nb_model.specs.Lines.{flag};
 ghost use Rattle.nb_model.specs.Trail.{Trail};
 ghost use Rattle.nb_model.specs.Outcomes.{Seen};
 ghost use Rattle.nb_model.specs.Pages.{byte_strokes, forced_turn, access_turn};
-ghost use Rattle.nb_base.specs.Takes.{Strikes};
-ghost use Rattle.nb_state.specs.Open.{IsOpen, HasBlock, NoPageWaits, but_pages, name_of};
+ghost use Rattle.nb_state.specs.Open.{IsOpen, HasBlock, NoPageWaits, but_pages};
 ghost use Rattle.nb_state.specs.Looks.{Looks};
 ghost use Rattle.nb_state.specs.Does.{Goes, Does};
-ghost use Rattle.nb_alloc.specs.Tries.{Tries};
+ghost use Rattle.nb_alloc.specs.Tries.{StopsShort, Tries, WhereMemory};
 ghost use Rattle.nb_alloc.specs.Put.{Reads};
 ghost use Rattle.nb_engine.specs.Replies.{done};
 
@@ -62,8 +61,6 @@ fn put_flag<H: Host>(
     ensures goes { Goes store.old store.new }
     ensures cause { CountsDevice result (H.faults host.old) (H.faults host.new) }
     ensures takes_none { store.old.files.state ≢ stalled_state → IfErr result (λ fault. fault ≢ Memory) }
-    ensures on_memory { (t : Trail) → IsTrue H.tells → IsOpen (H.world host.old) store.old t → result ≡ Err Memory
-        → Strikes (H.world host.old) (H.world host.new) (name_of store.old) t [] × IsOpen (H.world host.new) store.new t }
     ensures idle { NoPageWaits store.old → result ≡ Err Memory → (but_pages store.new ≡ but_pages store.old) × Quiet (H.world host.old) (H.world host.new) }
     ensures forced { (t : Trail) → IsTrue H.tells → IsOpen (H.world host.old) store.old t → store.old.files.forced ≡ true → result ≡ Err Memory
         → (but_pages store.new ≡ but_pages store.old) × Quiet (H.world host.old) (H.world host.new) }
@@ -86,8 +83,8 @@ impl Engine {
         ensures goes { Goes self.old self.new }
         ensures cause { CountsDevice result (H.faults host.old) (H.faults host.new) }
         ensures takes_none { self.old.files.state ≢ stalled_state → IfErr result (λ fault. fault ≢ Memory) }
-        ensures on_memory { (t : Trail) → IsTrue H.tells → IsOpen (H.world host.old) self.old t → result ≡ Err Memory
-            → Strikes (H.world host.old) (H.world host.new) (name_of self.old) t [] × IsOpen (H.world host.new) self.new t }
+        ensures on_memory { (s : Seen) (t : Trail) → IsTrue H.tells → t.base ≡ s.base → IsOpen (H.world host.old) self.old t
+            → WhereMemory result (StopsShort (H.world host.old) (H.world host.new) self.old self.new t (forced_turn s on).strokes) }
         ensures idle { NoPageWaits self.old → result ≡ Err Memory → (but_pages self.new ≡ but_pages self.old) × Quiet (H.world host.old) (H.world host.new) }
         ensures forced { (t : Trail) → IsTrue H.tells → IsOpen (H.world host.old) self.old t → self.old.files.forced ≡ true → result ≡ Err Memory
             → (but_pages self.new ≡ but_pages self.old) × Quiet (H.world host.old) (H.world host.new) }

@@ -1,16 +1,14 @@
 // A raw page is given back.
-ghost use Rattle.std.specs.Prelude.{◌≡◌, ◌≢◌, ◌+◌, ◌≤◌, IsTrue, IfErr, Err};
+ghost use Rattle.std.specs.Prelude.{◌≡◌, ◌≢◌, ◌+◌, ◌≤◌, IsTrue, IfErr};
 ghost use Rattle.nb_fields.specs.States.{stalled_state};
 ghost use Rattle.nb_host.specs.declared.faults.Fault.TheVariants.{Memory};
 ghost use Rattle.nb_host.specs.Causes.{CountsDevice};
-ghost use Rattle.nb_model.specs.Forms.{inventory_of};
 ghost use Rattle.nb_model.specs.Trail.{Trail};
 ghost use Rattle.nb_model.specs.Outcomes.{Seen};
 ghost use Rattle.nb_model.specs.Pages.{free_turn};
 ghost use Rattle.nb_state.specs.Open.{IsOpen};
 ghost use Rattle.nb_state.specs.Does.{Goes, Does};
-ghost use Rattle.nb_alloc.specs.Tries.{StopsBehind};
-ghost use Rattle.nb_alloc.specs.Put.{raise_strokes};
+ghost use Rattle.nb_alloc.specs.Tries.{StopsShort, WhereMemory};
 ghost use Rattle.nb_engine.specs.Replies.{done};
 
 use crate::Engine;
@@ -31,8 +29,8 @@ impl Engine {
         ensures once { IsTrue H.tells → (H.world host.new).reads ≤ (H.world host.old).reads + 4 }
         ensures cause { CountsDevice result (H.faults host.old) (H.faults host.new) }
         ensures takes_none { self.old.files.state ≢ stalled_state → IfErr result (λ fault. fault ≢ Memory) }
-        ensures on_memory { (t : Trail) → IsTrue H.tells → IsOpen (H.world host.old) self.old t → result ≡ Err Memory
-            → StopsBehind (H.world host.old) (H.world host.new) self.old self.new t (raise_strokes t.base.image (inventory_of t.base.image number)) }
+        ensures on_memory { (s : Seen) (t : Trail) → IsTrue H.tells → t.base ≡ s.base → IsOpen (H.world host.old) self.old t
+            → WhereMemory result (StopsShort (H.world host.old) (H.world host.new) self.old self.new t (free_turn s number).strokes) }
     {
         read_raw(&mut self.store, host, number, &mut self.page, &mut self.map)?;
         // Page 0 is the header, whatever the host gave for it.

@@ -1,5 +1,5 @@
 // Raw pages are written and read.
-ghost use Rattle.std.specs.Prelude.{◌≡◌, ◌≢◌, ◌≤◌, [], ◌∷◌, ◌+◌, IsTrue, IfErr, Err, OnOk, length};
+ghost use Rattle.std.specs.Prelude.{◌≡◌, ◌≢◌, ◌≤◌, [], ◌∷◌, ◌+◌, IsTrue, IfErr, OnOk, length};
 ghost use Rattle.nb_fields.specs.States.{stalled_state};
 ghost use Rattle.nb_host.specs.declared.faults.Fault.TheVariants.{Memory};
 ghost use Rattle.nb_host.specs.Causes.{CountsDevice, FaultCount};
@@ -11,8 +11,7 @@ ghost use Rattle.nb_model.specs.Pages.{write_turn, read_turn};
 ghost use Rattle.nb_state.specs.Open.{IsOpen};
 ghost use Rattle.nb_state.specs.Looks.{Looks};
 ghost use Rattle.nb_state.specs.Does.{Goes, Does};
-ghost use Rattle.nb_alloc.specs.Tries.{StopsBehind};
-ghost use Rattle.nb_alloc.specs.Put.{raise_strokes};
+ghost use Rattle.nb_alloc.specs.Tries.{StopsShort, WhereMemory};
 ghost use Rattle.nb_engine.specs.Replies.{done, valued};
 
 use crate::Engine;
@@ -59,8 +58,8 @@ impl Engine {
         ensures once { IsTrue H.tells → (H.world host.new).reads ≤ (H.world host.old).reads + 3 }
         ensures cause { CountsDevice result (H.faults host.old) (H.faults host.new) }
         ensures takes_none { self.old.files.state ≢ stalled_state → IfErr result (λ fault. fault ≢ Memory) }
-        ensures on_memory { (t : Trail) → IsTrue H.tells → IsOpen (H.world host.old) self.old t → result ≡ Err Memory
-            → StopsBehind (H.world host.old) (H.world host.new) self.old self.new t (raise_strokes t.base.image number) }
+        ensures on_memory { (s : Seen) (t : Trail) → IsTrue H.tells → t.base ≡ s.base → IsOpen (H.world host.old) self.old t
+            → WhereMemory result (StopsShort (H.world host.old) (H.world host.new) self.old self.new t (write_turn s number text.now).strokes) }
     {
         read_raw(&mut self.store, host, number, &mut self.page, &mut self.map)?;
         // Page 0 is the header, whatever the host gave for it.

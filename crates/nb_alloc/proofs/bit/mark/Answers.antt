@@ -3,7 +3,6 @@ use Rattle.nb_alloc.proofs.Common.{bits_in, inventory_place, inventory_kind, pag
 use Rattle.nb_alloc.proofs.TestLaws.{inventory_place_is}
 use Rattle.nb_alloc.proofs.MarkLaws.{mark_other}
 use Rattle.nb_alloc.proofs.DoesLaws.{tries_early, tries_after}
-use Rattle.nb_alloc.proofs.WantLaws.{stops_after}
 use Rattle.nb_alloc.proofs.bit.mark.Goals as goal
 
 pub returns-in_err-read-clause-tries : goal.returns-in_err-read-clause-tries
@@ -34,11 +33,6 @@ returns-clause-once g c tells =
     let some = inventory_place-some c.page_size-page_size.result c.covers-k.result.0 c.page_size-page_size.ensures.one_of in
     let read = c.in_ok-read.ensures.once tells (omega (arith, some, c.place_of.ensures)) in
     omega (arith, read, c.put_map.ensures.once tells)
-
-pub returns-clause-on_memory : goal.returns-clause-on_memory
-returns-clause-on_memory g c t tells is memory =
-    let read = c.in_ok-read.ensures in
-    stops_after _ _ _ c.args.store.now _ c.put_map.new.store t _ read.looks.same read.looks.quiet is (c.put_map.ensures.on_memory t tells (read.looks.opened t tells is) memory)
 
 pub put_map-requires-clause-inside : goal.put_map-requires-clause-inside
 put_map-requires-clause-inside g c =

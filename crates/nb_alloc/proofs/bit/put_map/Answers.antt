@@ -1,10 +1,10 @@
 use Rattle.std.proofs.Common.{◌≡◌, ◌/◌, ℕ, ◌%◌, [], ◌∷◌, ap, subst, ◌∙◌, arith, sym, IsTrue, None, Result, Ok, Err, IfErr}
-use Rattle.nb_alloc.proofs.Common.{as_fault, Fault, World, Held, IsOpen, Trail, Makes, IsNoRefusal, Page, page_at, not_kind, inventory_kind, is_page_size, image_size, bits_in, inventory_place, Image, inventory_of, bit_number, inventory_place_some, none_refused, Tries, WhereMemory, entry_cause, raise_strokes, bit_for, bit_stroke, mark_cause, mark_stroke, mark_strokes, counts_passed, memory_wanted, none_wanted, passed_on, after_strokes}
+use Rattle.nb_alloc.proofs.Common.{as_fault, Fault, World, Held, IsOpen, Trail, Makes, IsNoRefusal, Page, page_at, not_kind, inventory_kind, is_page_size, image_size, bits_in, inventory_place, Image, inventory_of, bit_number, inventory_place_some, none_refused, Tries, WhereMemory, entry_cause, raise_strokes, bit_for, bit_stroke, mark_cause, mark_stroke, mark_strokes, counts_passed, none_wanted}
 use Rattle.nb_alloc.proofs.TestLaws.{inventory_place_is}
 use Rattle.nb_alloc.proofs.MarkLaws.{plain, entries_some, mark_stroke-after}
-use Rattle.nb_alloc.proofs.DoesLaws.{tries_passed, tries_front, tries_opened}
+use Rattle.nb_alloc.proofs.DoesLaws.{tries_passed, tries_front}
 use Rattle.nb_alloc.proofs.PageLaws.{then_page, bit_at, mark_tries}
-use Rattle.nb_alloc.proofs.WantLaws.{Stays, stops_first, stops_then, wanted_by}
+use Rattle.nb_alloc.proofs.WantLaws.{Stays, wanted_by}
 use Rattle.nb_alloc.proofs.bit.put_map.Goals as goal
 
 -- The entry was raised, and then the bit was to be put.
@@ -51,26 +51,6 @@ returns-in_err-write_bit-clause-tries g c t tells is form read =
     (marked (Err fault) (g.H.Host.world c.args.host.now) (g.H.Host.world c.raise_entry.new.host) (g.H.Host.world c.write_bit.new.host) c.args.store.now c.raise_entry.new.store c.write_bit.new.store t c.args.number (bit_for c.args.free) c.page_size-page_size.result c.covers-k.result.0 c.covers-k.result.1 c.place_of-place.result c.args.map.now form read
     c.page_size-page_size.ensures.one_of (c.page_size-page_size.ensures.value ∙ is.files.agrees.page_size) c.covers-k.ensures.number c.covers-k.ensures.index c.place_of-place.ensures (none_refused c.in_err-write_bit.field-0.0) (c.in_ok-raise_entry.ensures.tries t tells is) (λ u opened is. c.in_err-write_bit.ensures.makes u tells opened is)
     (λ u opened. wanted_by (Unit {0}) (Unit {0}) c.in_err-write_bit.field-0.0 _ (λ e. c.in_err-write_bit.ensures.on_memory u tells opened e)))
-
-pub returns-in_err-raise_entry-clause-on_memory : goal.returns-in_err-raise_entry-clause-on_memory
-returns-in_err-raise_entry-clause-on_memory g c t tells is memory =
-    let wants = sym (passed_on c.from_residual.result c.in_err-raise_entry.field-0.0 c.from_residual.ensures) ∙ memory in
-    let left = c.in_err-raise_entry.ensures.on_memory t tells is wants in
-    stops_first _ _ c.args.store.now c.raise_entry.new.store t _ left.0 left.1
-
-pub returns-in_err-write_bit-clause-on_memory : goal.returns-in_err-write_bit-clause-on_memory
-returns-in_err-write_bit-clause-on_memory g c t tells is memory =
-    let image = t.base.image in
-    let old = g.H.Host.world c.args.host.now in
-    let mid = g.H.Host.world c.raise_entry.new.host in
-    let new = g.H.Host.world c.write_bit.new.host in
-    let size = c.page_size-page_size.ensures.value ∙ is.files.agrees.page_size in
-    let at = inventory_place_is image _ c.args.number _ _ c.place_of-place.ensures c.covers-k.ensures.number size in
-    let first = subst (λ (q : ℕ). Tries {T = Unit {0}} (Ok tt) old mid c.args.store.now c.raise_entry.new.store t (entry_cause image q) (raise_strokes image q)) at (c.in_ok-raise_entry.ensures.tries t tells is) in
-    let xs = raise_strokes image (inventory_of image c.args.number) in
-    let wants = memory_wanted c.from_residual-in_err-write_bit.result c.in_err-write_bit.field-0.0 c.from_residual-in_err-write_bit.ensures (Unit {0}) memory in
-    let left = c.in_err-write_bit.ensures.on_memory (after_strokes t xs) tells (tries_opened tt old mid c.args.store.now c.raise_entry.new.store t _ xs first) wants in
-    stops_then old mid new c.args.store.now c.raise_entry.new.store c.write_bit.new.store t _ xs first left.0 left.1
 
 pub returns-in_err-write_bit-clause-cause : goal.returns-in_err-write_bit-clause-cause
 returns-in_err-write_bit-clause-cause g c =

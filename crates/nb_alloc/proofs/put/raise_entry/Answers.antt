@@ -1,8 +1,8 @@
 use Rattle.std.proofs.Common.{◌≡◌, ◌/◌, ◌<◌, List, sym, ap, subst, ◌∙◌, [], Bool, true, Ok, Err}
-use Rattle.nb_alloc.proofs.Common.{as_fault, entries_in, scn_place, Stroke, Held, Makes, makes_none, none_refused, StopsShort, Tries, WhereMemory, must_raise, raise_stroke, raise_strokes, entry_cause, counts_passed, memory_wanted, none_wanted}
+use Rattle.nb_alloc.proofs.Common.{as_fault, entries_in, scn_place, Stroke, Held, Makes, makes_none, none_refused, StopsShort, Tries, WhereMemory, must_raise, raise_stroke, raise_strokes, entry_cause, counts_passed, none_wanted}
 use Rattle.nb_alloc.proofs.PutLaws.{raised_not, raised_once}
 use Rattle.nb_alloc.proofs.DoesLaws.{tries_early, tries_passed, tries_made, tries_after}
-use Rattle.nb_alloc.proofs.WantLaws.{strikes_after, short_first, wanted_by}
+use Rattle.nb_alloc.proofs.WantLaws.{short_first, wanted_by}
 use Rattle.nb_alloc.proofs.put.raise_entry.Goals.{then-branch+in_ok-raise, else-branch}
 use Rattle.nb_alloc.proofs.put.raise_entry.Goals as goal
 
@@ -55,13 +55,6 @@ returns-clause-tries g c t tells is =
           (subst (λ (ss : List Stroke). Makes {T = Unit {0}} (Ok tt) (g.H.Host.world c.args.host.now) (g.H.Host.world c.must_raise.new.host) c.args.store.now c.must_raise.new.store t ss) (sym (raised_not image p (sym told.value ∙ w.if-branch.false)))
           (makes_none (Ok tt) _ _ _ _ t asked.looks.same asked.looks.quiet is still)) tt)
     ]
-
-pub returns-in_err-raise-clause-on_memory : goal.returns-in_err-raise-clause-on_memory
-returns-in_err-raise-clause-on_memory g c t tells is memory =
-    let asked = c.in_ok-must_raise.ensures in
-    let wants = memory_wanted c.from_residual-in_err-raise.result c.in_err-raise.field-0.0 c.from_residual-in_err-raise.ensures (Unit {0}) memory in
-    let left = c.in_err-raise.ensures.on_memory t tells (asked.looks.opened t tells is) wants in
-    (strikes_after _ _ _ c.args.store.now c.must_raise.new.store t [] asked.looks.same asked.looks.quiet is left.0, left.1)
 
 pub returns-in_err-raise-clause-cause : goal.returns-in_err-raise-clause-cause
 returns-in_err-raise-clause-cause g c =

@@ -1,5 +1,5 @@
 use Rattle.std.proofs.Common.{◌≡◌, ◌≢◌, ℕ, length, refl, sym, ap, ◌∙◌, arith, Bool, Result, Ok, Err, IsErr, IsErrAnd, None}
-use Rattle.nb_check.proofs.Common.{Fault, Memory, Access, quiet_begun, passed_on, Freed, when, says, goes_on, goes_nowhere, seeing, refused_does, tested_does, tries_other, tries_valued, tries_passed, tries_after, tries_does, Does, Held, Findings, leaked, check_cause, reclaimed, reclaim_turn}
+use Rattle.nb_check.proofs.Common.{Fault, Memory, Access, quiet_begun, passed_on, Freed, when, says, goes_on, goes_nowhere, seeing, refused_does, tested_does, tries_other, tries_valued, tries_passed, tries_after, tries_does, tries_stops, Does, Held, StopsEarly, StopsShort, WhereMemory, early_quiet, early_short, wanted_any, wanted_so, Findings, leaked, check_cause, reclaimed, reclaim_turn}
 use Rattle.nb_alloc.proofs.CauseLaws.{unless_allowed}
 use Rattle.nb_check.proofs.CauseLaws.{closed_fails, check_fails, reclaim_free, reclaim_refused, reclaim_says}
 use Rattle.nb_check.proofs.checking.reclaim.Goals as goal
@@ -52,6 +52,31 @@ returns-clause-turn g c s t tells same is =
     (tries_valued {S = Unit {0}} tt c.count.result w new c.args.engine.now c.give_back.new.engine t None xs
     (tries_after {T = Unit {0}} (Ok tt) w mid new c.args.engine.now c.check.new.engine c.give_back.new.engine t None xs found.looks.same found.looks.quiet is
     (c.in_ok-give_back.ensures.tries t tells (found.looks.opened t tells is) (found.sound t tells is) (found.leaked t tells is))))
+
+pub returns-in_err-findings-clause-short : goal.returns-in_err-findings-clause-short
+returns-in_err-findings-clause-short g c s t tells same is =
+    let found = c.in_err-findings.ensures in
+    wanted_any c.from_residual.result _ (early_quiet _ _ c.args.engine.now c.check.new.engine t (reclaim_turn s).strokes found.looks.quiet is (found.looks.opened t tells is))
+
+pub returns-in_err-give_back-clause-short : goal.returns-in_err-give_back-clause-short
+returns-in_err-give_back-clause-short g c s t tells same is =
+    let found = c.in_ok-findings.ensures in
+    let w = g.H.Host.world c.args.host.now in
+    let mid = g.H.Host.world c.check.new.host in
+    let new = g.H.Host.world c.give_back.new.host in
+    let fault = c.in_err-give_back.field-0.0 in
+    let open_to = sym (c.is_read_only.ensures ∙ ap (λ (h : Held). h.read_only) c.store.ensures ∙ is.agrees.read_only) ∙ c.if-is_read_only.false in
+    let now = seeing s t.base in
+    let said = Freed (length (leaked t.base.image)) in
+    let xs = (reclaimed t.base.image).strokes in
+    tries_passed c.from_residual-in_err-give_back.result fault (λ r. WhereMemory r (StopsEarly w new c.args.engine.now c.give_back.new.engine t (reclaim_turn s).strokes)) c.from_residual-in_err-give_back.ensures
+    (wanted_so {T = ℕ} (Err fault) (StopsShort w new c.args.engine.now c.give_back.new.engine t (reclaim_turn s).strokes) (StopsEarly w new c.args.engine.now c.give_back.new.engine t (reclaim_turn s).strokes)
+    (early_short w new c.args.engine.now c.give_back.new.engine t (reclaim_turn s).strokes)
+    (tries_stops {T = ℕ} (Err fault) w new c.args.engine.now c.give_back.new.engine t s reclaim_turn None said xs same
+    (reclaim_says now (reclaim_free t.base.image (ap (λ (b : Bool). when b (Access 1)) open_to) (found.test t tells is)) ∙ sym (unless_allowed now None (says now said xs) refl))
+    (tries_other (Unit {0}) ℕ fault w new c.args.engine.now c.give_back.new.engine t None xs
+    (tries_after {T = Unit {0}} (Err fault) w mid new c.args.engine.now c.check.new.engine c.give_back.new.engine t None xs found.looks.same found.looks.quiet is
+    (c.in_err-give_back.ensures.tries t tells (found.looks.opened t tells is) (found.sound t tells is) (found.leaked t tells is))))))
 
 pub returns-then-is_read_only-clause-goes : goal.returns-then-is_read_only-clause-goes
 returns-then-is_read_only-clause-goes g c = goes_nowhere _ _ refl

@@ -26,6 +26,8 @@ returns-clause-begins g c t guid ask tells is given =
     record {
       test = starts.test;
       left = starts.left;
+      long = starts.long;
+      frozen = starts.frozen;
       opened = subst (λ (h : Held). IsOpen new h (after_strokes t (begin_stroke guid ask ∷ []))) (sym c.set_running.ensures) (open_running new held _ (Some c.args.session) starts.opened);
       head = ap (λ (x : List ℕ). record bare { guid = x; scn = c.scn-scn.result }) its_guid ∙ ap (λ (n : ℕ). record bare { guid = guid; scn = n }) its_scn;
       gave = starts.gave;

@@ -1,5 +1,5 @@
 use Rattle.std.proofs.Common.{◌≤◌, List, [], length, take, refl, sym, ap, subst, ◌∙◌, arith, Ok, Err, None}
-use Rattle.nb_engine.proofs.Common.{as_fault, size_facts, flag, Stroke, byte_strokes, Quiet, counts_passed, memory_wanted, none_wanted, Held, but_pages, Makes, none_refused, StopsShort, Tries, WhereMemory, tries_early, tries_passed, tries_after, tries_made, strikes_after, short_first, wanted_by}
+use Rattle.nb_engine.proofs.Common.{as_fault, size_facts, flag, Stroke, byte_strokes, Quiet, counts_passed, memory_wanted, none_wanted, Held, but_pages, Makes, none_refused, StopsShort, Tries, WhereMemory, tries_early, tries_passed, tries_after, tries_made, short_first, wanted_by}
 use Rattle.nb_engine.proofs.FlagLaws.{byte_is, front_stays, flagged-some, flag_strokes}
 use Rattle.nb_engine.proofs.flags.put_flag.Goals as goal
 
@@ -48,13 +48,6 @@ returns-clause-tries g c t tells is =
     tries_after {T = Unit {0}} (Ok tt) _ _ _ _ _ _ t _ _ read.looks.same read.looks.quiet is
     (tries_made {T = Unit {0}} (Ok tt) _ _ _ _ t None _ refl tt
     (subst (λ (ss : List Stroke). Makes {T = Unit {0}} (Ok tt) (g.H.Host.world c.read_first.new.host) (g.H.Host.world c.write.new.host) c.read_first.new.store c.write.new.self t ss) strokes makes) tt)
-
-pub returns-in_err-write-clause-on_memory : goal.returns-in_err-write-clause-on_memory
-returns-in_err-write-clause-on_memory g c t tells is memory =
-    let read = c.in_ok-read_first.ensures in
-    let wants = memory_wanted c.from_residual-in_err-write.result c.in_err-write.field-0.0 c.from_residual-in_err-write.ensures (Unit {0}) memory in
-    let left = c.in_err-write.ensures.on_memory t tells (read.looks.opened t tells is) wants in
-    (strikes_after _ _ _ c.args.store.now c.read_first.new.store t [] read.looks.same read.looks.quiet is left.0, left.1)
 
 pub returns-in_err-write-clause-forced : goal.returns-in_err-write-clause-forced
 returns-in_err-write-clause-forced g c t tells is forced memory =

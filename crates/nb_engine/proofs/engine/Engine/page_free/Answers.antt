@@ -1,5 +1,5 @@
 use Rattle.std.proofs.Common.{◌≡◌, refl, sym, subst, ◌∙◌, ap, true, None}
-use Rattle.nb_engine.proofs.Common.{Done, is_read_only, read_only, Seen, free_turn, Held, IsOpen, but_pages, done, seeing, tested_does, refused_does, tries_does, if_ok, tries_after, stops_after}
+use Rattle.nb_engine.proofs.Common.{Done, is_read_only, read_only, Seen, free_turn, Held, IsOpen, but_pages, done, seeing, tested_does, refused_does, tries_does, tries_stops, if_ok, tries_after, not_passed}
 use Rattle.nb_engine.proofs.WriteLaws.{no_header}
 use Rattle.nb_engine.proofs.FreeLaws.{free_untaken, free_closed, free_is, closed_cause, open_cause}
 use Rattle.nb_engine.proofs.engine.Engine.page_free.Goals as goal
@@ -37,7 +37,15 @@ returns-clause-turn g c s t tells same is =
     tries_does done c.mark.result old _ _ _ t s (λ (x : Seen). free_turn x c.args.number) _ Done refl _ same (free_is (seeing s t.base) c.args.number (raw.reads t tells here).test free) (if_ok c.mark.result _ (λ value. refl)) tries
 
 pub returns-clause-on_memory : goal.returns-clause-on_memory
-returns-clause-on_memory g c t tells is memory =
-    let here = subst (λ (h : Held). IsOpen (g.H.Host.world c.args.host.now) h t) (sym c.self.view_is) is in
+returns-clause-on_memory g c s t tells same is =
+    let image = t.base.image in
+    let old = g.H.Host.world c.args.host.now in
+    let here = subst (λ (h : Held). IsOpen old h t) (sym c.self.view_is) is in
     let raw = c.in_ok-read_raw.ensures in
-    stops_after _ _ _ c.args.self.now _ c.mark.new.store t _ (raw.looks.same ∙ ap but_pages c.self.view_is) raw.looks.quiet is (c.mark.ensures.on_memory t tells (raw.looks.opened t tells here) memory)
+    let still = raw.looks.opened t tells here in
+    let free : read_only image ≡ None = open_cause image (sym still.agrees.read_only ∙ sym c.is_read_only.ensures ∙ c.if-is_read_only.false) in
+    let tries = tries_after c.mark.result _ _ _ _ _ _ t _ _ (raw.looks.same ∙ ap but_pages c.self.view_is) raw.looks.quiet is (c.mark.ensures.tries t tells still) in
+    tries_stops c.mark.result old _ _ _ t s (λ (x : Seen). free_turn x c.args.number) _ Done _ same (free_is (seeing s t.base) c.args.number (raw.reads t tells here).test free) tries
+
+pub returns-in_err-read_raw-clause-on_memory : goal.returns-in_err-read_raw-clause-on_memory
+returns-in_err-read_raw-clause-on_memory g c s t tells same is = not_passed c.from_residual.result c.in_err-read_raw.field-0.0 _ c.from_residual.ensures c.in_err-read_raw.ensures.takes_none

@@ -1,7 +1,6 @@
-use Rattle.std.proofs.Common.{◌≡◌, ◌<◌, List, [], ◌∷◌, ◌++◌, refl, sym, subst, ◌∙◌, arith, ap, None, Ok, Err, IsTrue}
-use Rattle.nb_engine.proofs.Common.{as_fault, entries_in, Done, page_at, image_size, Stroke, first_cause, read_only, not_raw, too_long, Seen, write_turn, Trail, Held, IsOpen, but_pages, Does, Tries, entry_cause, raise_strokes, raw_stroke, done, vec_whole, entries_some, seeing, tested_does, tries_does, if_err, tries_passed, tries_after, tries_front, tries_opened, counts_passed, memory_wanted, none_wanted, none_refused, after_strokes, stops_first, stops_then, stops_after, wanted_by}
-use Rattle.nb_engine.proofs.WriteLaws.{no_header, write_untaken, write_checked, write_is, write_does}
-use Rattle.nb_change.proofs.ResultLaws.{passed_on}
+use Rattle.std.proofs.Common.{◌≡◌, ◌<◌, ℕ, List, [], ◌∷◌, ◌++◌, sym, subst, ◌∙◌, arith, ap, None, Result, Ok, Err, IfErr, IsTrue}
+use Rattle.nb_engine.proofs.Common.{as_fault, entries_in, Fault, World, Quiet, page_at, image_size, first_cause, read_only, not_raw, too_long, Seen, write_turn, Trail, Held, IsNoRefusal, IsOpen, but_pages, Does, Makes, Stays, StopsShort, Tries, WhereMemory, entry_cause, raise_strokes, raw_stroke, done, vec_whole, entries_some, seeing, tested_does, tries_passed, tries_after, tries_front, counts_passed, none_wanted, none_refused, not_passed, wanted_by}
+use Rattle.nb_engine.proofs.WriteLaws.{no_header, write_untaken, write_checked, write_tries, write_does, write_stops}
 use Rattle.nb_engine.proofs.engine.Engine.page_write.Goals as goal
 use Rattle.nb_engine.proofs.engine.Engine.page_write.Goals.{After-deref_mut-2}
 
@@ -31,6 +30,21 @@ module _ (g : _) (c : goal.After-deref_mut-2 g) (t : Trail) (tells : IsTrue g.H.
       let raw = c.in_ok-read_raw.ensures in
       tries_after {T = Unit {0}} (Ok tt) _ _ _ c.args.self.now _ c.raise_entry.new.store t _ _ (raw.looks.same ∙ ap but_pages c.self.view_is) raw.looks.quiet is (c.in_ok-raise_entry.ensures.tries t tells still)
 
+  -- both strokes, where the page was to be written
+  written : (result : Result (Unit {0}) Fault) (new : World) (b : Held) → IfErr result IsNoRefusal
+      → ((u : Trail) → IsOpen (g.H.Host.world c.raise_entry.new.host) c.raise_entry.new.store u → c.deref_mut-2.result.now ≡ page_at u.base.image c.args.number
+      → Makes result (g.H.Host.world c.raise_entry.new.host) new c.raise_entry.new.store b u (raw_stroke u.base.image c.args.number c.args.text.now ∷ []))
+      → ((u : Trail) → IsOpen (g.H.Host.world c.raise_entry.new.host) c.raise_entry.new.store u → WhereMemory result (Stays (g.H.Host.world c.raise_entry.new.host) new c.raise_entry.new.store b u))
+      → Tries result (g.H.Host.world c.args.host.now) new c.args.self.now b t (entry_cause t.base.image c.args.number) (raise_strokes t.base.image c.args.number ++ raw_stroke t.base.image c.args.number c.args.text.now ∷ [])
+  written result new b never writes stays = write_tries result _ _ new c.args.self.now c.raise_entry.new.store b t c.args.number c.args.text.now _ taken some raised read never writes stays
+
+-- Its entry was to be raised.
+unraised : (fault : Fault) (old mid new : World) (a b c : Held) (t : Trail) (p : ℕ) (text : List ℕ) → but_pages b ≡ but_pages a → Quiet old mid → IsOpen old a t
+    → Tries {T = Unit {0}} (Err fault) mid new b c t (entry_cause t.base.image p) (raise_strokes t.base.image p)
+    → Tries {T = Unit {0}} (Err fault) old new a c t (entry_cause t.base.image p) (raise_strokes t.base.image p ++ raw_stroke t.base.image p text ∷ [])
+unraised fault old mid new a b c t p text same quiet is tries =
+    tries_front (Unit {0}) (Unit {0}) fault _ _ _ _ t _ (raise_strokes t.base.image p) (raw_stroke t.base.image p text ∷ []) (tries_after {T = Unit {0}} (Err fault) _ _ _ _ _ _ t _ _ same quiet is tries)
+
 pub returns-in_err-read_raw-clause-turn : goal.returns-in_err-read_raw-clause-turn
 returns-in_err-read_raw-clause-turn g c s t tells same is =
     let here = subst (λ (h : Held). IsOpen (g.H.Host.world c.args.host.now) h t) (sym c.self.view_is) is in
@@ -53,55 +67,59 @@ returns-in_err-check_write-clause-turn g c s t tells same is =
 
 pub returns-in_err-raise_entry-clause-turn : goal.returns-in_err-raise_entry-clause-turn
 returns-in_err-raise_entry-clause-turn g c s t tells same is =
-    let image = t.base.image in
-    let p = c.args.number in
-    let text = c.args.text.now in
     let old = g.H.Host.world c.args.host.now in
     let new = g.H.Host.world c.raise_entry.new.host in
     let here = subst (λ (h : Held). IsOpen old h t) (sym c.self.view_is) is in
     let raw = c.in_ok-read_raw.ensures in
     let still = raw.looks.opened t tells here in
-    let some = entries_some _ image c.self.invariant.0 here.files.agrees.page_size in
-    let turn = write_is (seeing s t.base) p text (raw.reads t tells here).test (c.in_ok-check_write.ensures.test image (c.is_read_only.ensures ∙ still.agrees.read_only)) some in
-    let both : List Stroke = raise_strokes image p ++ raw_stroke image p text ∷ [] in
     let fault = c.in_err-raise_entry.field-0.0 in
-    let result = c.from_residual-in_err-raise_entry.result in
-    let tries = tries_passed result fault (λ r. Tries r old new c.args.self.now c.raise_entry.new.store t (entry_cause image p) both) c.from_residual-in_err-raise_entry.ensures
-    (tries_front (Unit {0}) (Unit {0}) fault _ _ _ _ t _ (raise_strokes image p) (raw_stroke image p text ∷ [])
-    (tries_after {T = Unit {0}} (Err fault) _ _ _ _ _ _ t _ _ (raw.looks.same ∙ ap but_pages c.self.view_is) raw.looks.quiet is (c.in_err-raise_entry.ensures.tries t tells still))) in
-    tries_does done result old new _ _ t s (λ (x : Seen). write_turn x p text) _ Done refl both same turn (if_err result fault _ c.from_residual-in_err-raise_entry.ensures) tries
+    tries_passed c.from_residual-in_err-raise_entry.result fault (λ r. Does done r old new c.args.self.now c.raise_entry.new.store t (write_turn s c.args.number c.args.text.now)) c.from_residual-in_err-raise_entry.ensures
+    (write_does (Err fault) old new c.args.self.now c.raise_entry.new.store t s c.args.number c.args.text.now same (raw.reads t tells here).test (c.in_ok-check_write.ensures.test t.base.image (c.is_read_only.ensures ∙ still.agrees.read_only))
+    (entries_some _ t.base.image c.self.invariant.0 here.files.agrees.page_size)
+    (unraised fault old _ new c.args.self.now _ c.raise_entry.new.store t c.args.number c.args.text.now (raw.looks.same ∙ ap but_pages c.self.view_is) raw.looks.quiet is (c.in_err-raise_entry.ensures.tries t tells still)))
+
+pub returns-in_err-raise_entry-clause-on_memory : goal.returns-in_err-raise_entry-clause-on_memory
+returns-in_err-raise_entry-clause-on_memory g c s t tells same is =
+    let old = g.H.Host.world c.args.host.now in
+    let new = g.H.Host.world c.raise_entry.new.host in
+    let here = subst (λ (h : Held). IsOpen old h t) (sym c.self.view_is) is in
+    let raw = c.in_ok-read_raw.ensures in
+    let still = raw.looks.opened t tells here in
+    let fault = c.in_err-raise_entry.field-0.0 in
+    tries_passed c.from_residual-in_err-raise_entry.result fault (λ r. WhereMemory r (StopsShort old new c.args.self.now c.raise_entry.new.store t (write_turn s c.args.number c.args.text.now).strokes)) c.from_residual-in_err-raise_entry.ensures
+    (write_stops (Err fault) old new c.args.self.now c.raise_entry.new.store t s c.args.number c.args.text.now same (raw.reads t tells here).test (c.in_ok-check_write.ensures.test t.base.image (c.is_read_only.ensures ∙ still.agrees.read_only))
+    (entries_some _ t.base.image c.self.invariant.0 here.files.agrees.page_size)
+    (unraised fault old _ new c.args.self.now _ c.raise_entry.new.store t c.args.number c.args.text.now (raw.looks.same ∙ ap but_pages c.self.view_is) raw.looks.quiet is (c.in_err-raise_entry.ensures.tries t tells still)))
 
 pub returns-clause-turn : goal.returns-clause-turn
 returns-clause-turn g c s t tells same is =
     let at = (goal.at.returns-clause-turn g c).After-deref_mut-2 in
-    write_does (Ok tt) _ _ _ _ _ _ t s c.args.number c.args.text.now _ same (taken g at t tells is) (free g at t tells is) (some g at t tells is) (raised g at t tells is) (read g at t tells is) tt
-    (λ u opened is. c.in_ok-write_raw.ensures.makes u tells opened is) (λ u opened. tt)
+    write_does (Ok tt) _ _ _ _ t s c.args.number c.args.text.now same (taken g at t tells is) (free g at t tells is) (some g at t tells is)
+    (written g at t tells is (Ok tt) _ c.write_raw.new.store tt (λ u opened is. c.in_ok-write_raw.ensures.makes u tells opened is) (λ u opened. tt))
 
 pub returns-in_err-write_raw-clause-turn : goal.returns-in_err-write_raw-clause-turn
 returns-in_err-write_raw-clause-turn g c s t tells same is =
     let at = (goal.at.returns-in_err-write_raw-clause-turn g c).After-deref_mut-2 in
     let error = c.in_err-write_raw.field-0.0 in
-    let turn = write_turn s c.args.number c.args.text.now in
-    tries_passed c.from_residual-in_err-write_raw.result (as_fault error) (λ r. Does done r (g.H.Host.world c.args.host.now) (g.H.Host.world c.write_raw.new.host) c.args.self.now c.write_raw.new.store t turn) c.from_residual-in_err-write_raw.ensures
-    (write_does (Err (as_fault error)) _ _ _ _ _ _ t s c.args.number c.args.text.now _ same (taken g at t tells is) (free g at t tells is) (some g at t tells is) (raised g at t tells is) (read g at t tells is) (none_refused error)
-    (λ u opened is. c.in_err-write_raw.ensures.makes u tells opened is)
-    (λ u opened. wanted_by (Unit {0}) (Unit {0}) error _ (λ e. c.in_err-write_raw.ensures.on_memory u tells opened e)))
-
-pub returns-in_err-raise_entry-clause-on_memory : goal.returns-in_err-raise_entry-clause-on_memory
-returns-in_err-raise_entry-clause-on_memory g c t tells is memory =
-    let here = subst (λ (h : Held). IsOpen (g.H.Host.world c.args.host.now) h t) (sym c.self.view_is) is in
-    let raw = c.in_ok-read_raw.ensures in
-    let wants = sym (passed_on c.from_residual-in_err-raise_entry.result c.in_err-raise_entry.field-0.0 c.from_residual-in_err-raise_entry.ensures) ∙ memory in
-    let left = c.in_err-raise_entry.ensures.on_memory t tells (raw.looks.opened t tells here) wants in
-    stops_after _ _ _ c.args.self.now _ c.raise_entry.new.store t _ (raw.looks.same ∙ ap but_pages c.self.view_is) raw.looks.quiet is (stops_first _ _ c.read_raw.new.store c.raise_entry.new.store t _ left.0 left.1)
+    tries_passed c.from_residual-in_err-write_raw.result (as_fault error) (λ r. Does done r (g.H.Host.world c.args.host.now) (g.H.Host.world c.write_raw.new.host) c.args.self.now c.write_raw.new.store t (write_turn s c.args.number c.args.text.now)) c.from_residual-in_err-write_raw.ensures
+    (write_does (Err (as_fault error)) _ _ _ _ t s c.args.number c.args.text.now same (taken g at t tells is) (free g at t tells is) (some g at t tells is)
+    (written g at t tells is (Err (as_fault error)) _ c.write_raw.new.store (none_refused error) (λ u opened is. c.in_err-write_raw.ensures.makes u tells opened is)
+    (λ u opened. wanted_by (Unit {0}) (Unit {0}) error _ (λ e. c.in_err-write_raw.ensures.on_memory u tells opened e))))
 
 pub returns-in_err-write_raw-clause-on_memory : goal.returns-in_err-write_raw-clause-on_memory
-returns-in_err-write_raw-clause-on_memory g c t tells is memory =
-    let first = raised g (goal.at.returns-in_err-write_raw-clause-on_memory g c).After-deref_mut-2 t tells is in
-    let xs : List Stroke = raise_strokes t.base.image c.args.number in
-    let wants = memory_wanted c.from_residual-in_err-write_raw.result c.in_err-write_raw.field-0.0 c.from_residual-in_err-write_raw.ensures (Unit {0}) memory in
-    let left = c.in_err-write_raw.ensures.on_memory (after_strokes t xs) tells (tries_opened tt _ _ c.args.self.now c.raise_entry.new.store t _ xs first) wants in
-    stops_then _ _ _ c.args.self.now c.raise_entry.new.store c.write_raw.new.store t _ xs first left.0 left.1
+returns-in_err-write_raw-clause-on_memory g c s t tells same is =
+    let at = (goal.at.returns-in_err-write_raw-clause-on_memory g c).After-deref_mut-2 in
+    let error = c.in_err-write_raw.field-0.0 in
+    tries_passed c.from_residual-in_err-write_raw.result (as_fault error) (λ r. WhereMemory r (StopsShort (g.H.Host.world c.args.host.now) (g.H.Host.world c.write_raw.new.host) c.args.self.now c.write_raw.new.store t (write_turn s c.args.number c.args.text.now).strokes)) c.from_residual-in_err-write_raw.ensures
+    (write_stops (Err (as_fault error)) _ _ _ _ t s c.args.number c.args.text.now same (taken g at t tells is) (free g at t tells is) (some g at t tells is)
+    (written g at t tells is (Err (as_fault error)) _ c.write_raw.new.store (none_refused error) (λ u opened is. c.in_err-write_raw.ensures.makes u tells opened is)
+    (λ u opened. wanted_by (Unit {0}) (Unit {0}) error _ (λ e. c.in_err-write_raw.ensures.on_memory u tells opened e))))
+
+pub returns-in_err-read_raw-clause-on_memory : goal.returns-in_err-read_raw-clause-on_memory
+returns-in_err-read_raw-clause-on_memory g c s t tells same is = not_passed c.from_residual.result c.in_err-read_raw.field-0.0 _ c.from_residual.ensures c.in_err-read_raw.ensures.takes_none
+
+pub returns-in_err-check_write-clause-on_memory : goal.returns-in_err-check_write-clause-on_memory
+returns-in_err-check_write-clause-on_memory g c s t tells same is = not_passed c.from_residual-in_err-check_write.result c.in_err-check_write.field-0.0 _ c.from_residual-in_err-check_write.ensures c.in_err-check_write.ensures.takes_none
 
 pub returns-in_err-write_raw-clause-cause : goal.returns-in_err-write_raw-clause-cause
 returns-in_err-write_raw-clause-cause g c =

@@ -1,8 +1,15 @@
-use Rattle.std.proofs.Common.{◌≡◌, ℕ, [], ◌∙◌, refl, sym, ap, subst, true, None}
-use Rattle.nb_engine.proofs.Common.{Quiet, quiet_begun, Done, is_read_only, flag, Cause, read_only, Seen, byte_strokes, forced_turn, Strikes, Held, IsOpen, NoPageWaits, but_pages, name_of, Tries, done, seeing, if_ok, tries_failed, tries_does, refused_memory}
+use Rattle.std.proofs.Common.{◌≡◌, ℕ, ◌∙◌, refl, sym, ap, subst, true, None, Result}
+use Rattle.nb_engine.proofs.Common.{World, Fault, Quiet, quiet_begun, Done, is_read_only, flag, Cause, read_only, Seen, byte_strokes, forced_turn, Trail, Held, IsOpen, NoPageWaits, but_pages, Tries, done, seeing, if_ok, tries_failed, tries_does, tries_stops, refused_memory}
 use Rattle.nb_engine.proofs.FreeLaws.{closed_cause, open_cause}
 use Rattle.nb_engine.proofs.FlagLaws.{forced_is}
 use Rattle.nb_engine.proofs.engine.Engine.set_forced.Goals as goal
+
+-- The flag is put, where the database may be changed.
+flag_tries : (result : Result (Unit {0}) Fault) (old new : World) (inside a b : Held) (t : Trail) (at bit : ℕ) → inside ≡ a → at ≡ 64 → read_only t.base.image ≡ None → Tries result old new inside b t None (byte_strokes at bit t.base.image)
+    → Tries result old new a b t (read_only t.base.image) (byte_strokes 64 bit t.base.image)
+flag_tries result old new inside a b t at bit same is free tries =
+    subst (λ (h : Held). Tries result old new h b t (read_only t.base.image) (byte_strokes 64 bit t.base.image)) same
+    (subst (λ (k : Cause). Tries result old new inside b t k (byte_strokes 64 bit t.base.image)) (sym free) (subst (λ (n : ℕ). Tries result old new inside b t None (byte_strokes n bit t.base.image)) is tries))
 
 pub returns-then-is_read_only-clause-turn : goal.returns-then-is_read_only-clause-turn
 returns-then-is_read_only-clause-turn g c s t tells same is =
@@ -17,20 +24,20 @@ returns-clause-turn g c s t tells same is =
     let old = g.H.Host.world c.args.host.now in
     let new = g.H.Host.world c.put_flag.new.host in
     let here = subst (λ (h : Held). IsOpen old h t) (sym c.self.view_is) is in
-    let free : None ≡ read_only t.base.image = sym (open_cause t.base.image (sym here.agrees.read_only ∙ sym c.is_read_only.ensures ∙ c.if-is_read_only.false)) in
     let result = c.put_flag.result in
-    let xs = byte_strokes 64 (flag c.args.on) t.base.image in
-    let made = subst (λ (n : ℕ). Tries result old new c.self.inside.store c.put_flag.new.store t None (byte_strokes n (flag c.args.on) t.base.image)) (ap (λ (place : ℕ × ℕ). place.0) c.place-at.ensures) (c.put_flag.ensures.tries t tells here) in
-    let tries = subst (λ (k : Cause). Tries result old new c.self.inside.store c.put_flag.new.store t k xs) free made in
-    tries_does done result old new _ _ t s (λ (x : Seen). forced_turn x c.args.on) _ Done refl _ same (forced_is (seeing s t.base) c.args.on) (if_ok result (λ value. done value ≡ Done) (λ value. refl))
-    (subst (λ (h : Held). Tries result old new h c.put_flag.new.store t (read_only t.base.image) xs) c.self.view_is tries)
+    let tries = flag_tries result old new _ _ c.put_flag.new.store t c.place-at.result.0 (flag c.args.on) c.self.view_is (ap (λ (place : ℕ × ℕ). place.0) c.place-at.ensures)
+    (open_cause t.base.image (sym here.agrees.read_only ∙ sym c.is_read_only.ensures ∙ c.if-is_read_only.false)) (c.put_flag.ensures.tries t tells here) in
+    tries_does done result old new _ _ t s (λ (x : Seen). forced_turn x c.args.on) _ Done refl _ same (forced_is (seeing s t.base) c.args.on) (if_ok result (λ value. done value ≡ Done) (λ value. refl)) tries
 
 pub returns-clause-on_memory : goal.returns-clause-on_memory
-returns-clause-on_memory g c t tells is memory =
+returns-clause-on_memory g c s t tells same is =
     let old = g.H.Host.world c.args.host.now in
     let new = g.H.Host.world c.put_flag.new.host in
     let here = subst (λ (h : Held). IsOpen old h t) (sym c.self.view_is) is in
-    subst (λ (h : Held). Strikes old new (name_of h) t [] × IsOpen new c.put_flag.new.store t) c.self.view_is (c.put_flag.ensures.on_memory t tells here memory)
+    let result = c.put_flag.result in
+    let tries = flag_tries result old new _ _ c.put_flag.new.store t c.place-at.result.0 (flag c.args.on) c.self.view_is (ap (λ (place : ℕ × ℕ). place.0) c.place-at.ensures)
+    (open_cause t.base.image (sym here.agrees.read_only ∙ sym c.is_read_only.ensures ∙ c.if-is_read_only.false)) (c.put_flag.ensures.tries t tells here) in
+    tries_stops result old new _ _ t s (λ (x : Seen). forced_turn x c.args.on) _ Done _ same (forced_is (seeing s t.base) c.args.on) tries
 
 pub returns-clause-forced : goal.returns-clause-forced
 returns-clause-forced g c t tells is forced memory =
