@@ -1,14 +1,20 @@
 // The line of a reply.
-ghost use Rattle.std.specs.Prelude.{◌≡◌, ◌++◌, ◌∷◌, [], take, drop, IfOk, IfErr, OnOk};
+ghost use Rattle.std.specs.Prelude.{◌≡◌, ◌++◌, ◌∷◌, [], ◌+◌, ◌≤◌, take, drop, true, IsOk, IfOk, IfErr, OnOk};
+ghost use Rattle.std.specs.Vec.{vec_capacity, vec_len};
 ghost use Rattle.nb_host.specs.declared.faults.Fault.TheVariants.{Memory};
 ghost use Rattle.nb_model.specs.declared.reply.Reply.TheVariants.{Leaked, Planned};
 ghost use Rattle.nb_model.specs.Lines.{is, line_text, number, spaced, name_words, page_words, reply_words, refusal_words, row_words};
+ghost use Rattle.nb_lines.specs.Brief.{is_brief, HasRoom};
 ghost use Rattle.nb_lines.specs.Words.{shown_words};
 
-use crate::word::{Word, push_number, push_ok, push_one, push_two, push_words};
+use crate::brief::push_brief;
+use crate::word::{Word, push_number, push_ok, push_two, push_words};
 use nb_host::{Fault, Name, Refusal};
 use nb_model::{NameList, PageList, Reply, RowList};
 use std::alloc::{AllocError, Global};
+
+/// As many bytes as the line of a reply that says what was done has at most.
+const ROOM: usize = 192;
 
 /// The number and the name of a refusal.
 fn name_of(refusal: &Refusal) -> (u64, &'static str)
@@ -253,34 +259,22 @@ fn push_shown(line: &mut Vec<u8>, reply: &Reply) -> Result<(), AllocError>
 
 /// The words of a reply.
 fn push_reply(line: &mut Vec<u8>, reply: &Reply) -> Result<(), AllocError>
-    ensures { OnOk result (line.new.items ≡ line.old.items ++ spaced (reply_words reply.now)) }
+    ensures words { OnOk result (line.new.items ≡ line.old.items ++ spaced (reply_words reply.now)) }
+    ensures brief { is_brief reply.now ≡ true → (vec_len line.old + 150 ≤ vec_capacity line.old → IsOk result)
+        × OnOk result ((vec_capacity line.old ≤ vec_capacity line.new) × (vec_len line.new ≤ vec_len line.old + 150)) }
 {
     match reply {
-        Reply::Done => push_ok(line, &[]),
-        Reply::Pages { pages } => push_one(line, "pages", *pages as u64),
+        Reply::Done
+        | Reply::Pages { .. }
+        | Reply::PageMade { .. }
+        | Reply::Scn { .. }
+        | Reply::ScnPages { .. }
+        | Reply::Level { .. }
+        | Reply::Freed { .. } => push_brief(line, reply),
         Reply::Opened { pages, state } => {
             push_two(line, ("pages", *pages as u64), ("state", *state as u64))
         }
-        Reply::PageMade { page } => push_one(line, "page", *page as u64),
         Reply::Value { text } => push_words(line, &[Word::Is("ok"), Word::Quoted(text.as_slice())]),
-        Reply::Scn { scn } => push_one(line, "scn", *scn as u64),
-        Reply::ScnPages { scn, pages } => {
-            push_two(line, ("scn", *scn as u64), ("pages", *pages as u64))
-        }
-        Reply::Level {
-            level,
-            scn,
-            pages,
-            guid,
-        } => push_ok(
-            line,
-            &[
-                ("level", Word::Number(*level as u64)),
-                ("scn", Word::Number(*scn as u64)),
-                ("pages", Word::Number(*pages as u64)),
-                ("guid", Word::Guid(guid)),
-            ],
-        ),
         Reply::Rows { rows } => {
             push_ok(line, &[("rows", Word::Number(rows.len() as u64))])?;
             push_rows(line, rows)?;
@@ -291,7 +285,6 @@ fn push_reply(line: &mut Vec<u8>, reply: &Reply) -> Result<(), AllocError>
         | Reply::ImageShown { .. }
         | Reply::CacheShown { .. } => push_shown(line, reply),
         Reply::Leaked { pages } => push_leaked(line, pages),
-        Reply::Freed { pages } => push_one(line, "freed", *pages as u64),
         Reply::Planned {
             kept,
             dropped,
@@ -305,15 +298,35 @@ fn push_reply(line: &mut Vec<u8>, reply: &Reply) -> Result<(), AllocError>
     }
 }
 
-/// The line of a reply to that session, with its line feed.
-pub(crate) fn line_of(alloc: Global, session: u32, reply: &Reply) -> Result<Vec<u8>, AllocError>
-    ensures { IfOk result (λ line. line.items ≡ line_text session reply.now) }
+/// Writes the line of a reply to that session, with its line feed.
+fn write_line(line: &mut Vec<u8>, session: u32, reply: &Reply) -> Result<(), AllocError>
+    requires empty { line.old.items ≡ [] }
+    ensures line { OnOk result (line.new.items ≡ line_text session reply.now) }
+    ensures brief { is_brief reply.now ≡ true → 192 ≤ vec_capacity line.old → IsOk result }
 {
-    let mut line = Vec::new(alloc);
-    push_number(&mut line, session as u64)?;
+    push_number(line, session as u64)?;
     line.push(b':')?;
-    push_reply(&mut line, reply)?;
+    push_reply(line, reply)?;
     line.push(b'\n')?;
+    Ok(())
+}
+
+/// Memory for a line, as much as a brief one has at most.
+pub fn room(alloc: Global) -> Result<Vec<u8>, Fault>
+    ensures room { IfOk result HasRoom }
+    ensures only_memory { IfErr result (λ fault. fault ≡ Memory) }
+{
+    Ok(Vec::with_capacity(alloc, ROOM)?)
+}
+
+/// The line of a reply to that session, with its line feed, in that memory. Of a reply that says what was done it wants no more.
+pub fn render_in(mut line: Vec<u8>, session: u32, reply: &Reply) -> Result<Vec<u8>, Fault>
+    requires room { HasRoom line }
+    ensures line { IfOk result (λ line. line.items ≡ line_text session reply.now) }
+    ensures brief { is_brief reply.now ≡ true → IsOk result }
+    ensures only_memory { IfErr result (λ fault. fault ≡ Memory) }
+{
+    write_line(&mut line, session, reply)?;
     Ok(line)
 }
 
@@ -322,5 +335,6 @@ pub fn render(alloc: Global, session: u32, reply: &Reply) -> Result<Vec<u8>, Fau
     ensures line { IfOk result (λ line. line.items ≡ line_text session reply.now) }
     ensures only_memory { IfErr result (λ fault. fault ≡ Memory) }
 {
-    Ok(line_of(alloc, session, reply)?)
+    let line = room(alloc)?;
+    render_in(line, session, reply)
 }

@@ -1,5 +1,6 @@
 // The words of a reply's line.
-ghost use Rattle.std.specs.Prelude.{◌≡◌, ◌++◌, ◌∷◌, [], map, flat_map, codes, OnOk};
+ghost use Rattle.std.specs.Prelude.{◌≡◌, ◌++◌, ◌∷◌, [], ◌+◌, ◌≤◌, map, flat_map, codes, IsOk, OnOk};
+ghost use Rattle.std.specs.Vec.{vec_capacity, vec_len};
 ghost use Rattle.std.specs.Fmt.{decimal};
 ghost use Rattle.uuid.specs.Text.{hyphenated_text, lower};
 ghost use Rattle.hex.specs.Hex.{encode_lower};
@@ -28,19 +29,27 @@ pub enum Word<'a> {
 
 /// Appends a number in decimal.
 pub fn push_number(line: &mut Vec<u8>, number: u64) -> Result<(), AllocError>
-    ensures { OnOk result (line.new.items ≡ line.old.items ++ decimal number) }
+    ensures digits { OnOk result (line.new.items ≡ line.old.items ++ decimal number) }
+    ensures grows { vec_capacity line.old ≤ vec_capacity line.new }
+    ensures room { vec_len line.old + 20 ≤ vec_capacity line.old → IsOk result }
+    ensures long { OnOk result (vec_len line.new ≤ vec_len line.old + 20) }
 {
     let mut buffer = itoa::Buffer::new();
     line.extend_from_slice(buffer.format(number).as_bytes())
 }
 
-fn push_guid(line: &mut Vec<u8>, guid: &[u8; 16]) -> Result<(), AllocError>
-    ensures { OnOk result (line.new.items ≡ line.old.items ++ hyphenated_text lower guid.now) }
+/// Appends a GUID, hyphenated, in lower case.
+pub fn push_guid(line: &mut Vec<u8>, guid: &[u8; 16]) -> Result<(), AllocError>
+    ensures text { OnOk result (line.new.items ≡ line.old.items ++ hyphenated_text lower guid.now) }
+    ensures grows { vec_capacity line.old ≤ vec_capacity line.new }
+    ensures room { vec_len line.old + 36 ≤ vec_capacity line.old → IsOk result }
+    ensures long { OnOk result (vec_len line.new ≤ vec_len line.old + 36) }
 {
     let mut buffer = Uuid::encode_buffer();
     let id = Uuid::from_bytes(*guid);
     let text = id.hyphenated().encode_lower(&mut buffer);
-    line.extend_from_slice(text.as_bytes())
+    line.extend_from_slice(text.as_bytes())?;
+    Ok(())
 }
 
 fn push_digest(line: &mut Vec<u8>, digest: &[u8; 32]) -> Result<(), AllocError>
@@ -94,13 +103,6 @@ pub fn push_ok(line: &mut Vec<u8>, fields: &[(&str, Word<'_>)]) -> Result<(), Al
         push_words(line, &[Word::Is(*name), *value])?;
     }
     Ok(())
-}
-
-/// Appends `ok` and one number by its name.
-pub fn push_one(line: &mut Vec<u8>, name: &str, value: u64) -> Result<(), AllocError>
-    ensures { OnOk result (line.new.items ≡ line.old.items ++ spaced (is (codes "ok") ∷ is name.now ∷ number value ∷ [])) }
-{
-    push_ok(line, &[(name, Word::Number(value))])
 }
 
 /// Appends `ok` and two numbers, each by its name.

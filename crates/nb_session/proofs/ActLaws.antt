@@ -1,11 +1,16 @@
 -- What the calls of the engine make of a turn.
-use Rattle.std.proofs.Common.{◌≡◌, ◌⊎◌, inl, inr, ℕ, List, [], ◌∷◌, ◌++◌, length, drop, replicate, refl, sym, ap, subst, ◌∙◌, arith, Result, Ok, Err, IsErr, IsErrAnd, Option, Some, None, Contains, true, false}
-use Rattle.nb_session.proofs.Common.{slice_index_or, true≢false, append-nil, append_cancel_left, World, IsTimely, Fault, Refused, Device, Memory, Quiet, Changes, Reached, GaveNothing, weakened, Reply, Done, CacheShown, Statement, BeginBackup, Sync, ShowCache, Foretells, WasGiven, MadeFile, Turn, Begins, Seen, Given, Outcome, next_guid, next_hold, without_hold, says, begin_turn, cache_turn, Now, Event, base_now, outcome, event_of, is_sync, files_made, Step, steps_in, after_steps, made, settles, Stroke, Trail, StandsIn, settled, after_stroke, first_turn, IsOnce, left_by, pages_once, steps_plain, after_settling, OfFiles, Strikes, after_strokes, Held, IsOpen, but_pages, name_of, WhereEnded, Answers, Does, GaveAtMost, where_ended, none_yet, scn_is, SaysNone, DoesBegin, Says, Grows, shown_by, Touched, TurnLeft, AreKept, Acts, MayAct, IsReady, has_only_told, Replies, some_said, only_told, quiet_begun, AreWhole, Files}
+use Rattle.std.proofs.Common.{◌≡◌, ◌≢◌, ◌⊎◌, inl, inr, ℕ, List, [], ◌∷◌, ◌++◌, length, drop, replicate, refl, sym, ap, subst, ◌∙◌, arith, Result, Ok, Err, IsErr, IsErrAnd, IfErr, Option, Some, None, Contains, true, false}
+use Rattle.nb_session.proofs.Common.{slice_index_or, true≢false, append-nil, append_cancel_left, World, IsTimely, Fault, Refused, Device, Memory, Quiet, Changes, Reached, reached_first, GaveNothing, weaker, weakened, Reply, Done, CacheShown, Statement, BeginBackup, Sync, ShowCache, Foretells, WasGiven, MadeFile, Turn, Begins, Seen, Given, Outcome, next_guid, next_hold, without_hold, says, begin_turn, cache_turn, Now, Event, base_now, outcome, event_of, is_sync, files_made, Step, steps_in, after_steps, made, settles, Stroke, Trail, StandsIn, settled, after_stroke, first_turn, IsOnce, left_by, pages_once, steps_plain, after_settling, OfFiles, Strikes, after_strokes, Held, IsOpen, but_pages, name_of, WhereEnded, Answers, Does, GaveAtMost, where_ended, none_yet, scn_is, SaysNone, DoesBegin, Says, Grows, shown_by, Touched, TurnLeft, AreKept, Acts, MayAct, IsReady, has_only_told, Replies, some_said, only_told, quiet_begun, AreWhole, Files}
+use Rattle.nb_base.proofs.TouchLaws.{strikes_in}
 use Rattle.nb_model.specs.Well.{is_on_pages}
 use Rattle.nb_session.proofs.EventLaws.{strokes_are_steps, told_reply}
 use Rattle.nb_session.proofs.GiftLaws.{given_nothing, grows_none}
 use Rattle.nb_session.proofs.KeepLaws.{begin_gives, begin_refused, begin_running, begin_made}
+use Rattle.nb_session.proofs.ShortLaws.{lacks_none, wanted_any}
 use Rattle.nb_session.proofs.TurnLaws.{seen_now, outcome_is}
+use Rattle.nb_alloc.proofs.WantLaws.{not_wanted}
+use Rattle.nb_alloc.specs.Tries.{WhereMemory}
+use Rattle.nb_session.specs.Short.{LacksLast}
 
 -- an event that made no file
 event_none : (e : Event) (name bytes : List ℕ) → e.made ≡ None → Contains (files_made (e ∷ [])) (name, bytes) → ⊥
@@ -50,12 +55,22 @@ ended_map (Err (Refused refusal)) f is = f is
 ended_map (Err Device) f is = tt
 ended_map (Err Memory) f is = tt
 
+-- a turn without operations lacks none
+pub left_lacks : (old new : World) (name : List ℕ) (t : Trail) (ss : List Stroke) (files whole : List MadeFile) → ss ≡ [] → Changes old new (Touched name files) (TurnLeft old name t ss files whole) → LacksLast old new name t ss
+left_lacks old new name t ss files whole none left = record {
+  few = [];
+  rest = [];
+  whole = sym none;
+  short = λ same. none;
+  left = weaker old new _ _ left.moments (λ fs said is. subst (λ (xs : List Stroke). Reached after_stroke (StandsIn name) t xs fs) none is.has.database);
+}
+
 -- The answer of one call, said of another.
 module _ {T S : Type 0} (reply : T → Option Reply) (other : S → Option Reply) (old new : World) (a b : Held) (t : Trail) (now : Now) (session : ℕ) (turn : Turn) (files : List MadeFile) where
   by_fault : (fault : Fault) → Acts reply (Err fault) old new a b t now session turn files → Acts other (Err fault) old new a b t now session turn files
-  by_fault (Refused refusal) acts = record { says = acts.says; left = acts.left; opened = acts.opened; running = acts.running; given = acts.given; kept = acts.kept; unchanged = acts.unchanged; name = acts.name; cap = acts.cap }
-  by_fault Device acts = record { says = acts.says; left = acts.left; opened = acts.opened; running = acts.running; given = acts.given; kept = acts.kept; unchanged = acts.unchanged; name = acts.name; cap = acts.cap }
-  by_fault Memory acts = record { says = acts.says; left = acts.left; opened = acts.opened; running = acts.running; given = acts.given; kept = acts.kept; unchanged = acts.unchanged; name = acts.name; cap = acts.cap }
+  by_fault (Refused refusal) acts = record { says = acts.says; left = acts.left; opened = acts.opened; running = acts.running; given = acts.given; kept = acts.kept; unchanged = acts.unchanged; short = acts.short; name = acts.name; cap = acts.cap }
+  by_fault Device acts = record { says = acts.says; left = acts.left; opened = acts.opened; running = acts.running; given = acts.given; kept = acts.kept; unchanged = acts.unchanged; short = acts.short; name = acts.name; cap = acts.cap }
+  by_fault Memory acts = record { says = acts.says; left = acts.left; opened = acts.opened; running = acts.running; given = acts.given; kept = acts.kept; unchanged = acts.unchanged; short = acts.short; name = acts.name; cap = acts.cap }
 
   -- it is passed on at the exit of a `?`
   pub may_passed : (fault : Fault) (result : Result S Fault) → IsErr result × IsErrAnd result (λ e. e ≡ fault) → MayAct reply (Err fault) old new a b t now session turn files → MayAct other result old new a b t now session turn files
@@ -63,20 +78,20 @@ module _ {T S : Type 0} (reply : T → Option Reply) (other : S → Option Reply
   may_passed fault (Err e) is may =
       subst (λ (f : Fault). MayAct other (Err f) old new a b t now session turn files) (sym is.1) (record { grows = may.grows; acts = λ told. by_fault fault (may.acts told) })
 
-  -- memory runs out after it
-  pub may_then_memory : (value : T) (fault : Fault) (result : Result S Fault) → fault ≡ Memory → IsErr result × IsErrAnd result (λ e. e ≡ fault) → MayAct reply (Ok value) old new a b t now session turn files → MayAct other result old new a b t now session turn files
-  may_then_memory value fault (Ok x) memory is may = absurd is.1
-  may_then_memory value fault (Err e) memory is may =
+  -- memory runs out after it, where it makes no operation
+  pub may_then_memory : (value : T) (fault : Fault) (result : Result S Fault) → (outcome session turn now).strokes ≡ [] → fault ≡ Memory → IsErr result × IsErrAnd result (λ e. e ≡ fault) → MayAct reply (Ok value) old new a b t now session turn files → MayAct other result old new a b t now session turn files
+  may_then_memory value fault (Ok x) none memory is may = absurd is.1
+  may_then_memory value fault (Err e) none memory is may =
       subst (λ (f : Fault). MayAct other (Err f) old new a b t now session turn files) (sym (is.1 ∙ memory)) (record {
         grows = may.grows;
-        acts = λ told. let acts = may.acts told in record { says = tt; left = acts.left; opened = tt; running = tt; given = tt; kept = tt; unchanged = acts.unchanged; name = acts.name; cap = acts.cap };
+        acts = λ told. let acts = may.acts told in record { says = tt; left = acts.left; opened = tt; running = tt; given = tt; kept = tt; unchanged = acts.unchanged; short = left_lacks old new (name_of a) t _ files _ none acts.left; name = acts.name; cap = acts.cap };
       })
 
   -- the same value, said otherwise
   pub may_value : (value : T) (said : S) → reply value ≡ other said → MayAct reply (Ok value) old new a b t now session turn files → MayAct other (Ok said) old new a b t now session turn files
   may_value value said same may = record {
     grows = may.grows;
-    acts = λ told. let acts = may.acts told in record { says = acts.says ∙ same; left = acts.left; opened = acts.opened; running = acts.running; given = acts.given; kept = acts.kept; unchanged = acts.unchanged; name = acts.name; cap = acts.cap };
+    acts = λ told. let acts = may.acts told in record { says = acts.says ∙ same; left = acts.left; opened = acts.opened; running = acts.running; given = acts.given; kept = acts.kept; unchanged = acts.unchanged; short = tt; name = acts.name; cap = acts.cap };
   }
 
 -- the trail after a turn that waits for nothing
@@ -87,11 +102,32 @@ trail_plain t e plain = strokes_are_steps t e.strokes ∙ ap (after_steps t) (sy
 pub idle_unchanged : (old new : World) (reply : Option Reply) (e : Event) → reply ≡ e.reply → (has_only_told reply ≡ true → Quiet old new) → only_told e ≡ true → new.files ≡ old.files
 idle_unchanged old new reply e same idle told = (idle (ap has_only_told same ∙ told_reply e told)).still.files
 
+-- Memory ran out before anything was done.
+pub nothing_acts : {T : Type 0} (reply : T → Option Reply) (w : World) (held : Held) (t : Trail) (now : Now) (session : ℕ) (turn : Turn) → IsTimely w → IsReady w held t now → MayAct reply (Err Memory) w w held held t now session turn []
+nothing_acts reply w held t now session turn timely ready =
+    let still : Strikes w w (name_of held) t [] = none_yet w w held t [] (quiet_begun w timely) ready.opened in
+    record {
+      grows = grows_none w w (record { guids = refl; times = refl });
+      acts = λ told. record {
+        says = tt;
+        left = weakened w w (OfFiles (name_of held)) (Touched (name_of held) []) (Reached after_stroke (StandsIn (name_of held)) t []) (TurnLeft w (name_of held) t (outcome session turn now).strokes [] _) still (λ m one. inl one)
+            (λ files others has. record { database = reached_first after_stroke (StandsIn (name_of held)) t (outcome session turn now).strokes files has; each = λ n bytes there. absurd (omega (arith, there.1)); whole_first = inl has });
+        opened = tt;
+        running = tt;
+        given = tt;
+        kept = tt;
+        unchanged = λ told. refl;
+        short = record { few = []; rest = (outcome session turn now).strokes; whole = refl; short = λ none. none; left = weaker w w _ _ still.moments (λ files said left. left.has) };
+        name = refl;
+        cap = refl;
+      };
+    }
+
 -- A statement on pages, by what the engine does of its turn.
 pub does_acts : {T : Type 0} (reply : T → Reply) (result : Result T Fault) (old new : World) (a b : Held) (t : Trail) (now : Now) (session : ℕ) (statement it : Statement) → statement ≡ it → is_sync (Begins it) ≡ false → is_on_pages it ≡ true
-    → left_by it now.given ≡ now.given → (o : Outcome) → o ≡ first_turn (seen_now now) session it → IsReady old a t now → Does reply result old new a b t o
-    → MayAct (some_by reply) result old new a b t now session (Begins statement) []
-does_acts reply result old new a b t now session statement it is plain on none o turn_is ready does =
+    → left_by it now.given ≡ now.given → (o : Outcome) → o ≡ first_turn (seen_now now) session it → IsReady old a t now → WhereMemory result (LacksLast old new (name_of a) t o.strokes)
+    → Does reply result old new a b t o → MayAct (some_by reply) result old new a b t now session (Begins statement) []
+does_acts reply result old new a b t now session statement it is plain on none o turn_is ready short does =
     let this : Outcome = outcome session (Begins statement) now in
     let first : this ≡ first_turn (seen_now now) session statement = outcome_is session statement now in
     let same : o ≡ this = turn_is ∙ ap (first_turn (seen_now now) session) (sym is) ∙ sym first in
@@ -101,13 +137,14 @@ does_acts reply result old new a b t now session statement it is plain on none o
       grows = grows_none old new does.makes.gave;
       acts = λ told. record {
         says = subst (λ (x : Outcome). Says (some_by reply) result x.reply) same (as_says reply result o.reply does.answer);
-        left = strikes_left old new (name_of a) t _ event (ap (λ (x : Outcome). x.made) first ∙ once.made) (subst (λ (x : Outcome). Strikes old new (name_of a) t x.strokes) same does.makes.left);
+        left = strikes_left old new (name_of a) t _ event (ap (λ (x : Outcome). x.made) first ∙ once.made) (subst (λ (x : Outcome). Strikes old new (name_of a) t x.strokes) same (strikes_in old new a.files.state (name_of a) t o.strokes does.makes.left));
         opened = ended_map result (subst (IsOpen new b) (trail_plain t event (ap (λ (x : Statement). is_sync (Begins x)) is ∙ plain)))
             (subst (λ (x : Outcome). WhereEnded result (IsOpen new b (after_strokes t x.strokes))) same does.makes.opened);
         running = where_ended result _ (does.makes.goes.running ∙ ready.running ∙ sym (ap (λ (x : Outcome). x.running) first ∙ once.running));
         given = where_ended result _ (given_nothing old new now.given this.given does.makes.gave (ap (λ (x : Outcome). x.given) first ∙ once.given ∙ ap (λ (x : Statement). left_by x now.given) is ∙ none));
         kept = where_ended result _ (kept_none new event (ap (λ (x : Outcome). x.made) first ∙ once.made));
         unchanged = idle_unchanged old new o.reply event (ap (λ (x : Outcome). x.reply) same) does.idle;
+        short = subst (λ (x : Outcome). WhereMemory result (LacksLast old new (name_of a) t x.strokes)) same short;
         name = does.makes.goes.name;
         cap = does.makes.goes.cap;
       };
@@ -117,25 +154,36 @@ does_acts reply result old new a b t now session statement it is plain on none o
 may_replied : {T : Type 0} (reply : T → Reply) (answer : Result T Fault) (result : Result Reply Fault) → Replies reply answer result → (old new : World) (a b : Held) (t : Trail) (now : Now) (session : ℕ) (turn : Turn) (files : List MadeFile)
     → MayAct (some_by reply) answer old new a b t now session turn files → MayAct some_said result old new a b t now session turn files
 may_replied reply (Ok value) (Ok said) is old new a b t now session turn files may = may_value (some_by reply) some_said old new a b t now session turn files value said (ap Some (sym is)) may
-may_replied reply (Ok value) (Err fault) is old new a b t now session turn files may = may_then_memory (some_by reply) some_said old new a b t now session turn files value fault (Err fault) is (refl, refl) may
+may_replied reply (Ok value) (Err fault) is old new a b t now session turn files may = absurd is
 may_replied reply (Err fault) (Ok said) is old new a b t now session turn files may = absurd is
 may_replied reply (Err fault) (Err other) is old new a b t now session turn files may = may_passed (some_by reply) some_said old new a b t now session turn files fault (Err other) (refl, is) may
 
 pub does_replied : {T : Type 0} (reply : T → Reply) (answer : Result T Fault) (result : Result Reply Fault) → Replies reply answer result → (old new : World) (a b : Held) (t : Trail) (now : Now) (session : ℕ) (statement it : Statement) → statement ≡ it
-    → is_sync (Begins it) ≡ false → is_on_pages it ≡ true → left_by it now.given ≡ now.given → (o : Outcome) → o ≡ first_turn (seen_now now) session it → IsReady old a t now → Does reply answer old new a b t o
+    → is_sync (Begins it) ≡ false → is_on_pages it ≡ true → left_by it now.given ≡ now.given → (o : Outcome) → o ≡ first_turn (seen_now now) session it → IsReady old a t now → WhereMemory answer (LacksLast old new (name_of a) t o.strokes)
+    → Does reply answer old new a b t o → MayAct some_said result old new a b t now session (Begins statement) []
+does_replied reply answer result replied old new a b t now session statement it is plain on none o turn_is ready short does =
+    may_replied reply answer result replied old new a b t now session (Begins statement) [] (does_acts reply answer old new a b t now session statement it is plain on none o turn_is ready short does)
+
+-- A statement that makes no operation.
+pub tells_replied : {T : Type 0} (reply : T → Reply) (answer : Result T Fault) (result : Result Reply Fault) → Replies reply answer result → (old new : World) (a b : Held) (t : Trail) (now : Now) (session : ℕ) (statement it : Statement) → statement ≡ it
+    → is_sync (Begins it) ≡ false → is_on_pages it ≡ true → left_by it now.given ≡ now.given → (o : Outcome) → o ≡ first_turn (seen_now now) session it → o.strokes ≡ [] → IsReady old a t now → Does reply answer old new a b t o
     → MayAct some_said result old new a b t now session (Begins statement) []
-does_replied reply answer result replied old new a b t now session statement it is plain on none o turn_is ready does =
-    may_replied reply answer result replied old new a b t now session (Begins statement) [] (does_acts reply answer old new a b t now session statement it is plain on none o turn_is ready does)
+tells_replied reply answer result replied old new a b t now session statement it is plain on none o turn_is no_stroke ready does =
+    does_replied reply answer result replied old new a b t now session statement it is plain on none o turn_is ready (wanted_any answer (lacks_none old new (name_of a) t o.strokes no_stroke (strikes_in old new a.files.state (name_of a) t o.strokes does.makes.left))) does
+
+-- Memory runs out for its reply.
+pub tells_unsaid : {T : Type 0} (reply : T → Reply) (value : T) (fault : Fault) (result : Result Reply Fault) → fault ≡ Memory → IsErr result × IsErrAnd result (λ e. e ≡ fault) → (old new : World) (a b : Held) (t : Trail) (now : Now) (session : ℕ)
+    (statement it : Statement) → statement ≡ it → is_sync (Begins it) ≡ false → is_on_pages it ≡ true → left_by it now.given ≡ now.given → (o : Outcome) → o ≡ first_turn (seen_now now) session it → o.strokes ≡ [] → IsReady old a t now
+    → Does reply (Ok value) old new a b t o → MayAct some_said result old new a b t now session (Begins statement) []
+tells_unsaid reply value fault result memory failed old new a b t now session statement it is plain on none o turn_is no_stroke ready does =
+    may_then_memory (some_by reply) some_said old new a b t now session (Begins statement) [] value fault result
+    (ap (λ (x : Outcome). x.strokes) (outcome_is session statement now ∙ ap (first_turn (seen_now now) session) is ∙ sym turn_is) ∙ no_stroke) memory failed
+    (does_acts reply (Ok value) old new a b t now session statement it is plain on none o turn_is ready tt does)
 
 -- a fault is handed on at the exit of a `?`
 pub replied_err : {T : Type 0} (reply : T → Reply) (fault : Fault) (result : Result Reply Fault) → IsErr result × IsErrAnd result (λ e. e ≡ fault) → Replies reply (Err fault) result
 replied_err reply fault (Ok said) is = absurd is.1
 replied_err reply fault (Err e) is = is.1
-
--- memory ran out for the reply
-pub replied_memory : {T : Type 0} (reply : T → Reply) (value : T) (fault : Fault) (result : Result Reply Fault) → fault ≡ Memory → IsErr result × IsErrAnd result (λ e. e ≡ fault) → Replies reply (Ok value) result
-replied_memory reply value fault (Ok said) memory is = absurd is.1
-replied_memory reply value fault (Err e) memory is = is.1 ∙ memory
 
 -- `sync`
 module _ (old new : World) (a b : Held) (t : Trail) (now : Now) (session : ℕ) (statement : Statement) (is : statement ≡ Sync) (ready : IsReady old a t now) (same : but_pages b ≡ but_pages a) (struck : Strikes old new (name_of a) t [])
@@ -169,6 +217,7 @@ module _ (old new : World) (a b : Held) (t : Trail) (now : Now) (session : ℕ) 
       given = given_nothing old new now.given (outcome session (Begins statement) now).given gave (ap (λ (x : Outcome). x.given) sync_turn);
       kept = kept_none new (event_of session (Begins statement) (outcome session (Begins statement) now)) (ap (λ (x : Outcome). x.made) sync_turn);
       unchanged = sync_told;
+      short = tt;
       name = ap (λ (h : Held). name_of h) same;
       cap = ap (λ (h : Held). h.cap) same;
     };
@@ -177,7 +226,7 @@ module _ (old new : World) (a b : Held) (t : Trail) (now : Now) (session : ℕ) 
   pub sync_failed : {T : Type 0} (reply : T → Option Reply) → MayAct reply (Err Device) old new a b t now session (Begins statement) []
   sync_failed reply = record {
     grows = grows_none old new gave;
-    acts = λ told. record { says = tt; left = sync_left; opened = tt; running = tt; given = tt; kept = tt; unchanged = sync_told; name = ap (λ (h : Held). name_of h) same; cap = ap (λ (h : Held). h.cap) same };
+    acts = λ told. record { says = tt; left = sync_left; opened = tt; running = tt; given = tt; kept = tt; unchanged = sync_told; short = tt; name = ap (λ (h : Held). name_of h) same; cap = ap (λ (h : Held). h.cap) same };
   }
 
 -- A value that was given, where the first of these were, is the next one of them.
@@ -196,7 +245,7 @@ grows_at_most old new guid sixteen (inl none) times = grows_none old new (record
 grows_at_most old new guid sixteen (inr gave) times = record { ids = guid ∷ []; clock = []; gave = record { guids = gave; times = times ∙ sym (append-nil old.times) }; sixteen = (sixteen, tt) }
 
 -- `alter database begin backup`
-module _ (result : Result ℕ Fault) (old new : World) (a b : Held) (t : Trail) (now : Now) (session : ℕ) (statement : Statement) (is : statement ≡ BeginBackup) (ready : IsReady old a t now) (cap : b.cap ≡ a.cap) (guid : List ℕ) (sixteen : length guid ≡ 16) (asked : GaveAtMost old new guid)
+module _ (result : Result ℕ Fault) (old new : World) (a b : Held) (t : Trail) (now : Now) (session : ℕ) (statement : Statement) (is : statement ≡ BeginBackup) (ready : IsReady old a t now) (cap : b.cap ≡ a.cap) (guid : List ℕ) (sixteen : length guid ≡ 16) (asked : GaveAtMost old new guid) (sure : IfErr result (λ fault. fault ≢ Memory))
     (begins : (s : Seen) → t.base ≡ s.base → GaveAtMost old new (next_guid s.given) → DoesBegin result old new a b t (next_guid s.given) (begin_turn s)) where
   abbrev this : Outcome
   this = outcome session (Begins statement) now
@@ -237,6 +286,7 @@ module _ (result : Result ℕ Fault) (old new : World) (a b : Held) (t : Trail) 
           given = subst (λ (x : Outcome). WhereEnded result (WasGiven old new now.given x.given)) same (begin_given result does told);
           kept = where_ended result _ (kept_none new (event_of session (Begins statement) this) (sym (ap (λ (x : Outcome). x.made) same) ∙ begin_made (seen_now now)));
           unchanged = idle_unchanged old new (begin_turn (seen_now now)).reply (event_of session (Begins statement) this) (ap (λ (x : Outcome). x.reply) same) does.idle;
+          short = not_wanted result _ sure;
           name = does.name;
           cap = cap;
         };
@@ -279,6 +329,7 @@ module _ (w : World) (held : Held) (t : Trail) (now : Now) (session : ℕ) (stat
       });
       kept = kept_none w (event_of session (Begins statement) (outcome session (Begins statement) now)) (ap (λ (x : Outcome). x.made) shows);
       unchanged = λ told. refl;
+      short = tt;
       name = refl;
       cap = refl;
     };

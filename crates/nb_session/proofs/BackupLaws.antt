@@ -4,7 +4,10 @@ use Rattle.nb_session.proofs.Common.{slice_index_or, append-nil, is_free_file, s
 use Rattle.nb_model.specs.declared.reply.Reply.TheVariants.{Refused as RefusedBy}
 use Rattle.nb_model.specs.declared.statement.Statement.TheVariants.{Backup as BackupTo}
 use Rattle.nb_copy.specs.Closing.{OfBackup, GaveTimeAtMost, CloseLeft, CopiesOn, CloseDone, BackupTurn, BackupCounts}
-use Rattle.nb_session.proofs.ActLaws.{trail_plain, ended_map, kept_none, says_none, idle_unchanged, first_given, most_given, grows_at_most, whole_none}
+use Rattle.nb_session.proofs.ActLaws.{trail_plain, ended_map, kept_none, says_none, idle_unchanged, first_given, most_given, grows_at_most, whole_none, left_lacks}
+use Rattle.nb_session.proofs.ShortLaws.{closes_lack, early_lacks, wanted_any, wanted_map}
+use Rattle.nb_alloc.specs.Tries.{WhereMemory}
+use Rattle.nb_session.specs.Short.{LacksLast, RanOut}
 use Rattle.nb_session.proofs.EventLaws.{Marks, marks_made, unsaid}
 use Rattle.nb_session.proofs.CopyLaws.{apart_one, file_left, each_one, kept_one, made_by, no_stroke, stalled_now, finished_not, more_not, page_is, whole_by}
 use Rattle.nb_session.proofs.GiftLaws.{given_nothing, grows_none}
@@ -203,6 +206,7 @@ module _ (old new : World) (a b : Held) (t : Trail) (now : Now) (session : ℕ) 
             given = subst (λ (o : Outcome). WhereEnded result (WasGiven old new now.given o.given)) same (start_given result does told);
             kept = where_ended result _ (kept_none new event (sym (ap (λ (o : Outcome). o.made) same) ∙ start_made (seen_now now) session x asks));
             unchanged = idle_unchanged old new begins.reply event (ap (λ (o : Outcome). o.reply) same) does.idle;
+            short = subst (λ (o : Outcome). WhereMemory result (LacksLast old new db t o.strokes)) same (wanted_map result (early_lacks old new a b t begins.strokes) does.stops);
             name = does.name;
             cap = cap;
           };
@@ -297,7 +301,7 @@ module _ (old new : World) (a b : Held) (t : Trail) (now : Now) (session : ℕ) 
       where
         touches : (m : List ℕ) → OfBackup name (name_of a) m → Touched (name_of a) files m
         touches m (inl same) = inr (whole, (0, omega arith, ap (λ (n : List ℕ). (n, whole)) (sym same)))
-        touches m (inr own) = inl own
+        touches m (inr own) = inl (inr own)
 
     -- what its last turn makes is that file
     last_made : (outcome session last now).made ≡ Some (name, whole)
@@ -316,17 +320,24 @@ module _ (old new : World) (a b : Held) (t : Trail) (now : Now) (session : ℕ) 
         close_left (outcome session last now).strokes (event_of session last (outcome session last now)) last_made (subst (λ (o : Outcome). Changes old new (OfBackup name (name_of a)) (CloseLeft old name whole (name_of a) t o.strokes)) (sym (close_is session copier.backing now)) does.left)
     turn_left result (suc left) some does = file_left old new a t ready.opened name whole apart reads (outcome session Copies now).strokes _ (does.alone (omega (arith, some)))
 
+    -- where memory ran out
+    turn_short : (result : Result Progress Fault) (left : ℕ) → left ≡ rest → Does result → WhereMemory result (LacksLast old new (name_of a) t (outcome session (copy_first left last) now).strokes)
+    turn_short result zero none does =
+        subst (λ (o : Outcome). WhereMemory result (LacksLast old new (name_of a) t o.strokes)) (sym (close_is session copier.backing now)) (wanted_map result (closes_lack old new a b copier t (close_backup (seen_now now) copier.backing).strokes) does.stops)
+    turn_short result (suc left) some does =
+        wanted_any result (left_lacks old new (name_of a) t (outcome session Copies now).strokes files _ (ap (λ (o : Outcome). o.strokes) (page_is session now)) (turn_left result (suc left) some does))
+
     -- no turn of it says anything
     copy_told : (left : ℕ) → only_told (event_of session (copy_first left last) (outcome session (copy_first left last) now)) ≡ true → ⊥
     copy_told zero told = unsaid (event_of session last (outcome session last now)) (ap (λ (x : Outcome). x.reply) (close_is session copier.backing now) ∙ close_reply (seen_now now) copier.backing) told
     copy_told (suc left) told = unsaid (event_of session Copies (outcome session Copies now)) (ap (λ (x : Outcome). x.reply) (page_is session now)) told
 
     -- it fails
-    failed : (fault : Fault) → IsNoRefusal fault → (left : ℕ) → Leaving (copy_first left last)
+    failed : (fault : Fault) → IsNoRefusal fault → (left : ℕ) → WhereMemory {T = Progress} (Err fault) (LacksLast old new (name_of a) t (outcome session (copy_first left last) now).strokes) → Leaving (copy_first left last)
         → Acts {T = Progress} (λ progress. None) (Err fault) old new a b t now session (copy_first left last) files
-    failed (Refused refusal) none left struck = absurd none
-    failed Device none left struck = record { says = tt; left = struck; opened = tt; running = tt; given = tt; kept = tt; unchanged = λ told. absurd (copy_told left told); name = goes.name; cap = goes.cap }
-    failed Memory none left struck = record { says = tt; left = struck; opened = tt; running = tt; given = tt; kept = tt; unchanged = λ told. absurd (copy_told left told); name = goes.name; cap = goes.cap }
+    failed (Refused refusal) none left short struck = absurd none
+    failed Device none left short struck = record { says = tt; left = struck; opened = tt; running = tt; given = tt; kept = tt; unchanged = λ told. absurd (copy_told left told); short = short; name = goes.name; cap = goes.cap }
+    failed Memory none left short struck = record { says = tt; left = struck; opened = tt; running = tt; given = tt; kept = tt; unchanged = λ told. absurd (copy_told left told); short = short; name = goes.name; cap = goes.cap }
 
     -- a page is copied
     copied : CopiesOn old new a b copier later t → Leaving Copies
@@ -341,6 +352,7 @@ module _ (old new : World) (a b : Held) (t : Trail) (now : Now) (session : ℕ) 
           given = given_nothing old new now.given (outcome session Copies now).given does.gave (ap (λ (x : Outcome). x.given) o);
           kept = kept_none new (event_of session Copies (outcome session Copies now)) (ap (λ (x : Outcome). x.made) o);
           unchanged = λ told. absurd (copy_told 1 told);
+          short = tt;
           name = goes.name;
           cap = goes.cap;
         }
@@ -365,6 +377,7 @@ module _ (old new : World) (a b : Held) (t : Trail) (now : Now) (session : ℕ) 
           });
           kept = made_by new (event_of session last (outcome session last now)) (name, whole) last_made (kept_one new name whole does.kept);
           unchanged = λ told. absurd (copy_told zero told);
+          short = tt;
           name = goes.name;
           cap = goes.cap;
         }
@@ -374,7 +387,7 @@ module _ (old new : World) (a b : Held) (t : Trail) (now : Now) (session : ℕ) 
     acts_by (Ok More) (suc left) some told counts does = copied does.answer (turn_left (Ok More) (suc left) some does)
     acts_by (Ok Finished) zero none told counts does = closed told does.answer does.guids (turn_left (Ok Finished) zero none does)
     acts_by (Ok Finished) (suc left) some told counts does = absurd (omega (arith, some, counts.0))
-    acts_by (Err fault) left is told counts does = failed fault does.sure left (turn_left (Err fault) left is does)
+    acts_by (Err fault) left is told counts does = failed fault does.sure left (turn_short (Err fault) left is does) (turn_left (Err fault) left is does)
 
     -- where one time was given, or none
     module _ (result : Result Progress Fault) (turns : (given : Given) → GaveTimeAtMost old new (next_time given) → BackupTurn result old new a b copier later t (next_time given) (close_backup (seen_with now given) copier.backing).strokes)
@@ -509,8 +522,8 @@ module _ (how : Told) (old mid : World) (a b : Held) (t : Trail) (now : Now) (se
 
   -- it isn't refused, and ended early
   pub backup_lost : (fault : Fault) → Promised (Err fault) → Asks → (new : World) (ended : Result Taken RunError) → (same : Type 0) → (same → new ≡ mid) → EndsEarly session fault ended mid new same → (answer : Result Left RunError) → (IsErr ended → IsErr answer)
-      → Turns how left_refused (left_task (Some (Backup later))) answer old new a b t now session next_one next_ones more
-  backup_lost fault promised asks new ended same is_same early answer passed =
+      → (RanOut answer → RanOut ended) → Turns how left_refused (left_task (Some (Backup later))) answer old new a b t now session next_one next_ones more
+  backup_lost fault promised asks new ended same is_same early answer passed out =
       turns_lost how (λ (progress : Progress). None) left_refused (left_task (Some (Backup later))) old mid new a b t now session next_one next_ones more its_file its_file_is makes here fault
       (turn_sure old mid a b t now session copier later ready further.0 further.1 goes reads (Err fault) (λ given. promised given going_on) (asks going_on).0 (asks going_on).1)
-      (its_acts (Err fault) promised asks tt) (its_marks (Err fault) promised asks tt) ended same is_same early answer passed
+      (its_acts (Err fault) promised asks tt) (its_marks (Err fault) promised asks tt) ended same is_same early answer passed out

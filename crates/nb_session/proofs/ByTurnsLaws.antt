@@ -1,7 +1,14 @@
 -- What turns taken one by one leave of the files.
-use Rattle.std.proofs.Common.{◌≡◌, ◌⊎◌, inl, inr, ℕ, zero, suc, List, [], ◌∷◌, ◌++◌, length, take, refl, sym, ap, subst, ◌∙◌, Bool, false, Result, Ok, Err, IsErr}
+use Rattle.std.proofs.Common.{◌≡◌, ◌⊎◌, inl, inr, ℕ, zero, suc, ◌-◌, true, List, [], ◌∷◌, ◌++◌, length, take, refl, sym, ap, subst, ◌∙◌, Bool, false, Result, Ok, Err, IsErr}
 use Rattle.nb_session.proofs.Common.{World, LeavesAll, IsTimely, RunError, weaker, MadeFile, Now, Played, one_turn, play, steps_of, after_steps, Trail, OfFiles, Held, name_of, Told, Touched, InTurn, EndsBy, LeavesOthers, touching_by, Plays, PlaysInTurn, told_events, told_turns, IsSaid, output_no_event, append-nil, StopLeft}
-use Rattle.nb_session.specs.ByTurns.{ByTurns, OfLast, StillInLast, SaidInLast, GoesByTurns}
+use Rattle.nb_model.specs.Outcomes.{Turn}
+use Rattle.nb_model.specs.Run.{event_of, outcome, take_turn}
+use Rattle.nb_session.specs.ByTurns.{ByTurns, EndsInLast, OfLast, SaidInLast, GoesByTurns, ending_of}
+use Rattle.nb_session.specs.Ended.{EndsFirst, EndsNext}
+use Rattle.nb_session.specs.Replies.{only_told}
+use Rattle.nb_session.specs.Short.{RanOut}
+use Rattle.std.specs.List.{list_all, slice_index_or}
+use Rattle.nb_session.proofs.EventLaws.{one_told}
 use Rattle.nb_session.proofs.InTurnLaws.{play_idle}
 use Rattle.nb_session.proofs.OthersLaws.{now_left, leaves_among}
 use Rattle.nb_session.proofs.PlayLaws.{no_file}
@@ -32,6 +39,15 @@ said_none old said is =
     take_none zero = refl
     take_none (suc n) = refl
 
+-- A turn that only tells something leaves all files as they read.
+next_still : (ran_out : Type 0) (old new : World) (name : List ℕ) (t : Trail) (now : Now) (session : ℕ) → EndsNext ran_out old new name t now session → list_all only_told (one_turn session now).0 ≡ true → new.files ≡ old.files
+unfolding one_turn take_turn
+next_still ran_out old new name t now session ends = by (slice_index_or now.todo (session - 1) []) ends
+  where
+    by : (turns : List Turn) → EndsFirst ran_out old new name t now session turns → list_all only_told (take_turn session turns now).0 ≡ true → new.files ≡ old.files
+    by [] none told = absurd none
+    by (turn ∷ rest) ends told = ends.unchanged (one_told (event_of session turn (outcome session turn now)) told)
+
 -- no turn touches but the database's two files
 none_touched : (name m : List ℕ) → Touched name [] m → OfFiles name m
 none_touched name m (inl own) = own
@@ -55,7 +71,7 @@ module _ {H : Type 0} (world : H → World) (timely : (h : H) → IsTimely (worl
       said = taken.2.plays.done.said;
       leaves = subst (λ (n : List ℕ). LeavesOthers (world old) (world taken.0) (Touched n (touching_by x now))) named
           (plays_leave (Ok taken.2.refused) (world old) (world taken.0) before taken.1 t now (told_turns how (one_turn x now)) (touching_by x now) (timely taken.0) (reads taken.0) taken.2.plays);
-      unchanged = taken.2.unchanged;
+      unchanged = next_still ⊥ (world old) (world taken.0) (name_of before) t now x taken.2.ends;
     },
     turns_by order taken.0 new taken.1 after (after_steps t (steps_of (one_turn x now).0)) (one_turn x now).1 taken.2.plays.done.ready.named taken.3,
   )
@@ -92,15 +108,15 @@ module _ {H : Type 0} (world : H → World) (timely : (h : H) → IsTimely (worl
   last_early (Ok refused) (x ∷ rest) old new before after t now plays = absurd plays
   last_early (Err stop) rest old new before after t now ends = inl refl
 
-  last_still : (result : Result Bool RunError) (rest : List ℕ) (old new : World) (before after : Held) (t : Trail) (now : Now) → EndsBy result how rest old new before after t now → StillInLast rest now old new
-  last_still (Ok refused) [] old new before after t now plays = tt
-  last_still (Ok refused) (x ∷ rest) old new before after t now plays = absurd plays
-  last_still (Err stop) [] old new before after t now plays = tt
-  last_still (Err stop) (x ∷ rest) old new before after t now ends = ends.1
+  last_ends : (result : Result Bool RunError) (rest : List ℕ) (old new : World) (before after : Held) (t : Trail) (now : Now) → name_of before ≡ now.name → EndsBy result how rest old new before after t now → EndsInLast (RanOut result) rest t now old new
+  last_ends (Ok refused) [] old new before after t now named plays = tt
+  last_ends (Ok refused) (x ∷ rest) old new before after t now named plays = absurd plays
+  last_ends (Err stop) [] old new before after t now named plays = tt
+  last_ends (Err stop) (x ∷ rest) old new before after t now named ends = subst (λ (n : List ℕ). EndsNext (RanOut {T = Bool} (Err stop)) old new n t now x) named ends.1
 
   -- all turns
   pub goes_by : (result : Result Bool RunError) (old new : H) (before after : Held) (t : Trail) (now : Now) (schedule : List ℕ) → name_of before ≡ now.name → PlaysInTurn world result old new before after t how now schedule
-      → GoesByTurns world (IsErr result) (told_events how) old new now schedule
+      → GoesByTurns world (ending_of result) (told_events how) old new t now schedule
   goes_by result old new before after t now schedule named plays =
       let runs = plays.in_turn in
       let far : Trail = after_steps t (steps_of (play runs.front now).0) in
@@ -113,6 +129,6 @@ module _ {H : Type 0} (world : H → World) (timely : (h : H) → IsTimely (worl
         mid = runs.mid;
         taken = turns_by runs.front old runs.mid before runs.between t now named runs.taken;
         last = last_leaves result runs.rest runs.mid new runs.between after far (play runs.front now).1 (named_then runs.front old runs.mid before runs.between t now named runs.taken) runs.last;
-        still = last_still result runs.rest (world runs.mid) (world new) runs.between after far (play runs.front now).1 runs.last;
+        ends = last_ends result runs.rest (world runs.mid) (world new) runs.between after far (play runs.front now).1 (named_then runs.front old runs.mid before runs.between t now named runs.taken) runs.last;
         said = last_said result runs.rest runs.mid new runs.between after far (play runs.front now).1 runs.last;
       }

@@ -4,12 +4,15 @@ use Rattle.nb_session.proofs.Common.{slice_index_or, append-nil, stalled_state, 
 use Rattle.nb_model.specs.declared.reply.Reply.TheVariants.{Refused as RefusedBy}
 use Rattle.nb_copy.specs.Turns.{CopyCounts}
 use Rattle.nb_copy.proofs.ClosingLaws.{stands}
-use Rattle.nb_session.proofs.ActLaws.{trail_plain, ended_map, strikes_left, kept_none, says_none}
-use Rattle.nb_session.proofs.EventLaws.{marks_made, unsaid, told_reply as told_is}
+use Rattle.nb_session.specs.Short.{RanOut}
+use Rattle.nb_session.specs.Acts.{Acts}
+use Rattle.nb_session.proofs.ActLaws.{trail_plain, ended_map, strikes_left, kept_none, says_none, left_lacks}
+use Rattle.nb_session.proofs.EventLaws.{Marks, marks_made, unsaid, told_reply as told_is}
 use Rattle.nb_session.proofs.GiftLaws.{given_nothing, grows_none}
 use Rattle.nb_session.proofs.MakesLaws.{none_runs}
 use Rattle.nb_session.proofs.ReadyLaws.{apart_files, not_own}
 use Rattle.nb_session.proofs.TouchingLaws.{plain_touch, copy_plain}
+use Rattle.nb_session.proofs.ShortLaws.{lacks_none, wanted_any}
 use Rattle.nb_session.proofs.TurnLaws.{seen_now, outcome_is, was_last, turns_failed, turns_quiet, turns_told}
 use Rattle.nb_session.proofs.WayLaws.{copy_turns, copying_at}
 
@@ -121,6 +124,7 @@ module _ (old new : World) (a b : Held) (t : Trail) (now : Now) (session : ℕ) 
           given = where_ended result _ (given_nothing old new now.given this.given (gave_none old new starts.quiet) (sym (ap (λ (o : Outcome). o.given) same) ∙ begin_given (seen_now now) session name));
           kept = where_ended result _ (kept_none new event (sym (ap (λ (o : Outcome). o.made) same) ∙ begin_made (seen_now now) session name));
           unchanged = λ told. starts.quiet.still.files;
+          short = wanted_any result (lacks_none old new (name_of a) t this.strokes (sym (ap (λ (o : Outcome). o.strokes) same) ∙ begin_strokes (seen_now now) session name) (none_yet old new a t this.strokes starts.quiet ready.opened));
           name = named;
           cap = cap;
         };
@@ -257,6 +261,7 @@ module _ (old mid : World) (a b : Held) (t : Trail) (now : Now) (session : ℕ) 
         given = tt;
         kept = tt;
         unchanged = λ told. absurd (copy_told left told);
+        short = tt;
         name = ap (λ (h : Held). name_of h) same;
         cap = ap (λ (h : Held). h.cap) same;
       };
@@ -278,6 +283,7 @@ module _ (old mid : World) (a b : Held) (t : Trail) (now : Now) (session : ℕ) 
             given = given_nothing old mid now.given (outcome session Copies now).given gave (ap (λ (x : Outcome). x.given) o);
             kept = kept_none mid (event_of session Copies (outcome session Copies now)) (ap (λ (x : Outcome). x.made) o);
             unchanged = λ told. absurd (copy_told (suc left) told);
+            short = tt;
             name = ap (λ (h : Held). name_of h) same;
             cap = ap (λ (h : Held). h.cap) same;
           };
@@ -300,6 +306,7 @@ module _ (old mid : World) (a b : Held) (t : Trail) (now : Now) (session : ℕ) 
             kept = made_by mid (event_of session last (outcome session last now)) (copy.name, whole) (ap (λ (x : Outcome). x.made) o ∙ close_made (seen_now now) copy.name ∙ ap (λ (f : Image). Some (copy.name, joined f)) (sym frozen_is))
                 (kept_one mid copy.name whole kept);
             unchanged = λ told. absurd (copy_told zero told);
+            short = tt;
             name = ap (λ (h : Held). name_of h) same;
             cap = ap (λ (h : Held). h.cap) same;
           };
@@ -356,13 +363,13 @@ module _ (how : Told) (old mid : World) (a b : Held) (t : Trail) (now : Now) (se
   its_turn result promised = promised (copying_stalled old a t now session (copy.count - copy.next) copy.name more ready makes.going here) (apart_files a copy.name further.1)
 
   -- it failed
-  pub copy_failed : (fault : HostFault) → Promised (Err fault) → (answer : Result Left RunError) → IsErr answer → Turns how left_refused (left_task (Some (Copy later))) answer old mid a b t now session next_one next_ones more
-  copy_failed fault promised answer failed =
+  pub copy_failed : (fault : HostFault) → Promised (Err fault) → (answer : Result Left RunError) → IsErr answer → (RanOut answer → ⊥) → Turns how left_refused (left_task (Some (Copy later))) answer old mid a b t now session next_one next_ones more
+  copy_failed fault promised answer failed sure =
       let left : ℕ = copy.count - copy.next in
       let does = its_turn (Err fault) promised in
       turns_failed how (copy_said 0) (Err Device) left_refused (left_task (Some (Copy later))) old mid mid a b t now session next_one next_ones more its_file (copy_files old mid a b t now session copy later 0 ready further.1 reads left) makes here
       (copy_fails old mid a b t now session copy later 0 ready further.1 reads does.left does.gave left does.same)
-      (marks_made (copy_said 0) (Err Device) old mid a b t now session next_one its_file (apart_one a copy.name _ further.1) reads_then) answer failed
+      (marks_made (copy_said 0) (Err Device) old mid a b t now session next_one its_file (apart_one a copy.name _ further.1) reads_then) answer failed (λ acts ran. absurd (sure ran))
 
   -- a page was copied
   pub copy_page : (p : Progress) → p ≡ More → Promised (Ok p) → CopyCounts (Ok p) copy later → Turns how left_refused (left_task (Some (Copy later))) (Ok Same) old mid a b t now session next_one next_ones more
@@ -377,17 +384,36 @@ module _ (how : Told) (old mid : World) (a b : Held) (t : Trail) (now : Now) (se
       (marks_made (copy_said 0) (Ok More) old mid a b t now session next_one its_file (apart_one a copy.name _ further.1) reads_then) Same tt refl ready (said_pages 0 More)
       (λ told. more_behind old mid a b t now session copy later 0 ready further.1 reads left some rest (ap (λ (x : Copying). x.name) counts.1) does.same does.answer further.2)
 
-  -- all were, and it is told how many
-  pub copy_last : (p : Progress) → p ≡ Finished → Promised (Ok p) → CopyCounts (Ok p) copy later → (pages : ℕ) → pages ≡ later.next → (d : Held) → (b.running ≡ Some session → d ≡ record b { running = None })
-      → (new : World) (answer : Result Left RunError) → IfOk answer (λ left. left ≡ was_last) → SaysLine answer mid new (told_line session (told_reply how (Some (Pages pages)))) → Turns how left_refused (left_task (Some (Copy later))) answer old new a d t now session next_one next_ones more
-  copy_last More is promised counts pages written d stops new answer last says = absurd (more_not is)
-  copy_last Finished is promised counts pages written d stops new answer last says =
-      let left : ℕ = copy.count - copy.next in
-      let does = its_turn (Ok Finished) promised in
-      let none : left ≡ 0 = omega (arith, counts.0) in
-      let all : pages ≡ length t.base.frozen = written ∙ ap (λ (x : Copying). x.next) counts.1 ∙ counts.0 ∙ sym further.0.of.long in
-      let stopped : d ≡ record a { running = None } = stopped_is a b d session does.same further.2 stops in
-      turns_told answer last how (copy_said pages) (Ok Finished) (Some (Copy later)) old mid new a d t now session next_one next_ones more its_file (copy_files old mid a d t now session copy later pages ready further.1 reads left) makes here
-      (copy_ends old mid a d t now session copy later pages ready further.1 reads does.left does.gave left none stopped (subst (λ (h : Held). IsOpen mid h t) does.same does.opened) all does.answer)
-      (marks_made (copy_said pages) (Ok Finished) old mid a d t now session next_one its_file (apart_one a copy.name _ further.1) reads_then) tt (Pages pages) (said_pages pages Finished) ready says refl
-      (end_behind old mid a d t now session copy later pages ready further.1 reads new left none)
+  -- all were
+  module _ (promised : Promised (Ok Finished)) (counts : CopyCounts (Ok Finished) copy later) (pages : ℕ) (written : pages ≡ later.next) (d : Held) (stops : b.running ≡ Some session → d ≡ record b { running = None }) where
+    abbrev left_now : ℕ
+    left_now = copy.count - copy.next
+
+    none_left : left_now ≡ 0
+    none_left = omega (arith, counts.0)
+
+    last_files : its_file ≡ touching session next_one next_ones now
+    last_files = copy_files old mid a d t now session copy later pages ready further.1 reads left_now
+
+    last_acts : MayAct (copy_said pages) (Ok Finished) old mid a d t now session next_one its_file
+    last_acts =
+        let does = its_turn (Ok Finished) promised in
+        copy_ends old mid a d t now session copy later pages ready further.1 reads does.left does.gave left_now none_left (stopped_is a b d session does.same further.2 stops)
+        (subst (λ (h : Held). IsOpen mid h t) does.same does.opened) (written ∙ ap (λ (x : Copying). x.next) counts.1 ∙ counts.0 ∙ sym further.0.of.long) does.answer
+
+    last_marks : Acts (copy_said pages) (Ok Finished) old mid a d t now session next_one its_file → Marks old mid a its_file
+    last_marks = marks_made (copy_said pages) (Ok Finished) old mid a d t now session next_one its_file (apart_one a copy.name _ further.1) reads_then
+
+    -- it is told how many
+    pub copy_last : (new : World) (answer : Result Left RunError) → IfOk answer (λ left. left ≡ was_last) → SaysLine answer mid new (told_line session (told_reply how (Some (Pages pages)))) → (RanOut answer → ⊥)
+        → Turns how left_refused (left_task (Some (Copy later))) answer old new a d t now session next_one next_ones more
+    copy_last new answer last says lined =
+        turns_told answer last how (copy_said pages) (Ok Finished) (Some (Copy later)) old mid new a d t now session next_one next_ones more its_file last_files makes here
+        last_acts last_marks tt (Pages pages) (said_pages pages Finished) ready says (λ brief. lined) refl
+        (end_behind old mid a d t now session copy later pages ready further.1 reads new left_now none_left)
+
+    -- memory ran out for that
+    pub copy_unlined : (answer : Result Left RunError) → IsErr answer → Turns how left_refused (left_task (Some (Copy later))) answer old mid a d t now session next_one next_ones more
+    copy_unlined answer failed =
+        turns_failed how (copy_said pages) (Ok Finished) left_refused (left_task (Some (Copy later))) old mid mid a d t now session next_one next_ones more its_file last_files makes here last_acts last_marks answer failed
+        (λ acts ran. left_lacks old mid (name_of a) t _ its_file _ (none_struck old mid a d t now session copy later pages ready further.1 reads left_now) acts.left)

@@ -11,6 +11,7 @@ pub mod ReadyLaws
 pub mod ToldLaws
 pub mod EventLaws
 pub mod OthersLaws
+pub mod ShortLaws
 pub mod TurnLaws
 pub mod KeepLaws
 pub mod ActLaws

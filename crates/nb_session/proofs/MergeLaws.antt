@@ -1,6 +1,10 @@
 -- The turns of the end of a backup.
-use Rattle.std.proofs.Common.{◌≡◌, inl, inr, ℕ, zero, suc, ◌+◌, ◌-◌, ◌<◌, List, [], ◌∷◌, ◌++◌, length, replicate, refl, sym, ap, subst, ◌∙◌, arith, true≢false, Result, Ok, Err, IsErr, Option, Some, None, Bool, true, false, not, ◌==◌}
+use Rattle.std.proofs.Common.{◌≡◌, ◌≢◌, IfErr, inl, inr, ℕ, zero, suc, ◌+◌, ◌-◌, ◌<◌, List, [], ◌∷◌, ◌++◌, length, replicate, refl, sym, ap, subst, ◌∙◌, arith, true≢false, Result, Ok, Err, IsErr, Option, Some, None, Bool, true, false, not, ◌==◌}
 use Rattle.nb_session.proofs.Common.{slice_index_or, eqb_tells, append-nil, normal_state, stalled_state, World, Fault, Refused, Device, Memory, HostFault, RunError, Refusal, Reply, Scn, EndBackup, Base, Cause, first_cause, when, runs_other, IsAt, IsGoing, IsMaking, Image, image_state, Turn, Begins, Ends, Finishes, Seen, Outcome, unless, passes, end_turn, ends_by, end_scn, end_strokes, Now, base_now, outcome, event_of, Stroke, finish, on_base, base_after, Trail, first_turn, turn, end_either, Strikes, after_strokes, IsNoRefusal, Held, IsOpen, name_of, WhereEnded, GoesOn, Progress, More, Finished, after_base, where_ended, DoesEnd, Says, Acts, MayAct, IsMerging, left_refused, merge_first, merge_rest, task_todo, Left, Taken, Task, Merge, Told, IsReady, EndsEarly, IsBehind, Turns, only_told, some_none}
+use Rattle.nb_change.specs.Changes.{Only}
+use Rattle.nb_base.specs.Open.{OfFiles}
+use Rattle.nb_base.specs.Takes.{StrikesOn}
+use Rattle.nb_base.proofs.TouchLaws.{strikes_more}
 use Rattle.nb_host.specs.declared.refusals.Refusal.TheVariants.{WrongState, BackupRunning}
 use Rattle.nb_model.specs.declared.reply.Reply.TheVariants.{Refused as RefusedBy}
 use Rattle.nb_model.specs.Outcomes.{Merges as MergesOne}
@@ -11,6 +15,8 @@ use Rattle.nb_session.proofs.EventLaws.{marks_none, unsaid}
 use Rattle.nb_session.proofs.GiftLaws.{given_nothing, grows_none}
 use Rattle.nb_session.proofs.TouchingLaws.{ends_touch}
 use Rattle.nb_session.proofs.TurnLaws.{seen_now, outcome_is, turns_lost}
+use Rattle.nb_alloc.proofs.WantLaws.{not_wanted}
+use Rattle.nb_session.specs.Short.{RanOut}
 use Rattle.nb_session.proofs.WayLaws.{merge_turns, ending_at}
 use Rattle.nb_model.proofs.WholeLaws.{two_none}
 
@@ -108,8 +114,8 @@ module _ (old new : World) (a b : Held) (t : Trail) (now : Now) (session : ℕ) 
   turn_of = end_turn (seen_now now) session
 
   -- the first turn of `alter database end backup`
-  pub end_acts : (result : Result ℕ Fault) → b.cap ≡ a.cap → DoesEnd result old new a b t (end_scn t.base.image) turn_of → MayAct (λ scn. None) result old new a b t now session (Begins EndBackup) []
-  end_acts result cap does =
+  pub end_acts : (result : Result ℕ Fault) → b.cap ≡ a.cap → IfErr result (λ fault. fault ≢ Memory) → DoesEnd result old new a b t (end_scn t.base.image) turn_of → MayAct (λ scn. None) result old new a b t now session (Begins EndBackup) []
+  end_acts result cap sure does =
       let same = end_is session now in
       record {
         grows = grows_none old new does.gave;
@@ -123,6 +129,7 @@ module _ (old new : World) (a b : Held) (t : Trail) (now : Now) (session : ℕ) 
           given = where_ended result _ (given_nothing old new now.given (outcome session (Begins EndBackup) now).given does.gave (sym (ap (λ (x : Outcome). x.given) same) ∙ end_given (seen_now now) session));
           kept = where_ended result _ (kept_none new (event_of session (Begins EndBackup) (outcome session (Begins EndBackup) now)) (sym (ap (λ (x : Outcome). x.made) same) ∙ end_made (seen_now now) session));
           unchanged = idle_unchanged old new turn_of.reply (event_of session (Begins EndBackup) (outcome session (Begins EndBackup) now)) (ap (λ (x : Outcome). x.reply) same) does.idle;
+          short = not_wanted result _ sure;
           name = does.name;
           cap = cap;
         };
@@ -186,8 +193,8 @@ module _ (old new : World) (a b : Held) (t : Trail) (now : Now) (session : ℕ) 
     reply_is : turn_of.reply ≡ this.reply
     reply_is = quiet ∙ sym (ap (λ (x : Outcome). x.reply) (ends_is session reply now) ∙ ends_reply (seen_now now) session reply)
 
-    pub ends_acts : (result : Result ℕ Fault) → b.cap ≡ a.cap → DoesEnd result old new a b t (end_scn t.base.image) turn_of → MayAct (λ scn. None) result old new a b t now session (Ends reply) []
-    ends_acts result cap does = record {
+    pub ends_acts : (result : Result ℕ Fault) → b.cap ≡ a.cap → IfErr result (λ fault. fault ≢ Memory) → DoesEnd result old new a b t (end_scn t.base.image) turn_of → MayAct (λ scn. None) result old new a b t now session (Ends reply) []
+    ends_acts result cap sure does = record {
       grows = grows_none old new does.gave;
       acts = λ told. record {
         says = subst (Says (λ scn. None) result) reply_is (says_none result turn_of.reply does.says);
@@ -198,6 +205,7 @@ module _ (old new : World) (a b : Held) (t : Trail) (now : Now) (session : ℕ) 
         given = where_ended result _ (given_nothing old new now.given this.given does.gave (ap (λ (x : Outcome). x.given) (ends_is session reply now) ∙ ends_given (seen_now now) session reply));
         kept = where_ended result _ (kept_none new (event_of session (Ends reply) this) (ap (λ (x : Outcome). x.made) (ends_is session reply now) ∙ ends_made (seen_now now) session reply));
         unchanged = idle_unchanged old new turn_of.reply (event_of session (Ends reply) this) reply_is does.idle;
+        short = not_wanted result _ sure;
         name = does.name;
         cap = cap;
       };
@@ -211,11 +219,11 @@ ends_quiet {sound = sound} w held t now session ready going reply more here runs
 
 -- so where it ended early, it failed
 pub ends_lost : (how : Told) (task : Left → Option Task) (old mid new : World) (a b : Held) (t : Trail) (now : Now) (session : ℕ) (reply : Reply) (more : List Turn) → IsReady old a t now → IsMaking now → slice_index_or now.todo (session - 1) [] ≡ Ends reply ∷ more
-    → a.running ≡ Some session → b.cap ≡ a.cap → (fault : Fault) → DoesEnd (Err fault) old mid a b t (end_scn t.base.image) (end_turn (seen_now now) session)
-    → (ended : Result Taken RunError) → (same : Type 0) → (same → new ≡ mid) → EndsEarly session fault ended mid new same → (answer : Result Left RunError) → (IsErr ended → IsErr answer) → Turns how left_refused task answer old new a b t now session (Ends reply) [] more
-ends_lost how task old mid new a b t now session reply more ready makes here runs cap fault does ended same is_same early answer passed =
+    → a.running ≡ Some session → b.cap ≡ a.cap → (fault : Fault) → fault ≢ Memory → DoesEnd (Err fault) old mid a b t (end_scn t.base.image) (end_turn (seen_now now) session)
+    → (ended : Result Taken RunError) → (same : Type 0) → (same → new ≡ mid) → EndsEarly session fault ended mid new same → (answer : Result Left RunError) → (IsErr ended → IsErr answer) → (RanOut answer → RanOut ended) → Turns how left_refused task answer old new a b t now session (Ends reply) [] more
+ends_lost how task old mid new a b t now session reply more ready makes here runs cap fault none does ended same is_same early answer passed out =
     turns_lost how (λ (scn : ℕ). None) left_refused task old mid new a b t now session (Ends reply) [] more [] (ends_touch session reply now) makes here fault (sure fault does)
-    (ends_acts old mid a b t now session ready reply quiet (Err fault) cap does) (λ acts. marks_none old mid a) ended same is_same early answer passed
+    (ends_acts old mid a b t now session ready reply quiet (Err fault) cap none does) (λ acts. marks_none old mid a) ended same is_same early answer passed out
   where
     quiet : (end_turn (seen_now now) session).reply ≡ None
     quiet = ends_quiet old a t now session ready makes.going reply more here runs
@@ -257,7 +265,7 @@ module _ (old new : World) (a b : Held) (t : Trail) (now : Now) (session : ℕ) 
 
   -- it fails
   failed : (u : Turn) (ss : List Stroke) → (only_told (event_of session u (outcome session u now)) ≡ true → ⊥) → (outcome session u now).strokes ≡ ss → (outcome session u now).made ≡ None → Strikes old new (name_of a) t ss → name_of b ≡ name_of a → Acts (merge_said reply) (Err Device) old new a b t now session u []
-  failed u ss never is none struck name = record { says = tt; left = strikes_left old new (name_of a) t _ (event_of session u (outcome session u now)) none (subst (Strikes old new (name_of a) t) (sym is) struck); opened = tt; running = tt; given = tt; kept = tt; unchanged = λ told. absurd (never told); name = name; cap = cap }
+  failed u ss never is none struck name = record { says = tt; left = strikes_left old new (name_of a) t _ (event_of session u (outcome session u now)) none (subst (Strikes old new (name_of a) t) (sym is) struck); opened = tt; running = tt; given = tt; kept = tt; unchanged = λ told. absurd (never told); short = tt; name = name; cap = cap }
 
   finishes : (result : Result Progress HostFault) → IsMerging session 0 a → Merges result old new a b t → Acts (merge_said reply) (merge_answer result) old new a b t now session (Finishes reply) []
   finishes (Ok More) merging merges = absurd (omega (arith, diverted 0 merging, merges.on.0))
@@ -271,6 +279,7 @@ module _ (old new : World) (a b : Held) (t : Trail) (now : Now) (session : ℕ) 
         given = given_nothing old new now.given (outcome session (Finishes reply) now).given merges.gave (ap (λ (x : Outcome). x.given) o);
         kept = kept_none new (event_of session (Finishes reply) (outcome session (Finishes reply) now)) (ap (λ (x : Outcome). x.made) o);
         unchanged = λ told. absurd (finish_told told);
+        short = tt;
         name = merges.name;
         cap = cap;
       }
@@ -279,22 +288,26 @@ module _ (old new : World) (a b : Held) (t : Trail) (now : Now) (session : ℕ) 
   one_left : (left : ℕ) → IsMerging session (suc left) a → a.merged < length t.base.diverted
   one_left left merging = omega (arith, diverted (suc left) merging)
 
+  struck_one : StrikesOn old new (Only (name_of a)) (name_of a) t [] → Strikes old new (name_of a) t []
+  struck_one struck = strikes_more old new (Only (name_of a)) (OfFiles (name_of a)) (name_of a) t [] struck (λ m one. inl one)
+
   merges_one : (result : Result Progress HostFault) (left : ℕ) → IsMerging session (suc left) a → Merges result old new a b t → Acts (merge_said reply) (merge_answer result) old new a b t now session MergesOne []
   merges_one (Ok More) left merging merges =
       let o = merge_is session now in
       record {
         says = ap (λ (x : Outcome). x.reply) o;
-        left = strikes_left old new (name_of a) t _ (event_of session MergesOne (outcome session MergesOne now)) (ap (λ (x : Outcome). x.made) o) (subst (λ (x : Outcome). Strikes old new (name_of a) t x.strokes) (sym o) (merges.more (one_left left merging)));
+        left = strikes_left old new (name_of a) t _ (event_of session MergesOne (outcome session MergesOne now)) (ap (λ (x : Outcome). x.made) o) (subst (λ (x : Outcome). Strikes old new (name_of a) t x.strokes) (sym o) (struck_one (merges.more (one_left left merging))));
         opened = subst (IsOpen new b) (ap (λ (x : Outcome). after_strokes t x.strokes) (sym o) ∙ trail_plain t (event_of session MergesOne (outcome session MergesOne now)) refl) merges.on.3;
         running = merges.on.2 ∙ ready.running ∙ sym (ap (λ (x : Outcome). x.running) o);
         given = given_nothing old new now.given (outcome session MergesOne now).given merges.gave (ap (λ (x : Outcome). x.given) o);
         kept = kept_none new (event_of session MergesOne (outcome session MergesOne now)) (ap (λ (x : Outcome). x.made) o);
         unchanged = λ told. absurd (merge_told told);
+        short = tt;
         name = merges.name;
         cap = cap;
       }
   merges_one (Ok Finished) left merging merges = absurd (omega (arith, diverted (suc left) merging, merges.on.0))
-  merges_one (Err fault) left merging merges = failed MergesOne [] merge_told (ap (λ (x : Outcome). x.strokes) (merge_is session now)) (ap (λ (x : Outcome). x.made) (merge_is session now)) (merges.more (one_left left merging)) merges.name
+  merges_one (Err fault) left merging merges = failed MergesOne [] merge_told (ap (λ (x : Outcome). x.strokes) (merge_is session now)) (ap (λ (x : Outcome). x.made) (merge_is session now)) (struck_one (merges.more (one_left left merging))) merges.name
 
   pub merge_acts : (result : Result Progress HostFault) (left : ℕ) → IsMerging session left a → Merges result old new a b t
       → MayAct (merge_said reply) (merge_answer result) old new a b t now session (merge_first left (Finishes reply)) []

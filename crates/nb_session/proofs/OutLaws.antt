@@ -1,11 +1,18 @@
 -- What waits is written out after the turns.
 use Rattle.std.proofs.Common.{◌≡◌, inl, inr, ℕ, List, [], ◌∷◌, ◌++◌, Bool, false, refl, sym, ap, subst, ◌∙◌, arith, Contains, Result, Ok, Err, IsErr, IsErrAnd}
-use Rattle.nb_session.proofs.Common.{true≢false, append-nil, decide, is_delta, World, HostFault, RunError, GaveNothing, weaker, untouched_fewer, is_free_name, IsMaking, MadeFile, AreAmong, IsNoneOf, NamesOnce, Now, Played, play, rounds, files_made, delta_name, acked_turns, steps_of, after_steps, Trail, StandsIn, made_once, output_no_event, status_no_event, delta_named, delta_same, after_no_step, acked_steps_none, Strikes, Takes, Held, IsOpen, but_pages, name_of, Told, IsReady, Plays, EndsBy, RunsInTurn, PlaysInTurn, told_turns, not_free, or_false, begun_turns}
+use Rattle.nb_session.proofs.Common.{true≢false, append-nil, decide, is_delta, World, HostFault, RunError, GaveNothing, weaker, untouched_fewer, is_free_name, IsMaking, MadeFile, AreAmong, IsNoneOf, NamesOnce, Now, Played, play, rounds, files_made, delta_name, acked_turns, steps_of, after_steps, Trail, StandsIn, made_once, output_no_event, status_no_event, delta_named, delta_same, after_no_step, acked_steps_none, Strikes, Takes, Held, IsOpen, but_pages, name_of, Told, IsReady, Plays, EndsBy, RunsInTurn, PlaysInTurn, told_turns, not_free, or_false, begun_turns, Stroke}
+use Rattle.nb_base.specs.Takes.{TakesOn}
+use Rattle.nb_base.specs.Touches.{WrittenIn}
+use Rattle.nb_base.proofs.TouchLaws.{strikes_in}
 use Rattle.nb_change.proofs.ResultLaws.{passed_on}
 use Rattle.nb_session.proofs.GiftLaws.{given_nothing}
 use Rattle.nb_session.proofs.PlayLaws.{Leads, behind, trail_after, after_none, no_file, no_made, plays_by, plays_then, plays_failed}
 use Rattle.nb_session.proofs.ToldLaws.{told_among}
 use Rattle.nb_session.proofs.ReadyLaws.{free_same, beside_other}
+
+-- What goes out in the files of the backup state goes out in the two files.
+pub takes_both : {T E : Type 0} (result : Result T E) (old new : World) (state : ℕ) (name : List ℕ) (opened : Trail → Type 0) (t : Trail) (ss : List Stroke) → TakesOn result old new (WrittenIn state name) name opened t ss → Takes result old new name opened t ss
+takes_both result old new state name opened t ss is = record { left = strikes_in old new state name t ss is.left; done = is.done }
 
 -- Pages go out of a database that was ready: no turn is taken.
 module _ (old new : World) (before after : Held) (t : Trail) (now : Now) (ready : IsReady old before t now) (struck : Strikes old new (name_of before) t []) (same : but_pages after ≡ but_pages before) (gave : GaveNothing old new) (still : t.earlier ≡ [] → new.files ≡ old.files) where

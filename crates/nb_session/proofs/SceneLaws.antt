@@ -1,7 +1,9 @@
 -- What holds while sessions take their turns.
 use Rattle.std.proofs.Common.{◌≡◌, ◌≢◌, inl, inr, ℕ, zero, suc, ◌-◌, ◌<◌, ◌≤◌, List, [], ◌∷◌, ◌++◌, length, map, refl, sym, ap, subst, ◌∙◌, arith, append_assoc, length-set, Bool, true, false, ◌||◌, IsTrue, Result, Ok, Option, Some, None, slice_get, slice_set}
-use Rattle.nb_session.proofs.Common.{AllByRecursion, list_all, slice_index_or, append-nil, World, IsTimely, FaultCount, RunError, Statement, Base, Foretells, IsMaking, MadeFile, under_way, AreAmong, Turn, Begins, Given, Event, Now, Played, base_now, one_turn, play, files_made, steps_of, after_steps, Trail, making_play, one_turn_idle, Scene, scene, Kind, kind, agent_of, Rests, Moves, IsSession, Held, Task, Backup, Copy, End, Merge, Told, AreSixteen, Grows, Asker, task_todo, task_left, todo_of, HasTodo, left_of, IsFit, any_refused, HasNone, TakesOne, InTurn, IsReady, TaskGoes, only_told, as_played, shown_next, touching_by, Steps, TakesNext, Plays, told_turns, or_assoc}
+use Rattle.nb_session.proofs.Common.{AllByRecursion, slice_index_or, append-nil, World, IsTimely, FaultCount, RunError, Statement, Base, Foretells, IsMaking, MadeFile, under_way, AreAmong, Turn, Begins, Given, Event, Now, Played, base_now, one_turn, play, files_made, steps_of, after_steps, Trail, making_play, one_turn_idle, Scene, scene, Kind, kind, agent_of, Rests, Moves, IsSession, Held, Task, Backup, Copy, End, Merge, Told, AreSixteen, Grows, Asker, task_todo, task_left, todo_of, HasTodo, left_of, IsFit, any_refused, HasNone, TakesOne, InTurn, IsReady, TaskGoes, as_played, shown_next, touching_by, Steps, TakesNext, Plays, told_turns, or_assoc, name_of}
 use Rattle.nb_sched.proofs.AgentLaws.{agent_there, agent_of_set}
+use Rattle.nb_session.specs.Ended.{EndsNext}
+use Rattle.nb_session.specs.Short.{RanOut}
 use Rattle.nb_session.proofs.GiftLaws.{foretold_first, foretold_then, foretold_itself, grows_none, grows_joined}
 use Rattle.nb_session.proofs.GoesLaws.{goes_on}
 use Rattle.nb_session.proofs.InTurnLaws.{in_turn_idle, in_turn_one, told_trail}
@@ -170,12 +172,13 @@ module _ {H : Type 0} (tells : Bool) (told : IsTrue tells) (world : H → World)
           (told_turns asker.told (one_turn n (play front (from given)).1)) (touching_by n (play front (from given)).1)) mine
           ((took given sixteen (told_first given foretold)).plays (told_then given sixteen foretold)))
 
-      -- where it only tells something it has changed no file
-      pub turn_still : (given : Given) → AreSixteen given.guids → Foretells given (shown ++ next) (world old) (world s'.host) → list_all only_told (one_turn session (play front (from given)).1).0 ≡ true
-          → (world s'.host).files ≡ (world s.host).files
-      turn_still given sixteen foretold =
-          subst (λ (k : ℕ). list_all only_told (one_turn k (play front (from given)).1).0 ≡ true → (world s'.host).files ≡ (world s.host).files) mine
-          ((took given sixteen (told_first given foretold)).unchanged (told_then given sixteen foretold))
+      -- what it left
+      pub turn_ends : (given : Given) → AreSixteen given.guids → Foretells given (shown ++ next) (world old) (world s'.host)
+          → EndsNext (RanOut answer) (world s.host) (world s'.host) (name_of s.shared) (after_steps t (steps_of (play front (from given)).0)) (play front (from given)).1 session
+      turn_ends given sixteen foretold =
+          subst (λ (u : Trail). EndsNext (RanOut answer) (world s.host) (world s'.host) (name_of s.shared) u (play front (from given)).1 session) (told_trail how t (play front (from given)))
+          (subst (λ (k : ℕ). EndsNext (RanOut answer) (world s.host) (world s'.host) (name_of s.shared) (trail_after t (told_turns how (play front (from given)))) (play front (from given)).1 k) mine
+          ((took given sixteen (told_first given foretold)).ends (told_then given sixteen foretold)))
 
     module _ (made : Steps tells (Ok tt) (world s.host) (world s'.host) (faults s.host) (faults s'.host) s.shared s'.shared asker moved)
         (placed : (n : ℕ) (a : Asker) → agent_of s'.agents n ≡ Some a → a.number ≡ n) (given : Given) (sixteen : AreSixteen given.guids) (foretold : Foretells given (shown ++ next) (world old) (world s'.host)) where
@@ -224,7 +227,7 @@ module _ {H : Type 0} (tells : Bool) (told : IsTrue tells) (world : H → World)
       takes = record {
         refused = made.refused;
         plays = subst (λ (u : Trail). Plays (Ok made.refused) (world s.host) (world s'.host) s.shared s'.shared u p.1 (told_turns how (one_turn session p.1)) (touching_by session p.1)) (told_trail how t p) (turn_plays (Ok tt) made given sixteen foretold);
-        unchanged = turn_still (Ok tt) made given sixteen foretold;
+        ends = turn_ends (Ok tt) made given sixteen foretold;
       }
 
       turn_far : IsSoFar (shown ++ next) (front ++ session ∷ []) s' given

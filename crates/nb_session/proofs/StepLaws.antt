@@ -1,8 +1,9 @@
 -- A turn of a session is the next that it has to do.
 use Rattle.std.proofs.Common.{◌≡◌, inl, inr, ℕ, ◌-◌, ◌<◌, List, [], ◌∷◌, ◌++◌, length, map, drop, sym, ap, subst, ◌∙◌, append_assoc, get_or-set_same, drop_of_length-le, Bool, true, false, ◌||◌, IsTrue, Result, Ok, Err, IsErr, IsErrAnd, OnOk, Option, Some, None}
-use Rattle.nb_session.proofs.Common.{list_all, slice_index_or, cases_lt, append-nil, IsDone, World, CountsDevice, CountsRun, FaultCount, Fault, Refused, Device, Memory, RunError, Statement, Base, Foretells, IsMaking, MadeFile, making, making_by, Turn, Begins, Now, Played, base_now, event_of, outcome, stands_then, take_turn, one_turn, base_after, Trail, turn_stands, Held, Task, Left, Same, Other, Taken, Asker, task_first, task_rest, task_todo, task_left, left_of, left_refused, left_task, todo_of, HasTodo, KeepsOthers, IsReady, TaskGoes, only_told, shown_by, shown_first, shown_next, begun_in, begun_first, touching, touching_by, GoesFurther, Turns, TakesNext, Steps, Plays, told_turns, or_false}
+use Rattle.nb_session.proofs.Common.{slice_index_or, cases_lt, append-nil, IsDone, World, CountsDevice, CountsRun, FaultCount, Fault, Refused, Device, Memory, RunError, Statement, Base, Foretells, IsMaking, MadeFile, making, making_by, Turn, Begins, Now, Played, base_now, outcome, stands_then, take_turn, one_turn, base_after, Trail, turn_stands, Held, Task, Left, Same, Other, Taken, Asker, task_first, task_rest, task_todo, task_left, left_of, left_refused, left_task, todo_of, HasTodo, KeepsOthers, IsReady, TaskGoes, shown_by, shown_first, shown_next, begun_in, begun_first, touching, touching_by, GoesFurther, Turns, TakesNext, Steps, Plays, told_turns, or_false, name_of}
 use Rattle.nb_host.specs.declared.faults.RunError.TheVariants.{Device as DeviceError, Memory as MemoryError}
-use Rattle.nb_session.proofs.EventLaws.{one_told}
+use Rattle.nb_session.specs.Ended.{EndsFirst, EndsNext, EndsTurn}
+use Rattle.nb_session.specs.Short.{RanOut}
 use Rattle.nb_session.proofs.MakesLaws.{place_in}
 use Rattle.nb_session.proofs.TouchingLaws.{one_turn_is}
 use Rattle.nb_session.proofs.UnderWayLaws.{making_append, making_begins}
@@ -44,10 +45,9 @@ module _ {T : Type 0} (refused : T → Bool) (task : T → Option Task) (old new
   told_turn : Foretells now.given (shown_next asker a) old new → Foretells now.given (shown_by turn a) old new
   told_turn = subst (λ (ts : List Turn). Foretells now.given (shown_first ts a) old new) here
 
-  -- so was what it only told
-  told_only : list_all only_told (one_turn asker.number now).0 ≡ true → only_told (event_of asker.number turn (outcome asker.number turn now)) ≡ true
-  unfolding take_turn
-  told_only all = one_told (event_of asker.number turn (outcome asker.number turn now)) (subst (λ (p : Played). list_all only_told p.0 ≡ true) one_is all)
+  -- it is the next one
+  ends_next : (ran_out : Type 0) → EndsTurn ran_out old new (name_of a) t now asker.number turn → EndsNext ran_out old new (name_of a) t now asker.number
+  ends_next ran_out ends = subst (EndsFirst ran_out old new (name_of a) t now asker.number) (sym (has ∙ here)) ends
 
   -- the turn was taken
   takes_turn : (value : T) (noted : Bool) → moved ≡ record { number = asker.number; told = asker.told; statements = rest; task = task value; refused = noted }
@@ -55,7 +55,7 @@ module _ {T : Type 0} (refused : T → Bool) (task : T → Option Task) (old new
   takes_turn value noted same turns = record {
     grows = turns.grows;
     plays = λ told. plays_one (Ok (refused value)) (turns.plays (told_turn told));
-    unchanged = λ told all. turns.unchanged (told_turn told) (told_only all);
+    ends = λ told. ends_next (RanOut {T = Unit {0}} (Ok tt)) (record { unchanged = (turns.ends (told_turn told)).unchanged; short = λ ran done. absurd ran });
     todo = λ told.
         ap (λ (x : Asker). slice_index_or (one_turn asker.number now).1.todo (x.number - 1) []) same
         ∙ ap (λ (p : Played). slice_index_or p.1.todo (asker.number - 1) []) one_is ∙ taken_todo asker.number now turn (tail ++ more) (has ∙ here)
@@ -73,7 +73,9 @@ module _ {T : Type 0} (refused : T → Bool) (task : T → Option Task) (old new
     grows = turns.grows;
     plays = λ told. subst (λ (f : RunError). Plays (Err f) old new a b t now (told_turns asker.told (one_turn asker.number now)) (touching_by asker.number now)) (sym is.1)
         (plays_one (Err error) (turns.plays (told_turn told)));
-    unchanged = λ told all. turns.unchanged (told_turn told) (told_only all);
+    ends = λ told.
+        let here_ends = turns.ends (told_turn told) in
+        ends_next (RanOut {T = Unit {0}} (Err e)) (record { unchanged = here_ends.unchanged; short = λ ran done. here_ends.short (subst (λ (f : RunError). RanOut {T = T} (Err f)) is.1 ran) done });
     todo = λ told. tt;
     goes = λ told. tt;
   }

@@ -1,8 +1,10 @@
 -- One turn, by what it made of the database and by its line.
 use Rattle.std.proofs.Common.{◌≡◌, ◌<◌, ℕ, ◌-◌, List, [], ◌∷◌, ◌++◌, Bool, false, refl, sym, ap, subst, ◌∙◌, true, Result, Ok, Err, IsErr, IfOk, Option, Some, None, if◌then◌else◌}
-use Rattle.nb_session.proofs.Common.{slice_index_or, append-nil, World, Fault, Refused, Device, Memory, Refusal, RunError, Reply, Statement, Foretells, IsMaking, line_text, MadeFile, Turn, Begins, Seen, status_after, Now, Played, base_now, outcome, take_turn, Trail, first_turn, turn, status_plain, IsSingle, IsNoRefusal, Held, Left, Other, Task, Taken, Told, Says, Grows, shown_by, Acts, MayAct, TaskFits, left_refused, left_task, task_left, IsReady, HasEnded, is_refusal, EndsEarly, SaysLine, as_played, touching, GoesFurther, IsBehind, Turns, Plays, told_line, told_reply, told_turns, false_true, IfOk-from_err}
+use Rattle.nb_session.proofs.Common.{slice_index_or, append-nil, true≢false, name_of, World, Fault, Refused, Device, Memory, Refusal, RunError, Reply, Statement, Foretells, IsMaking, line_text, MadeFile, Turn, Begins, Seen, status_after, Now, Played, base_now, outcome, take_turn, Trail, first_turn, turn, status_plain, IsSingle, IsNoRefusal, Held, Left, Other, Task, Taken, Told, Says, Grows, shown_by, Acts, MayAct, TaskFits, left_refused, left_task, task_left, IsReady, HasEnded, is_refusal, EndsEarly, SaysLine, as_played, touching, GoesFurther, IsBehind, Turns, Plays, told_line, told_reply, told_turns, false_true, IfOk-from_err}
 use Rattle.nb_model.specs.declared.reply.Reply.TheVariants.{Refused as RefusedBy}
 use Rattle.nb_model.proofs.UsageLaws.{never_usage}
+use Rattle.nb_lines.specs.Brief.{is_brief}
+use Rattle.nb_session.specs.Short.{LacksLast, RanOut, says_done}
 use Rattle.nb_session.proofs.EventLaws.{Marks, event_failed, event_quiet, event_unsaid, event_said}
 use Rattle.nb_session.proofs.GiftLaws.{foretold_still, grows_joined, grows_none}
 use Rattle.nb_session.proofs.SaysLaws.{says_other}
@@ -28,11 +30,12 @@ module _ {T S : Type 0} (how : Told) (reply : T → Option Reply) (result : Resu
   marks told = subst (Marks old mid e0) files_are (mark (may.acts told))
 
   -- it failed before it was to say anything
-  pub turns_failed : (answer : Result S RunError) → IsErr answer → Turns how refused task answer old mid e0 e1 t now session u tail more
-  turns_failed answer failed = record {
+  pub turns_failed : (answer : Result S RunError) → IsErr answer → (Acts reply result old mid e0 e1 t now session u files → RanOut answer → LacksLast old mid (name_of e0) t (outcome session u now).strokes)
+      → Turns how refused task answer old mid e0 e1 t now session u tail more
+  turns_failed answer failed lacks = record {
     grows = may.grows;
     plays = λ told. plays_err refused answer old mid e0 e1 t now played (touching session u tail now) failed (event_failed how old mid mid e0 e1 t now session u tail more result reply (acting told) (marks told));
-    unchanged = λ told. (acting told).unchanged;
+    ends = λ told. record { unchanged = (acting told).unchanged; short = λ ran done. lacks (may.acts told) ran };
     behind = λ told. IfOk-from_err answer _ failed;
   }
 
@@ -45,7 +48,7 @@ module _ {T S : Type 0} (how : Told) (reply : T → Option Reply) (result : Resu
         let acts = acting told in
         subst (λ (b : Bool). Plays (Ok b) old mid e0 e1 t now played (touching session u tail now)) (sym not_refused)
         (event_quiet how old mid mid e0 e1 t now session u tail more result reply acts (marks told) has place ready makes (quiet _ acts.says));
-    unchanged = λ told. (acting told).unchanged;
+    ends = λ told. record { unchanged = (acting told).unchanged; short = λ ran done. absurd ran };
     behind = behind;
   }
 
@@ -56,15 +59,20 @@ module _ {T S : Type 0} (how : Told) (reply : T → Option Reply) (result : Resu
     grown : Grows old new
     grown = grows_joined old mid new may.grows (grows_none mid new says.gave)
 
-    -- its line wasn't said whole
-    pub turns_unsaid : (answer : Result S RunError) → IsErr answer → Turns how refused task answer old new e0 e1 t now session u tail more
-    turns_unsaid answer failed = record {
+    -- its line wasn't said whole; memory was taken for it before, where it says what was done
+    pub turns_unsaid : (answer : Result S RunError) → IsErr answer → (is_brief r ≡ true → RanOut answer → ⊥) → Turns how refused task answer old new e0 e1 t now session u tail more
+    turns_unsaid answer failed lined = record {
       grows = grown;
       plays = λ told.
           let acts = acting (before told) in
           plays_err refused answer old new e0 e1 t now played (touching session u tail now) failed
           (event_unsaid how old mid new e0 e1 t now session u tail more result reply acts (marks (before told)) has place ready makes r (is_said _ acts.says) line_said says);
-      unchanged = λ told only. says.still.files ∙ (acting (before told)).unchanged only;
+      ends = λ told.
+          let acts = acting (before told) in
+          record {
+            unchanged = λ only. says.still.files ∙ acts.unchanged only;
+            short = λ ran done. absurd (lined (subst (λ (x : Option Reply). says_done x ≡ true) (is_said _ acts.says) done) ran);
+          };
       behind = λ told. IfOk-from_err answer _ failed;
     }
 
@@ -77,7 +85,7 @@ module _ {T S : Type 0} (how : Told) (reply : T → Option Reply) (result : Resu
           let acts = acting (before told) in
           let reply_is = is_said _ acts.says in
           event_said how old mid new e0 e1 t now session u tail more result reply acts (marks (before told)) has place ready makes r reply_is line_said says (refused value) said (status reply_is);
-      unchanged = λ told only. says.still.files ∙ (acting (before told)).unchanged only;
+      ends = λ told. record { unchanged = λ only. says.still.files ∙ (acting (before told)).unchanged only; short = λ ran done. absurd ran };
       behind = λ told. behind (before told);
     }
 
@@ -95,11 +103,12 @@ module _ (answer : Result Left RunError) (is : IfOk answer (λ left. left ≡ wa
   pub turns_told : {T : Type 0} (how : Told) (reply : T → Option Reply) (result : Result T Fault) (task : Option Task) (old mid new : World) (e0 e1 : Held) (t : Trail) (now : Now) (session : ℕ) (u : Turn) (tail more : List Turn)
       (files : List MadeFile) → files ≡ touching session u tail now → IsMaking now → slice_index_or now.todo (session - 1) [] ≡ u ∷ (tail ++ more) → MayAct reply result old mid e0 e1 t now session u files
       → (Acts reply result old mid e0 e1 t now session u files → Marks old mid e0 files) → HasEnded result → (r : Reply) → ((said : Option Reply) → Says reply result said → said ≡ Some r) → IsReady old e0 t now
-      → SaysLine answer mid new (told_line session (told_reply how (Some r))) → status_after r ≡ 0 → IsBehind new e1 session u tail now None → Turns how left_refused (left_task task) answer old new e0 e1 t now session u tail more
-  turns_told how reply result task old mid new e0 e1 t now session u tail more files files_are makes place may mark ended r is_said ready says status behind =
-      last_either answer is (λ (a : Result Left RunError). SaysLine a mid new (told_line session (told_reply how (Some r))) → Turns how left_refused (left_task task) a old new e0 e1 t now session u tail more)
-      (λ line. turns_said how reply result left_refused (left_task task) old mid new e0 e1 t now session u tail more files files_are makes place may mark ended r is_said {V = Left} {E = RunError} (Ok was_last) line ready was_last line.said (λ replied. status) (λ told. behind))
-      (λ e line. turns_unsaid how reply result left_refused (left_task task) old mid new e0 e1 t now session u tail more files files_are makes place may mark ended r is_said {V = Left} {E = RunError} (Err e) line ready (Err e) refl) says
+      → SaysLine answer mid new (told_line session (told_reply how (Some r))) → (is_brief r ≡ true → RanOut answer → ⊥) → status_after r ≡ 0 → IsBehind new e1 session u tail now None
+      → Turns how left_refused (left_task task) answer old new e0 e1 t now session u tail more
+  turns_told how reply result task old mid new e0 e1 t now session u tail more files files_are makes place may mark ended r is_said ready says lined status behind =
+      last_either answer is (λ (a : Result Left RunError). SaysLine a mid new (told_line session (told_reply how (Some r))) → (is_brief r ≡ true → RanOut a → ⊥) → Turns how left_refused (left_task task) a old new e0 e1 t now session u tail more)
+      (λ line in_room. turns_said how reply result left_refused (left_task task) old mid new e0 e1 t now session u tail more files files_are makes place may mark ended r is_said {V = Left} {E = RunError} (Ok was_last) line ready was_last line.said (λ replied. status) (λ told. behind))
+      (λ e line in_room. turns_unsaid how reply result left_refused (left_task task) old mid new e0 e1 t now session u tail more files files_are makes place may mark ended r is_said {V = Left} {E = RunError} (Err e) line ready (Err e) refl in_room) says lined
 
   -- nothing of it is left, and it needs nothing
   pub last_falls : (now_task : Option Task) (task : Task) → 0 < task_left (Some task) → IfOk answer (λ left. task_left (left_task now_task left) < task_left (Some task))
@@ -108,18 +117,22 @@ module _ (answer : Result Left RunError) (is : IfOk answer (λ left. left ≡ wa
   pub last_fits : (now_task : Option Task) (session : ℕ) (held : Held) → IfOk answer (λ left. TaskFits session (left_task now_task left) held)
   last_fits now_task session held = last_either answer is (λ (a : Result Left RunError). IfOk a (λ left. TaskFits session (left_task now_task left) held)) tt (λ e. tt)
 
+-- it is one
+err_is : {T : Type 0} {answer : Result T RunError} {error : RunError} → answer ≡ Err error → IsErr answer
+err_is {T} {answer} {error} is = subst (λ (r : Result T RunError). IsErr r) (sym is) refl
+
 -- A turn that isn't refused ended early by a fault.
 pub turns_lost : {T S : Type 0} (how : Told) (reply : T → Option Reply) (refused : S → Bool) (task : S → Option Task) (old mid new : World) (e0 e1 : Held) (t : Trail) (now : Now) (session : ℕ) (u : Turn) (tail more : List Turn)
     (files : List MadeFile) → files ≡ touching session u tail now → IsMaking now → slice_index_or now.todo (session - 1) [] ≡ u ∷ (tail ++ more) → (fault : Fault) → IsNoRefusal fault → MayAct reply (Err fault) old mid e0 e1 t now session u files
     → (Acts reply (Err fault) old mid e0 e1 t now session u files → Marks old mid e0 files) → (ended : Result Taken RunError) → (same : Type 0) → (same → new ≡ mid) → EndsEarly session fault ended mid new same → (answer : Result S RunError) → (IsErr ended → IsErr answer)
-    → Turns how refused task answer old new e0 e1 t now session u tail more
-turns_lost how reply refused task old mid new e0 e1 t now session u tail more files files_are makes place (Refused refusal) none may mark ended same is_same early answer passed = absurd none
-turns_lost how reply refused task old mid new e0 e1 t now session u tail more files files_are makes place Device none may mark ended same is_same early answer passed =
+    → (RanOut answer → RanOut ended) → Turns how refused task answer old new e0 e1 t now session u tail more
+turns_lost how reply refused task old mid new e0 e1 t now session u tail more files files_are makes place (Refused refusal) none may mark ended same is_same early answer passed out = absurd none
+turns_lost how reply refused task old mid new e0 e1 t now session u tail more files files_are makes place Device none may mark ended same is_same early answer passed out =
     subst (λ (w : World). Turns how refused task answer old w e0 e1 t now session u tail more) (sym (is_same early.1))
-    (turns_failed how reply (Err Device) refused task old mid mid e0 e1 t now session u tail more files files_are makes place may mark answer (passed early.0))
-turns_lost how reply refused task old mid new e0 e1 t now session u tail more files files_are makes place Memory none may mark ended same is_same early answer passed =
+    (turns_failed how reply (Err Device) refused task old mid mid e0 e1 t now session u tail more files files_are makes place may mark answer (passed (err_is early.0)) (λ acts ran. absurd (subst (RanOut {T = Taken}) early.0 (out ran))))
+turns_lost how reply refused task old mid new e0 e1 t now session u tail more files files_are makes place Memory none may mark ended same is_same early answer passed out =
     subst (λ (w : World). Turns how refused task answer old w e0 e1 t now session u tail more) (sym (is_same early.1))
-    (turns_failed how reply (Err Memory) refused task old mid mid e0 e1 t now session u tail more files files_are makes place may mark answer (passed early.0))
+    (turns_failed how reply (Err Memory) refused task old mid mid e0 e1 t now session u tail more files files_are makes place may mark answer (passed (err_is early.0)) (λ acts ran. acts.short))
 
 -- what is said of the task that is under way
 pub under_is : {under : Option Task} {field task : Task} → under ≡ Some field → field ≡ task → under ≡ Some task
@@ -166,7 +179,7 @@ module _ {T : Type 0} (how : Told) (reply : T → Option Reply) (old mid new : W
   begun_refused refusal may mark (Err e) says is behind =
       turns_unsaid how reply (Err (Refused refusal)) (λ (x : Taken). x.refused) (λ (x : Taken). x.task) old mid new e0 e1 t now session (Begins it) [] more files files_are makes place may mark tt (RefusedBy refusal) (λ said s. s) (Err e)
       (says_other (Err e) mid new _ _ (refusal_line how session refusal) says) ready
-      (Err e) refl
+      (Err e) refl (λ brief ran. true≢false (sym brief))
 
   pub begun_ended : (fault : Fault) → MayAct reply (Err fault) old mid e0 e1 t now session (Begins it) files → (Acts reply (Err fault) old mid e0 e1 t now session (Begins it) files → Marks old mid e0 files)
       → (answer : Result Taken RunError) → (same : Type 0) → (same → new ≡ mid) → EndsEarly session fault answer mid new same → IfOk answer (λ taken. taken ≡ record { task = None; refused = true })
@@ -174,6 +187,6 @@ module _ {T : Type 0} (how : Told) (reply : T → Option Reply) (old mid new : W
       → Turns how (λ taken. taken.refused) (λ taken. taken.task) answer old new e0 e1 t now session (Begins it) [] more
   begun_ended (Refused refusal) may mark answer same is_same early is behind = begun_refused refusal may mark answer early is (behind refusal refl)
   begun_ended Device may mark answer same is_same early is behind =
-      turns_lost how reply (λ (x : Taken). x.refused) (λ (x : Taken). x.task) old mid new e0 e1 t now session (Begins it) [] more files files_are makes place Device tt may mark answer same is_same early answer (λ failed. failed)
+      turns_lost how reply (λ (x : Taken). x.refused) (λ (x : Taken). x.task) old mid new e0 e1 t now session (Begins it) [] more files files_are makes place Device tt may mark answer same is_same early answer (λ failed. failed) (λ ran. ran)
   begun_ended Memory may mark answer same is_same early is behind =
-      turns_lost how reply (λ (x : Taken). x.refused) (λ (x : Taken). x.task) old mid new e0 e1 t now session (Begins it) [] more files files_are makes place Memory tt may mark answer same is_same early answer (λ failed. failed)
+      turns_lost how reply (λ (x : Taken). x.refused) (λ (x : Taken). x.task) old mid new e0 e1 t now session (Begins it) [] more files files_are makes place Memory tt may mark answer same is_same early answer (λ failed. failed) (λ ran. ran)

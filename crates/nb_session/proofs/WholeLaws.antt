@@ -10,7 +10,7 @@ use Rattle.nb_session.proofs.InTurnLaws.{told_trail}
 use Rattle.nb_session.proofs.NameLaws.{HaveNames, made_named, begun_plain}
 use Rattle.nb_session.proofs.NextLaws.{play_length, play_more, next_among, next_once, next_others, play_ahead, finished_among}
 use Rattle.nb_session.proofs.PlayLaws.{behind, trail_after, plays_none, plays_wider, plays_failed, plays_cut}
-use Rattle.nb_session.proofs.SceneLaws.{sessions_kind, done_todo, agent_some, Holds, HoldsAt, rests_hold, moves_hold, none_hold, turn_plays, turn_still, turn_grows, at_place}
+use Rattle.nb_session.proofs.SceneLaws.{sessions_kind, done_todo, agent_some, Holds, HoldsAt, rests_hold, moves_hold, none_hold, turn_plays, turn_ends, turn_grows, at_place}
 use Rattle.nb_session.proofs.StopLaws.{AreApart}
 use Rattle.nb_session.proofs.ToldLaws.{told_append, told_among, told_others}
 
@@ -197,7 +197,7 @@ module _ {H : Type 0} (tells : Bool) (told : IsTrue tells) (world : H → World)
           let last : Plays (Err error) (world e.last.host) (world after.host) e.last.shared after.shared (trail_after t (told_turns how (play e.front now))) (play e.front now).1 (told_turns how (one_turn e.session (play e.front now).1)) (touching_by e.session (play e.front now).1) =
           turn_plays tells told world faults old before t how now order numbers making e.holds.shown e.front e.rest e.session e.last after (sym e.is) before_it number e.move.agent e.move.moved e.move.there e.move.agents e.move.same_session
           (Err error) e.move.made now.given making.going.sixteen foretold in
-          let still = turn_still tells told world faults old before t how now order numbers making e.holds.shown e.front e.rest e.session e.last after (sym e.is) before_it number e.move.agent e.move.moved e.move.there e.move.agents e.move.same_session
+          let ends = turn_ends tells told world faults old before t how now order numbers making e.holds.shown e.front e.rest e.session e.last after (sym e.is) before_it number e.move.agent e.move.moved e.move.there e.move.agents e.move.same_session
           (Err error) e.move.made now.given making.going.sixteen foretold in
           let far = before_it.so_far now.given making.going.sixteen (foretold_first (world old) (world e.last.host) (world after.host) now.given e.holds.shown (shown_next e.move.agent e.last.shared) before_it.grown last_grows foretold) in
           let p : Played = play e.front now in
@@ -221,7 +221,7 @@ module _ {H : Type 0} (tells : Bool) (told : IsTrue tells) (world : H → World)
               mid = e.last.host;
               between = e.last.shared;
               taken = far.in_turn;
-              last = (subst (λ (u : Trail). Plays (Err error) (world e.last.host) (world after.host) e.last.shared after.shared u p.1 (told_turns how (one_turn e.session p.1)) (touching_by e.session p.1)) (told_trail how t p) last, still);
+              last = (subst (λ (u : Trail). Plays (Err error) (world e.last.host) (world after.host) e.last.shared after.shared u p.1 (told_turns how (one_turn e.session p.1)) (touching_by e.session p.1)) (told_trail how t p) last, ends);
             };
             guids = tt;
           }

@@ -5,6 +5,8 @@ pub mod InTurn
 pub mod Todo
 pub mod Told
 pub mod Replies
+pub mod Short
+pub mod Ended
 pub mod Says
 pub mod Askers
 pub mod Acts

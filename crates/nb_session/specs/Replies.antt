@@ -15,10 +15,10 @@ use Rattle.nb_state.specs.Does.{has_only_told}
 abbrev pub some_said : Reply → Option Reply
 some_said reply = Some reply
 
--- the reply to what was answered: this of its value, or that memory ran out for it, or the same failure
+-- the reply to what was answered: this of its value, or the same failure
 abbrev pub Replies : {T : Type 0} → (T → Reply) → Result T Fault → Result Reply Fault → Type 0
 Replies reply (Ok value) (Ok said) = said ≡ reply value
-Replies reply (Ok value) (Err fault) = fault ≡ Memory
+Replies reply (Ok value) (Err fault) = ⊥
 Replies reply (Err fault) (Ok said) = ⊥
 Replies reply (Err fault) (Err other) = other ≡ fault
 

@@ -1,6 +1,6 @@
 -- What one turn of a session does.
-use Rattle.std.specs.Prelude.{◌≡◌, ℕ, ◌-◌, List, [], ◌∷◌, ◌++◌, ◌||◌, Bool, true, IsTrue, Option, Some, None, Result, Ok, Err, OnOk, IfOk}
-use Rattle.std.specs.List.{list_all, slice_index_or}
+use Rattle.std.specs.Prelude.{◌≡◌, ℕ, ◌-◌, List, [], ◌∷◌, ◌++◌, ◌||◌, Bool, IsTrue, Option, Some, None, Result, Ok, Err, OnOk, IfOk}
+use Rattle.std.specs.List.{slice_index_or}
 use Rattle.nb_host.specs.World.{World}
 use Rattle.nb_host.specs.declared.faults.RunError.{RunError}
 use Rattle.nb_host.specs.Causes.{CountsRun, FaultCount}
@@ -9,17 +9,18 @@ use Rattle.nb_model.specs.Gifts.{Foretells}
 use Rattle.nb_model.specs.Going.{IsMaking}
 use Rattle.nb_model.specs.Making.{MadeFile, making, making_by}
 use Rattle.nb_model.specs.Outcomes.{Turn, Begins}
-use Rattle.nb_model.specs.Run.{Now, base_now, event_of, outcome, take_turn, one_turn}
+use Rattle.nb_model.specs.Run.{Now, base_now, outcome, take_turn, one_turn}
 use Rattle.nb_model.specs.Strokes.{base_after}
 use Rattle.nb_model.specs.Trail.{Trail}
-use Rattle.nb_state.specs.Open.{Held}
+use Rattle.nb_state.specs.Open.{Held, name_of}
 use Rattle.nb_session.specs.Acts.{Grows, shown_by}
 use Rattle.nb_session.specs.declared.task.Left.{Left}
 use Rattle.nb_session.specs.declared.task.Task.{Task}
 use Rattle.nb_session.specs.declared.told.Told.{Told}
 use Rattle.nb_session.specs.Askers.{Asker, HasTodo, KeepsOthers, left_refused, left_task, task_first, task_rest, task_todo, todo_of}
 use Rattle.nb_session.specs.Ready.{IsReady, TaskGoes}
-use Rattle.nb_session.specs.Replies.{only_told}
+use Rattle.nb_session.specs.Ended.{EndsTurn, EndsNext}
+use Rattle.nb_session.specs.Short.{RanOut}
 use Rattle.nb_session.specs.Stops.{Plays}
 use Rattle.nb_session.specs.Told.{told_turns}
 
@@ -63,13 +64,12 @@ pub record IsBehind (w : World) (held : Held) (session : ℕ) (turn : Turn) (tai
   pub next : (outcome session turn now).next ++ tail ≡ task_todo task
   pub goes : TaskGoes session w held (base_after (base_now now) (outcome session turn now).strokes).frozen task
 
--- A turn was taken, and what is told of it said, where the outside gave what it may give. Where it only tells something, no file has changed,
--- however it ended. `tail` is what its statement has to do after it, and `more` what its session has after that.
+-- A turn was taken, and what is told of it said, where the outside gave what it may give. `tail` is what its statement has to do after it, and `more` what its session has after that.
 pub record Turns {T : Type 0} (told : Told) (refused : T → Bool) (task : T → Option Task) (result : Result T RunError) (old new : World) (before after : Held) (t : Trail) (now : Now) (session : ℕ) (turn : Turn) (tail more : List Turn) : Type 0 where
   pub grows : Grows old new
   pub plays : Foretells now.given (shown_by turn before) old new
       → Plays (as_played refused result) old new before after t now (told_turns told (take_turn session (turn ∷ (tail ++ more)) now)) (touching session turn tail now)
-  pub unchanged : Foretells now.given (shown_by turn before) old new → only_told (event_of session turn (outcome session turn now)) ≡ true → new.files ≡ old.files
+  pub ends : Foretells now.given (shown_by turn before) old new → EndsTurn (RanOut result) old new (name_of before) t now session turn
   pub behind : Foretells now.given (shown_by turn before) old new → IfOk result (λ value. IsBehind new after session turn tail now (task value))
 
 -- What is under way took its next turn, where the session has that to do and it goes on from where it is. It is `now_task` then, where it goes on.
@@ -79,12 +79,11 @@ GoesFurther told (Some task) now_task result old new before after t now session 
     slice_index_or now.todo (session - 1) [] ≡ task_first task ∷ (task_rest task ++ more) → TaskGoes session old before t.base.frozen (Some task)
     → Turns told left_refused (left_task now_task) result old new before after t now session (task_first task) (task_rest task) more
 
--- The next turn of a session was taken, what it has to do then is left, and what is under way of it goes on. Where it only tells something, no file has
--- changed, however it ended.
+-- The next turn of a session was taken, what it has to do then is left, and what is under way of it goes on.
 pub record TakesNext (refused : Bool) (result : Result (Unit {0}) RunError) (old new : World) (before after : Held) (t : Trail) (now : Now) (asker moved : Asker) : Type 0 where
   pub grows : Grows old new
   pub plays : Foretells now.given (shown_next asker before) old new → Plays (as_played (λ done. refused) result) old new before after t now (told_turns asker.told (one_turn asker.number now)) (touching_by asker.number now)
-  pub unchanged : Foretells now.given (shown_next asker before) old new → list_all only_told (one_turn asker.number now).0 ≡ true → new.files ≡ old.files
+  pub ends : Foretells now.given (shown_next asker before) old new → EndsNext (RanOut result) old new (name_of before) t now asker.number
   pub todo : Foretells now.given (shown_next asker before) old new → OnOk result (HasTodo moved (one_turn asker.number now).1)
   pub goes : Foretells now.given (shown_next asker before) old new → OnOk result (TaskGoes asker.number new after (base_now (one_turn asker.number now).1).frozen moved.task)
 

@@ -21,7 +21,7 @@ ghost use Rattle.nb_session.specs.declared.told.Told.{Told};
 ghost use Rattle.nb_session.specs.Ready.{IsReady};
 ghost use Rattle.nb_session.specs.Steps.{GoesFurther, Turns};
 
-use crate::answer::tell_last;
+use crate::answer::{line_room, tell_last};
 use crate::merges::end_early;
 use crate::task::{Left, Taken, Task};
 use crate::told::Told;
@@ -181,7 +181,8 @@ pub fn copy_on<H: Host>(
         Progress::Finished => {
             stop_running(engine, session);
             let pages = copier.written();
-            tell_last(alloc, host, session, told, Reply::Pages { pages })
+            let line = line_room(alloc)?;
+            tell_last(line, host, session, told, Reply::Pages { pages })
         }
     }
 }

@@ -18,7 +18,7 @@ ghost use Rattle.nb_session.specs.Ready.{IsReady};
 ghost use Rattle.nb_session.specs.Says.{EndsEarly, SaysLine};
 ghost use Rattle.nb_session.specs.Steps.{GoesFurther, Turns};
 
-use crate::answer::{say, tell_last};
+use crate::answer::{line_room, say, tell_last};
 use crate::task::{Left, Merging, Taken, Task};
 use crate::told::Told;
 use nb_engine::Engine;
@@ -123,7 +123,7 @@ pub fn end_backup<H: Host>(
     }
 }
 
-/// A further turn of a merge, which is changed in its place. In the last one its reply is told.
+/// A further turn of a merge, which is changed in its place. In the last one its reply is told, in memory that is taken before.
 pub fn merge_on<H: Host>(
     alloc: Global,
     host: &mut H,
@@ -140,6 +140,7 @@ pub fn merge_on<H: Host>(
     ensures others { KeepsOthers session engine.old engine.new }
     ensures cause { CountsRun result (H.faults host.old) (H.faults host.new) }
 {
+    let line = line_room(alloc)?;
     match engine.merge_turn(host)? {
         Progress::More => {
             merging.left -= 1;
@@ -147,7 +148,7 @@ pub fn merge_on<H: Host>(
         }
         Progress::Finished => {
             let reply = mem::replace(&mut merging.reply, Reply::Done);
-            tell_last(alloc, host, session, told, reply)
+            tell_last(line, host, session, told, reply)
         }
     }
 }

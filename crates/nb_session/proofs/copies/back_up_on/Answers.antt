@@ -1,4 +1,5 @@
-use Rattle.std.proofs.Common.{◌≡◌, refl, ap, Ok, Err}
+use Rattle.std.proofs.Common.{◌≡◌, refl, sym, ap, subst, Ok, Err}
+use Rattle.nb_session.proofs.ShortLaws.{ran_same}
 use Rattle.nb_session.proofs.Common.{Level, Progress, file_written, Backed, Taken}
 use Rattle.nb_session.proofs.BackupLaws.{seen_with, backup_more, backup_closed, backup_lost}
 use Rattle.nb_session.proofs.StepLaws.{counts_as, counts_handed}
@@ -31,7 +32,7 @@ returns-in_err-end_early-in-Err-clause-turn g c how now t more tells ready makes
     backup_lost how (g.H.Host.world c.args.host.now) (g.H.Host.world c.turn.new.host) c.args.engine.now c.turn.new.engine t now c.args.session copier c.turn.new.self more ready makes here goes of.goes
     (g.met.H.Host.reads_left c.args.host.now tells copier.backing.name) (g.met.H.Host.reads_left c.turn.new.host tells) c.in-Err.fault
     (λ given may most. of.turn (seen_with now given) t tells ready.base ready.opened may.stalled may.entry goes.0 may.below may.apart most) (λ may. of.asks t tells ready.opened may.stalled goes.0 may.apart)
-    (g.H.Host.world c.end_early.new.host) (Err c.in_err-end_early-in-Err.field-0.0) (c.end_early.new.host ≡ c.turn.new.host) (ap g.H.Host.world) (c.in_err-end_early-in-Err.ensures.ended tells) c.from_residual.result (λ failed. c.from_residual.ensures.0)
+    (g.H.Host.world c.end_early.new.host) (Err c.in_err-end_early-in-Err.field-0.0) (c.end_early.new.host ≡ c.turn.new.host) (ap g.H.Host.world) (c.in_err-end_early-in-Err.ensures.ended tells) c.from_residual.result (λ failed. c.from_residual.ensures.0) (ran_same Taken c.from_residual.result _ c.from_residual.ensures.1)
 
 pub returns-in_ok-end_early-in-Err-clause-turn : goal.returns-in_ok-end_early-in-Err-clause-turn
 returns-in_ok-end_early-in-Err-clause-turn g c how now t more tells ready makes here goes =
@@ -40,7 +41,7 @@ returns-in_ok-end_early-in-Err-clause-turn g c how now t more tells ready makes 
     backup_lost how (g.H.Host.world c.args.host.now) (g.H.Host.world c.turn.new.host) c.args.engine.now c.turn.new.engine t now c.args.session copier c.turn.new.self more ready makes here goes of.goes
     (g.met.H.Host.reads_left c.args.host.now tells copier.backing.name) (g.met.H.Host.reads_left c.turn.new.host tells) c.in-Err.fault
     (λ given may most. of.turn (seen_with now given) t tells ready.base ready.opened may.stalled may.entry goes.0 may.below may.apart most) (λ may. of.asks t tells ready.opened may.stalled goes.0 may.apart)
-    (g.H.Host.world c.end_early.new.host) (Ok c.in_ok-end_early-in-Err.field-0) (c.end_early.new.host ≡ c.turn.new.host) (ap g.H.Host.world) (c.in_ok-end_early-in-Err.ensures.ended tells) _ (λ failed. failed)
+    (g.H.Host.world c.end_early.new.host) (Ok c.in_ok-end_early-in-Err.field-0) (c.end_early.new.host ≡ c.turn.new.host) (ap g.H.Host.world) (c.in_ok-end_early-in-Err.ensures.ended tells) _ (λ failed. failed) (λ ran. ran)
 
 pub returns-in_err-end_early-in-Err-clause-cause : goal.returns-in_err-end_early-in-Err-clause-cause
 returns-in_err-end_early-in-Err-clause-cause g c =

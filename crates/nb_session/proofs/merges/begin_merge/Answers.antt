@@ -15,7 +15,7 @@ returns-in-Ok-clause-turn g c how now t more tells ready makes here =
     let b = c.end.new.self in
     let does = c.in-Ok.ensures.turn (seen_now now) t tells ready.base ready.running ready.opened in
     turns_quiet how (λ scn. None) (Ok c.in-Ok.scn) (λ (taken : Taken). taken.refused) (λ (taken : Taken). taken.task) old mid mid a b t now c.args.session _ [] more [] (begins_touch c.args.session EndBackup now (λ asks. asks)) makes here
-    (end_acts old mid a b t now c.args.session ready (Ok c.in-Ok.scn) c.end.ensures.cap does) (λ acts. marks_none old mid a)
+    (end_acts old mid a b t now c.args.session ready (Ok c.in-Ok.scn) c.end.ensures.cap tt does) (λ acts. marks_none old mid a)
     c.merge_of.result tt (ap (λ (x : Taken). x.refused) c.merge_of.ensures) ready (λ said is. is)
     (λ told. subst (λ (x : Taken). IsBehind mid b c.args.session (Begins EndBackup) [] now x.task) (sym c.merge_of.ensures) (end_behind old mid a b t now c.args.session ready (length b.files.entries) refl c.in-Ok.scn does))
 
@@ -30,7 +30,7 @@ returns-in-Err-clause-turn g c how now t more tells ready makes here =
     let fault = c.in-Err.fault in
     let does = c.in-Err.ensures.turn (seen_now now) t tells ready.base ready.running ready.opened in
     begun_ended how (λ scn. None) old mid new a b t now session EndBackup more [] (begins_touch session EndBackup now (λ asks. asks)) makes here ready fault
-    (end_acts old mid a b t now session ready (Err fault) c.end.ensures.cap does) (λ acts. marks_none old mid a) c.end_early.result (c.end_early.new.host ≡ c.end.new.host) (ap g.H.Host.world) (c.end_early.ensures.ended tells) c.end_early.ensures.taken
+    (end_acts old mid a b t now session ready (Err fault) c.end.ensures.cap c.in-Err.ensures.takes_none does) (λ acts. marks_none old mid a) c.end_early.result (c.end_early.new.host ≡ c.end.new.host) (ap g.H.Host.world) (c.end_early.ensures.ended tells) c.end_early.ensures.taken
     (λ refusal is told. end_refused old mid a b t now session ready refusal (subst (λ (f : Fault). DoesEnd (Err f) old mid a b t (end_scn t.base.image) (end_turn (seen_now now) session)) is does) new)
 
 pub returns-in-Err-clause-cause : goal.returns-in-Err-clause-cause

@@ -1,5 +1,5 @@
 use Rattle.std.proofs.Common.{◌≡◌, refl, sym, subst, Err}
-use Rattle.nb_session.proofs.Common.{CountsDevice, CountsRun, FaultCount, Fault, RunError, Taken, EndsEarly}
+use Rattle.nb_session.proofs.Common.{CountsDevice, CountsRun, FaultCount, Fault, Taken, EndsEarly}
 use Rattle.nb_host.specs.declared.faults.RunError.TheVariants.{Device as DeviceError, Memory as MemoryError}
 use Rattle.nb_session.proofs.merges.end_early.Goals as goal
 
@@ -10,12 +10,12 @@ returns-in-Refused-clause-ended g c tells =
 pub returns-in-Device-clause-ended : goal.returns-in-Device-clause-ended
 returns-in-Device-clause-ended g c tells =
     let w = g.H.Host.world c.args.host.now in
-    subst (λ (f : Fault). EndsEarly {T = Taken} {E = RunError} c.args.session f (Err DeviceError) w w (c.args.host.now ≡ c.args.host.now)) (sym c.in-Device.is) (refl, refl)
+    subst (λ (f : Fault). EndsEarly {T = Taken} c.args.session f (Err DeviceError) w w (c.args.host.now ≡ c.args.host.now)) (sym c.in-Device.is) (refl, refl)
 
 pub returns-in-Memory-clause-ended : goal.returns-in-Memory-clause-ended
 returns-in-Memory-clause-ended g c tells =
     let w = g.H.Host.world c.args.host.now in
-    subst (λ (f : Fault). EndsEarly {T = Taken} {E = RunError} c.args.session f (Err MemoryError) w w (c.args.host.now ≡ c.args.host.now)) (sym c.in-Memory.is) (refl, refl)
+    subst (λ (f : Fault). EndsEarly {T = Taken} c.args.session f (Err MemoryError) w w (c.args.host.now ≡ c.args.host.now)) (sym c.in-Memory.is) (refl, refl)
 
 pub returns-in-Refused-clause-cause : goal.returns-in-Refused-clause-cause
 returns-in-Refused-clause-cause g c before counts =
