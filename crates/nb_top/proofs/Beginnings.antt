@@ -4,7 +4,8 @@ use Rattle.nb_top.proofs.Common.{World, Leaves, Untouched, AtEachMoment, IsTimel
 use Rattle.nb_model.specs.declared.reply.Reply.TheVariants.{Refused as RefusedReply}
 use Rattle.nb_ended.specs.declared.status.Status.TheVariants.{Refused as RefusedStatus}
 use Rattle.nb_top.proofs.BegunRuns.{Left, start, first_one, begun_fails, begun_runs}
-use Rattle.nb_top.proofs.ByTurnsLaws.{OpensBeside, script_turns}
+use Rattle.nb_session.specs.ByTurns.{Ending}
+use Rattle.nb_top.proofs.ByTurnsLaws.{IsAs, OpensBeside, script_turns}
 use Rattle.nb_top.proofs.FirstLaws.{First}
 use Rattle.nb_top.proofs.QuietRuns.{runs_quietly}
 use Rattle.nb_top.proofs.ToldLaws.{Ran, performed_refused}
@@ -118,7 +119,7 @@ module _ (old : World) (account : Account) (given : Given) (plan : Plan) (tellin
 -- Turn by turn.
 module _ {H : Type 0} (world : H → World) (old mid : H) (account : Account) (given : Given) (plan : Plan) (telling : Telling) (askable : IsAskable plan) (beside : OpensBeside (world old) (world mid) account given plan) (held : Held)
     (is : FirstDone (world old) (world mid) account given plan telling askable held) where
-  pub script_by_turns : (early ended : Type 0) → (ended → early) → (new : H)
+  pub script_by_turns : (early ended : Ending) → IsAs ended early → (new : H)
       → TurnsFrom world ended plan.first (told_later telling held.files.count) mid new (script_now (world old) account given plan telling askable (world mid) held is) plan.schedule → ScriptByTurns world early old new plan telling account given
   unfolding script_now
   script_by_turns early ended so new turns =

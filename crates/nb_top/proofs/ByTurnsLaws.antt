@@ -1,8 +1,17 @@
 -- A run turn by turn, put together from the calls that it makes.
-use Rattle.std.proofs.Common.{◌≡◌, inl, inr, ⊎_elim, ℕ, List, [], ◌∷◌, ◌++◌, sym, ap, subst, ◌∙◌, Bool, true, false, not, Option, None, Some, Result, Ok, Err, IsErr}
-use Rattle.nb_top.proofs.Common.{World, LeavesAll, IsTimely, Refusal, FileExists, RunError, Only, Quiet, Plain, Account, with_entry, Cause, is_free_entry, not_free, generated, Given, output, Event, Now, Played, opening, play, rounds, files_made, Trail, OfFiles, Held, name_of, Plan, script_of, IsSaid, LeavesOthers, SaysLine, Statement, OpenDb, Plays, leaves_line, leaves_quiet, leaves_then, Status, Telling, Sparingly, EndsEarly, ReadByTurns, RunByTurns, ScriptByTurns, StillWhereOpened, TakesTold, TurnsFrom, WrittenByTurns, EndsAs, pages_first, told_later, Request, ToRun, ToGenerate, no_err}
-use Rattle.nb_model.specs.Run.{one_turn}
-use Rattle.nb_session.specs.ByTurns.{ByTurns, GoesByTurns, SaidInLast}
+use Rattle.std.proofs.Common.{◌≡◌, inl, inr, ⊎_elim, ℕ, ◌-◌, List, [], ◌∷◌, ◌++◌, sym, ap, subst, ◌∙◌, Bool, true, false, not, Option, None, Some, Result, Ok, Err, IsErr}
+use Rattle.nb_top.proofs.Common.{World, LeavesAll, IsTimely, Refusal, FileExists, RunError, Only, Quiet, Plain, Account, with_entry, Cause, is_free_entry, not_free, generated, Given, output, Event, Now, Played, opening, play, rounds, files_made, Trail, OfFiles, Held, name_of, Plan, script_of, IsSaid, LeavesOthers, SaysLine, Statement, OpenDb, Plays, leaves_line, leaves_quiet, leaves_then, Status, Telling, Sparingly, AskedByTurns, EndsEarly, ReadByTurns, RunByTurns, ScriptByTurns, StillWhereOpened, TakesTold, TurnsFrom, WrittenByTurns, EndsAs, pages_first, told_later, Request, ToRun, ToGenerate, no_err}
+use Rattle.std.specs.List.{slice_index_or}
+use Rattle.nb_host.specs.declared.faults.RunError.TheVariants.{Device as DeviceError, Memory as MemoryError}
+use Rattle.nb_model.specs.Outcomes.{Turn}
+use Rattle.nb_model.specs.Run.{base_now, one_turn}
+use Rattle.nb_model.specs.Steps.{steps_of, after_steps}
+use Rattle.nb_model.specs.Trail.{settled}
+use Rattle.nb_ended.specs.declared.status.Status.TheVariants.{Done, Refused, Usage, Device, Memory}
+use Rattle.nb_session.specs.ByTurns.{ByTurns, Ending, EndsInLast, GoesByTurns, SaidInLast, ending_of}
+use Rattle.nb_session.specs.Ended.{EndsFirst}
+use Rattle.nb_top.specs.ByTurns.{ending_by}
+use Rattle.nb_top.specs.Requests.{Asked, Runs, Does}
 use Rattle.nb_session.specs.Todo.{PlaysInTurn}
 use Rattle.nb_session.specs.Told.{told_events}
 use Rattle.nb_session.specs.declared.told.Told.{Told}
@@ -17,11 +26,33 @@ early_err (Err e) is = tt
 pub never_err : {T : Type 0} (value : T) (P : Type 0) → IsErr {T = T} {E = RunError} (Ok value) → P
 never_err value P is = absurd (cc is)
 
--- a run ends early where its turns did
-pub ended_early : (played : Result Bool RunError) (status : Result Status RunError) → EndsAs played status → IsErr played → EndsEarly status
-ended_early (Ok refused) status ends is = never_err refused (EndsEarly status) is
-ended_early (Err error) (Ok status) ends is = absurd ends
-ended_early (Err error) (Err same) ends is = tt
+-- what ended one run early did so of the other, and memory ran out in that one only where it did in this one
+pub record IsAs (one other : Ending) : Type 0 where
+  pub early : one.early → other.early
+  pub ran_out : other.ran_out → one.ran_out
+
+as_itself : (e : Ending) → IsAs e e
+as_itself e = record { early = λ x. x; ran_out = λ x. x }
+
+-- a run ended as its turns did
+pub ended_so : (played : Result Bool RunError) (status : Result Status RunError) → EndsAs played status → IsAs (ending_of played) (ending_by status)
+ended_so (Ok refused) (Ok Done) ends = record { early = never_err refused _; ran_out = λ x. absurd x }
+ended_so (Ok refused) (Ok Refused) ends = record { early = never_err refused _; ran_out = λ x. absurd x }
+ended_so (Ok refused) (Ok Usage) ends = record { early = never_err refused _; ran_out = λ x. absurd x }
+ended_so (Ok refused) (Ok Device) ends = record { early = never_err refused _; ran_out = λ x. absurd x }
+ended_so (Ok true) (Ok Memory) ends = absurd cc
+ended_so (Ok false) (Ok Memory) ends = absurd cc
+ended_so (Ok refused) (Err error) ends = absurd ends
+ended_so (Err error) (Ok status) ends = absurd ends
+ended_so (Err DeviceError) (Err same) ends = subst (λ (e : RunError). IsAs (ending_of {T = Bool} (Err DeviceError)) (ending_by (Err e))) (sym ends) (record { early = λ x. tt; ran_out = λ x. x })
+ended_so (Err MemoryError) (Err same) ends = subst (λ (e : RunError). IsAs (ending_of {T = Bool} (Err MemoryError)) (ending_by (Err e))) (sym ends) (record { early = λ x. tt; ran_out = λ x. x })
+
+-- of a status that tells why it stopped
+pub device_so : (stop : RunError) → IsAs (ending_by (Err stop)) (ending_by (Ok Device))
+device_so stop = record { early = λ x. tt; ran_out = λ x. absurd x }
+
+pub memory_so : IsAs (ending_by (Err MemoryError)) (ending_by (Ok Memory))
+memory_so = record { early = λ x. tt; ran_out = λ x. tt }
 
 -- Turns that are told as others, event by event, are told so.
 module _ {H : Type 0} (world : H → World) (f g : List Event → List Event) (same : (events : List Event) → f events ≡ g events) where
@@ -42,8 +73,8 @@ module _ {H : Type 0} (world : H → World) (f g : List Event → List Event) (s
   said_so [] now old new said = said
   said_so (x ∷ rest) now old new said = subst (λ (events : List Event). IsSaid old events new.said) (same (one_turn x now).0) said
 
-  goes_told : (early : Type 0) (old new : H) (now : Now) (schedule : List ℕ) → GoesByTurns world early f old new now schedule → GoesByTurns world early g old new now schedule
-  goes_told early old new now schedule goes = record {
+  goes_told : (ending : Ending) (old new : H) (t : Trail) (now : Now) (schedule : List ℕ) → GoesByTurns world ending f old new t now schedule → GoesByTurns world ending g old new t now schedule
+  goes_told ending old new t now schedule goes = record {
     how_often = goes.how_often;
     front = goes.front;
     rest = goes.rest;
@@ -52,24 +83,38 @@ module _ {H : Type 0} (world : H → World) (f g : List Event → List Event) (s
     mid = goes.mid;
     taken = told_so goes.front old goes.mid now goes.taken;
     last = goes.last;
-    still = goes.still;
+    ends = goes.ends;
     said = said_so goes.rest (play goes.front now).1 (world goes.mid) (world new) goes.said;
   }
 
--- a run ended early where its turns did
-goes_early : {H : Type 0} (world : H → World) (told : List Event → List Event) (ended early : Type 0) → (ended → early) → (old new : H) (now : Now) (schedule : List ℕ) → GoesByTurns world ended told old new now schedule → GoesByTurns world early told old new now schedule
-goes_early world told ended early so old new now schedule goes = record {
+-- where memory ran out the turn that ended early lacks its last operation
+turn_as : (old new : World) (name : List ℕ) (t : Trail) (now : Now) (session : ℕ) (one other : Type 0) → (other → one) → (turns : List Turn) → EndsFirst one old new name t now session turns → EndsFirst other old new name t now session turns
+turn_as old new name t now session one other so [] none = none
+turn_as old new name t now session one other so (turn ∷ rest) ends = record { unchanged = ends.unchanged; short = λ ran done. ends.short (so ran) done }
+
+last_as : (rest : List ℕ) (t : Trail) (now : Now) (old new : World) (one other : Type 0) → (other → one) → EndsInLast one rest t now old new → EndsInLast other rest t now old new
+last_as [] t now old new one other so ends = tt
+last_as (session ∷ rest) t now old new one other so ends = turn_as old new now.name t now session one other so (slice_index_or now.todo (session - 1) []) ends
+
+-- a run ended as its turns did
+goes_so : {H : Type 0} (world : H → World) (told : List Event → List Event) (one other : Ending) → IsAs one other → (old new : H) (t : Trail) (now : Now) (schedule : List ℕ) → GoesByTurns world one told old new t now schedule → GoesByTurns world other told old new t now schedule
+goes_so world told one other so old new t now schedule goes = record {
   how_often = goes.how_often;
   front = goes.front;
   rest = goes.rest;
   is = goes.is;
-  to_end = ⊎_elim (λ e. inl (so e)) inr goes.to_end;
+  to_end = ⊎_elim (λ e. inl (so.early e)) inr goes.to_end;
   mid = goes.mid;
   taken = goes.taken;
   last = goes.last;
-  still = goes.still;
+  ends = last_as goes.rest (after_steps t (steps_of (play goes.front now).0)) (play goes.front now).1 (world goes.mid) (world new) one.ran_out other.ran_out so.ran_out goes.ends;
   said = goes.said;
 }
+
+turns_so : {H : Type 0} (world : H → World) (told : List Event → List Event) (one other : Ending) → IsAs one other → (first : Statement) (old new : H) (now : Now) (schedule : List ℕ) → TurnsFrom world one first told old new now schedule → TurnsFrom world other first told old new now schedule
+turns_so world told one other so first old new now schedule (inl goes) =
+    inl (record { opened = goes.opened; leaves = goes.leaves; still = goes.still; goes = goes_so world told one other so goes.opened new (settled (base_now now)) now schedule goes.goes })
+turns_so world told one other so first old new now schedule (inr ends) = inr (record { ended = so.early ends.ended; leaves = ends.leaves; still = ends.still })
 
 -- Turns that sessions told are told so.
 pub told_as : {H : Type 0} (world : H → World) → ((h : H) → IsTimely (world h)) → ((h : H) → LeavesAll (world h) (world h).files) → (result : Result Bool RunError) (old new : H) (before after : Held) (t : Trail) (how : Told) (telling : Telling) (pages : ℕ)
@@ -85,7 +130,7 @@ told_as world timely reads result old new before after t how telling pages now s
         finished = plays.whole.finished;
         guids = plays.guids;
       };
-      turns = goes_told world (told_events how) (told_later telling pages) same (IsErr result) old new now schedule (goes_by world timely reads how result old new before after t now schedule named plays);
+      turns = goes_told world (told_events how) (told_later telling pages) same (ending_of result) old new t now schedule (goes_by world timely reads how result old new before after t now schedule named plays);
     }
 
 -- What opening does to other files, where the sessions go on after it, and to all files, where they don't.
@@ -118,7 +163,7 @@ pub beside_none : (old mid : World) (account : Account) (given : Given) (plan : 
 beside_none old mid account given plan ends same = subst (λ (n : Option Now). elim n as (λ z. Type 0) [ None ↦ mid.files ≡ old.files | Some x ↦ LeavesOthers old mid (OfFiles x.name) × StillWhereOpened plan.first old mid ]) (sym ends) same
 
 -- The calls of a script, and what comes before them.
-module _ {H : Type 0} (world : H → World) (early : Type 0) (account : Account) (given : Given) (plan : Plan) (telling : Telling) where
+module _ {H : Type 0} (world : H → World) (early : Ending) (account : Account) (given : Given) (plan : Plan) (telling : Telling) where
   abbrev By : (old new : H) → Option Now → Type 0
   By old new now = elim now as (λ z. Type 0) [ None ↦ (world new).files ≡ (world old).files | Some n ↦ TurnsFrom world early plan.first (told_later telling (pages_first account plan.first)) old new n plan.schedule ]
 
@@ -126,22 +171,22 @@ module _ {H : Type 0} (world : H → World) (early : Type 0) (account : Account)
   first_now = (opening account given plan.sessions plan.first_session plan.first).now
 
   -- turns behind calls that leave other files alone, and all where a database is opened
-  turns_behind : (old mid new : H) (now : Now) (ended : Type 0) → (ended → early) → LeavesOthers (world old) (world mid) (OfFiles now.name) → StillWhereOpened plan.first (world old) (world mid)
+  turns_behind : (old mid new : H) (now : Now) (ended : Ending) → IsAs ended early → LeavesOthers (world old) (world mid) (OfFiles now.name) → StillWhereOpened plan.first (world old) (world mid)
       → TurnsFrom world ended plan.first (told_later telling (pages_first account plan.first)) mid new now plan.schedule → TurnsFrom world early plan.first (told_later telling (pages_first account plan.first)) old new now plan.schedule
   turns_behind old mid new now ended so leaves still (inl goes) = inl (record {
     opened = goes.opened;
     leaves = leaves_then (world old) (world mid) (world goes.opened) (OfFiles now.name) leaves goes.leaves;
     still = still_then plan.first (world old) (world mid) (world goes.opened) still goes.still;
-    goes = goes_early world (told_later telling (pages_first account plan.first)) ended early so goes.opened new now plan.schedule goes.goes;
+    goes = goes_so world (told_later telling (pages_first account plan.first)) ended early so goes.opened new (settled (base_now now)) now plan.schedule goes.goes;
   })
   turns_behind old mid new now ended so leaves still (inr ends) = inr (record {
-    ended = so ends.ended;
+    ended = so.early ends.ended;
     leaves = leaves_then (world old) (world mid) (world new) (OfFiles now.name) leaves ends.leaves;
     still = still_then plan.first (world old) (world mid) (world new) still ends.still;
   })
 
   -- it ended early while the database was opened
-  pub script_early : (old new : H) → early → OpensBeside (world old) (world new) account given plan → ScriptByTurns world early old new plan telling account given
+  pub script_early : (old new : H) → early.early → OpensBeside (world old) (world new) account given plan → ScriptByTurns world early old new plan telling account given
   script_early old new ends beside = by first_now beside
     where
       by : (now : Option Now) → elim now as (λ z. Type 0) [ None ↦ (world new).files ≡ (world old).files | Some n ↦ LeavesOthers (world old) (world new) (OfFiles n.name) × StillWhereOpened plan.first (world old) (world new) ] → By old new now
@@ -153,7 +198,7 @@ module _ {H : Type 0} (world : H → World) (early : Type 0) (account : Account)
   script_none old new ends same = subst (By old new) (sym ends) same
 
   -- its turns were taken after it
-  pub script_turns : (old mid new : H) (now : Now) (ended : Type 0) → (ended → early) → first_now ≡ Some now → OpensBeside (world old) (world mid) account given plan
+  pub script_turns : (old mid new : H) (now : Now) (ended : Ending) → IsAs ended early → first_now ≡ Some now → OpensBeside (world old) (world mid) account given plan
       → TurnsFrom world ended plan.first (told_later telling (pages_first account plan.first)) mid new now plan.schedule → ScriptByTurns world early old new plan telling account given
   script_turns old mid new now ended so goes_on beside turns = subst (By old new) (sym goes_on) (by turns)
     where
@@ -168,22 +213,22 @@ module _ {H : Type 0} (world : H → World) (early : Type 0) (account : Account)
     where
       by : (now : Option Now) → By mid new now → By old new now
       by None same = same ∙ quiet.still.files
-      by (Some n) turns = turns_behind old mid new n early (λ e. e) (leaves_quiet (world old) (world mid) (OfFiles n.name) quiet) (still_opened plan.first (world old) (world mid) quiet.still.files) turns
+      by (Some n) turns = turns_behind old mid new n early (as_itself early) (leaves_quiet (world old) (world mid) (OfFiles n.name) quiet) (still_opened plan.first (world old) (world mid) quiet.still.files) turns
 
   -- nothing happened
-  pub script_undone : (old new : H) → early → Quiet (world old) (world new) → ScriptByTurns world early old new plan telling account given
+  pub script_undone : (old new : H) → early.early → Quiet (world old) (world new) → ScriptByTurns world early old new plan telling account given
   script_undone old new ends quiet = script_early old new ends (beside_quiet (world old) (world new) account given plan quiet)
 
 -- The reply of a first statement, and the turns after it.
 module _ {H : Type 0} (world : H → World) (timely : (h : H) → IsTimely (world h)) (reads : (h : H) → LeavesAll (world h) (world h).files) (first : Statement) (told : List Event → List Event) (now : Now) (schedule : List ℕ) where
-  pub reply_unsaid_by : {S E : Type 0} (said : Result S E) (line : List ℕ) (early : Type 0) → early → (old new : H) → SaysLine said (world old) (world new) line → TurnsFrom world early first told old new now schedule
+  pub reply_unsaid_by : {S E : Type 0} (said : Result S E) (line : List ℕ) (early : Ending) → early.early → (old new : H) → SaysLine said (world old) (world new) line → TurnsFrom world early first told old new now schedule
   reply_unsaid_by said line early ends old new says = inr (record {
     ended = ends;
     leaves = leaves_line said (world old) (world new) line (OfFiles now.name) (timely new) (reads new) says;
     still = still_opened first (world old) (world new) says.still.files;
   })
 
-  pub reply_said_by : {S E : Type 0} (said : Result S E) (line : List ℕ) (early : Type 0) → (old mid new : H) → SaysLine said (world old) (world mid) line → GoesByTurns world early told mid new now schedule → TurnsFrom world early first told old new now schedule
+  pub reply_said_by : {S E : Type 0} (said : Result S E) (line : List ℕ) (early : Ending) → (old mid new : H) → SaysLine said (world old) (world mid) line → GoesByTurns world early told mid new (settled (base_now now)) now schedule → TurnsFrom world early first told old new now schedule
   reply_said_by said line early old mid new says goes = inl (record {
     opened = mid;
     leaves = leaves_line said (world old) (world mid) line (OfFiles now.name) (timely mid) (reads mid) says;
@@ -192,7 +237,7 @@ module _ {H : Type 0} (world : H → World) (timely : (h : H) → IsTimely (worl
   })
 
 -- What is asked for, after calls that change nothing.
-module _ {H : Type 0} (world : H → World) (early : Type 0) (old mid new : H) (quiet : Quiet (world old) (world mid)) (account : Account) (given : Given) where
+module _ {H : Type 0} (world : H → World) (early : Ending) (old mid new : H) (quiet : Quiet (world old) (world mid)) (account : Account) (given : Given) where
   pub run_quietly : (asked : Result Request Refusal) → RunByTurns world early mid new asked account given → RunByTurns world early old new asked account given
   run_quietly (Err refusal) same = same ∙ quiet.still.files
   run_quietly (Ok (ToRun plan telling)) turns = script_quietly world early account given plan telling old mid new quiet turns
@@ -209,7 +254,7 @@ module _ {H : Type 0} (world : H → World) (early : Type 0) (old mid new : H) (
       by None (inr ends) = inr (ends.0, leaves_then (world old) (world mid) (world new) (Only name) (leaves_quiet (world old) (world mid) (Only name) quiet) ends.1)
 
 -- Nothing was done.
-module _ {H : Type 0} (world : H → World) (early : Type 0) (ends : early) (old new : H) (quiet : Quiet (world old) (world new)) (account : Account) (given : Given) where
+module _ {H : Type 0} (world : H → World) (early : Ending) (ends : early.early) (old new : H) (quiet : Quiet (world old) (world new)) (account : Account) (given : Given) where
   pub run_undone : (asked : Result Request Refusal) → RunByTurns world early old new asked account given
   run_undone (Err refusal) = quiet.still.files
   run_undone (Ok (ToRun plan telling)) = script_undone world early account given plan telling old new ends quiet
@@ -220,7 +265,7 @@ module _ {H : Type 0} (world : H → World) (early : Type 0) (ends : early) (old
       by None = inr (ends, leaves_quiet (world old) (world new) (Only name) quiet)
 
 -- The script of a number, which is written first.
-module _ {H : Type 0} (world : H → World) (early : Type 0) (number : ℕ) (name : List ℕ) (account : Account) (given : Given) where
+module _ {H : Type 0} (world : H → World) (early : Ending) (number : ℕ) (name : List ℕ) (account : Account) (given : Given) where
   abbrev cause_by : Bool → Cause
   cause_by free = elim (not free) as (λ z. Option Refusal) [ true ↦ Some (FileExists name) | false ↦ None ]
 
@@ -235,7 +280,7 @@ module _ {H : Type 0} (world : H → World) (early : Type 0) (number : ℕ) (nam
   free_by : (old new : H) → is_free_entry (account.entry name) ≡ true → WrittenByTurns world early old new name (generated number) account given → RunByTurns world early old new (Ok (ToGenerate number name)) account given
   free_by old new free turns = subst (λ (free : Bool). written_by old new (cause_by free)) (sym free) turns
 
-  pub number_early : (old new : H) → is_free_entry (account.entry name) ≡ true → early → LeavesOthers (world old) (world new) (Only name) → RunByTurns world early old new (Ok (ToGenerate number name)) account given
+  pub number_early : (old new : H) → is_free_entry (account.entry name) ≡ true → early.early → LeavesOthers (world old) (world new) (Only name) → RunByTurns world early old new (Ok (ToGenerate number name)) account given
   number_early old new free ends leaves = free_by old new free (inr (ends, leaves))
 
   pub number_then : (old written new : H) → is_free_entry (account.entry name) ≡ true → LeavesOthers (world old) (world written) (Only name) → (read : Result Plan Refusal) → script_of (generated number) ≡ read
@@ -245,3 +290,42 @@ module _ {H : Type 0} (world : H → World) (early : Type 0) (number : ℕ) (nam
     leaves = leaves;
     goes = subst (λ (r : Result Plan Refusal). ReadByTurns world early written new r Sparingly (with_entry name (Plain (generated number) None) account) given) (sym is) goes;
   }))
+
+-- A run ended as another did.
+module _ {H : Type 0} (world : H → World) (one other : Ending) (so : IsAs one other) where
+  abbrev script_under : Ending → (old new : H) → Plan → Telling → Account → Option Now → Type 0
+  script_under ending old new plan telling account now =
+      elim now as (λ z. Type 0) [ None ↦ (world new).files ≡ (world old).files | Some n ↦ TurnsFrom world ending plan.first (told_later telling (pages_first account plan.first)) old new n plan.schedule ]
+
+  under_so : (old new : H) (plan : Plan) (telling : Telling) (account : Account) (now : Option Now) → script_under one old new plan telling account now → script_under other old new plan telling account now
+  under_so old new plan telling account None same = same
+  under_so old new plan telling account (Some n) turns = turns_so world (told_later telling (pages_first account plan.first)) one other so plan.first old new n plan.schedule turns
+
+  script_so : (old new : H) (plan : Plan) (telling : Telling) (account : Account) (given : Given) → ScriptByTurns world one old new plan telling account given → ScriptByTurns world other old new plan telling account given
+  script_so old new plan telling account given turns = under_so old new plan telling account (opening account given plan.sessions plan.first_session plan.first).now turns
+
+  read_so : (old new : H) (read : Result Plan Refusal) (telling : Telling) (account : Account) (given : Given) → ReadByTurns world one old new read telling account given → ReadByTurns world other old new read telling account given
+  read_so old new (Err refusal) telling account given same = same
+  read_so old new (Ok plan) telling account given turns = script_so old new plan telling account given turns
+
+  written_so : (old new : H) (name bytes : List ℕ) (account : Account) (given : Given) → WrittenByTurns world one old new name bytes account given → WrittenByTurns world other old new name bytes account given
+  written_so old new name bytes account given (inl goes) =
+      inl (record { written = goes.written; leaves = goes.leaves; goes = read_so goes.written new (script_of bytes) Sparingly (with_entry name (Plain bytes None) account) given goes.goes })
+  written_so old new name bytes account given (inr ends) = inr (so.early ends.0, ends.1)
+
+  abbrev number_under : Ending → (old new : H) → (number : ℕ) (name : List ℕ) → Account → Given → Cause → Type 0
+  number_under ending old new number name account given cause =
+      elim cause as (λ z. Type 0) [ Some refusal ↦ (world new).files ≡ (world old).files | None ↦ WrittenByTurns world ending old new name (generated number) account given ]
+
+  number_so : (old new : H) (number : ℕ) (name : List ℕ) (account : Account) (given : Given) (cause : Cause) → number_under one old new number name account given cause → number_under other old new number name account given cause
+  number_so old new number name account given (Some refusal) same = same
+  number_so old new number name account given None turns = written_so old new name (generated number) account given turns
+
+  run_so : (old new : H) (asked : Result Request Refusal) (account : Account) (given : Given) → RunByTurns world one old new asked account given → RunByTurns world other old new asked account given
+  run_so old new (Err refusal) account given same = same
+  run_so old new (Ok (ToRun plan telling)) account given turns = script_so old new plan telling account given turns
+  run_so old new (Ok (ToGenerate number name)) account given turns = number_so old new number name account given (not_free name (account.entry name)) turns
+
+  pub asked_so : (old new : H) (asked : Asked) (account : Account) (given : Given) → AskedByTurns world one old new asked account given → AskedByTurns world other old new asked account given
+  asked_so old new (Runs asked) account given turns = run_so old new asked account given turns
+  asked_so old new (Does deed) account given turns = tt

@@ -152,7 +152,7 @@ pub use Rattle.nb_session.specs.Stops.{IsSaid, PlayedOut, Plays, StopLeft}
 pub use Rattle.nb_state.proofs.ShownLaws.{shown, shown_settled}
 pub use Rattle.nb_state.specs.Beginnings.{Attaches, CreateAnswers, Creates, IsAttached}
 pub use Rattle.nb_state.specs.Open.{Held, IsOpen, NoPageWaits, name_of}
-pub use Rattle.nb_top.specs.ByTurns.{AskedByTurns, EndsEarly, ReadByTurns, RunByTurns, RunsOpened, ScriptByTurns, StillWhereOpened, TakesTold, TurnsFrom, WrittenByTurns}
+pub use Rattle.nb_top.specs.ByTurns.{AskedByTurns, EndsEarly, ending_by, ReadByTurns, RunByTurns, RunsOpened, ScriptByTurns, StillWhereOpened, TakesTold, TurnsFrom, WrittenByTurns}
 pub use Rattle.nb_top.specs.Ends.{EndsAs}
 pub use Rattle.nb_top.specs.Goes.{Goes, IsDone}
 pub use Rattle.nb_top.specs.OneTurn.{AreOfKept, DoesTurn, FileLeft, FitsDeed, HoldsSpan, IsAsWas, IsDoneFor, IsOnItsWay, OfName, OneTurn, Read, TakesFiles, TakesKept, TurnEnded, TurnLeft, TurnStands, Was, behind, fixing, folding, leaves_all, merging, one_turn, planning, restoring}

@@ -1,6 +1,8 @@
 -- The script of a number is written to a file and run: what is done of it, put together.
 use Rattle.std.proofs.Common.{◌≡◌, ℕ, List, [], true, false, sym, ◌∙◌, Bool, IsTrue, Result, Ok, Err, IsErr}
-use Rattle.nb_top.proofs.Common.{is_delta, World, Leaves, IsTimely, Refusal, RunError, Changes, Only, Remade, GaveNothing, is_free_name, Account, is_free_entry, generated, Given, IsKept, IsUnfinishedOr, Plan, script_of, grows_none, grows_joined, leaves_changes, Status, Sparingly, AskedByTurns, EndsEarly, ReadByTurns, Goes, Knows, RunsTo, Runs, ToGenerate}
+use Rattle.nb_top.proofs.Common.{is_delta, World, Leaves, IsTimely, Refusal, RunError, Changes, Only, Remade, GaveNothing, is_free_name, Account, is_free_entry, generated, Given, IsKept, IsUnfinishedOr, Plan, script_of, grows_none, grows_joined, leaves_changes, Status, Sparingly, AskedByTurns, ReadByTurns, Goes, Knows, RunsTo, Runs, ToGenerate}
+use Rattle.nb_session.specs.ByTurns.{Ending}
+use Rattle.nb_top.specs.ByTurns.{ending_by}
 use Rattle.nb_top.proofs.ByTurnsLaws.{early_err, number_early, number_then}
 use Rattle.nb_top.proofs.GeneratedEvents.{with_script}
 use Rattle.nb_top.proofs.GeneratedRuns.{knows_script, read_request, writing_fails, written_runs}
@@ -8,7 +10,7 @@ use Rattle.nb_top.proofs.QuietRuns.{foretold_from, no_given}
 use Rattle.nb_top.proofs.ScriptRuns.{runs_err}
 
 -- turn by turn, the script that was read
-read_turns : {H : Type 0} (world : H → World) (early : Type 0) (old new : H) (account : Account) (given : Given) (read : Result Plan Refusal) → AskedByTurns world early old new (Runs (read_request read)) account given → ReadByTurns world early old new read Sparingly account given
+read_turns : {H : Type 0} (world : H → World) (early : Ending) (old new : H) (account : Account) (given : Given) (read : Result Plan Refusal) → AskedByTurns world early old new (Runs (read_request read)) account given → ReadByTurns world early old new read Sparingly account given
 read_turns world early old new account given (Ok plan) turns = turns
 read_turns world early old new account given (Err refusal) same = same
 
@@ -26,7 +28,7 @@ module _ {H : Type 0} (world : H → World) (tells : Bool) (old mid : H) (number
       λ account given knows may foretold. record {
         whole = runs_err result failed (λ r. RunsTo r (world old) (world mid) (Ok (ToGenerate number name)) account given)
             (λ e. writing_fails (world old) number name account given plain knows (its_free told account knows) may (world mid) (written told) e);
-        turns = number_early world (EndsEarly result) number name account given old mid (its_free told account knows) (early_err result failed) (leaves_changes (world old) (world mid) (Only name) _ (written told));
+        turns = number_early world (ending_by result) number name account given old mid (its_free told account knows) (early_err result failed) (leaves_changes (world old) (world mid) (Only name) _ (written told));
       },
     );
     grows = λ account told knows. grows_none (world old) (world mid) gave;
@@ -51,8 +53,8 @@ module _ {H : Type 0} (world : H → World) (tells : Bool) (old mid : H) (number
             let done = (goes.does told).1 behind given (knows_read told account given knows) may (foretold_from (world old) (world mid) (world new) given _ gave foretold) in
             record {
               whole = written_runs (world old) number name account given plain knows (its_free told account knows) may (world mid) (written told) (kept told) gave (world new) timely (reads told) read is result done.whole;
-              turns = number_then world (EndsEarly result) number name account given old mid new (its_free told account knows) (leaves_changes (world old) (world mid) (Only name) _ (written told)) read is
-                  (read_turns world (EndsEarly result) mid new behind given read done.turns);
+              turns = number_then world (ending_by result) number name account given old mid new (its_free told account knows) (leaves_changes (world old) (world mid) (Only name) _ (written told)) read is
+                  (read_turns world (ending_by result) mid new behind given read done.turns);
             },
       );
       grows = λ account told knows.

@@ -1,11 +1,13 @@
 -- What is done of what is asked for, put together.
 use Rattle.std.proofs.Common.{◌≡◌, List, [], ℕ, sym, subst, Bool, IsTrue, Result, Ok, Err, IsErr, IfErr, IfOk}
-use Rattle.nb_top.proofs.Common.{Files, World, Leaves, LeavesAll, IsTimely, Fault, Refusal, RunError, GaveNothing, Quiet, Deed, Reply, Account, line_text, Given, status_after, SaysLine, grows_none, grows_joined, Status, Done, AskedByTurns, EndsEarly, Goes, IsDone, number_of, OneTurn, one_turn, GoesTo, KnowsAsked, MayBeGiven, Performs, Request, Asked, Runs, Does, Serves, TurnsTo, reply_told, status_told, quiet_gave}
+use Rattle.nb_top.proofs.Common.{Files, World, Leaves, LeavesAll, IsTimely, Fault, Refusal, RunError, GaveNothing, Quiet, Deed, Reply, Account, line_text, Given, status_after, SaysLine, grows_none, grows_joined, Status, Done, AskedByTurns, Goes, IsDone, number_of, OneTurn, one_turn, GoesTo, KnowsAsked, MayBeGiven, Performs, Request, Asked, Runs, Does, Serves, TurnsTo, reply_told, status_told, quiet_gave}
 use Rattle.nb_host.specs.declared.faults.Fault.TheVariants.{Refused as RefusedFault}
 use Rattle.nb_model.specs.declared.reply.Reply.TheVariants.{Refused as RefusedReply}
 use Rattle.nb_ended.specs.declared.status.Status.TheVariants.{Device, Memory}
 use Rattle.nb_top.specs.Goes.{IsRun}
-use Rattle.nb_top.proofs.ByTurnsLaws.{early_err, run_quietly, run_undone}
+use Rattle.nb_host.specs.declared.faults.RunError.TheVariants.{Memory as MemoryError}
+use Rattle.nb_top.specs.ByTurns.{ending_by}
+use Rattle.nb_top.proofs.ByTurnsLaws.{asked_so, device_so, early_err, memory_so, run_quietly, run_undone}
 use Rattle.nb_top.proofs.JobRuns.{job_refused, performs_device, performs_ended, performs_memory, undone_goes}
 use Rattle.nb_top.proofs.QuietRuns.{foretold_from, knows_quietly, runs_quietly}
 use Rattle.nb_top.proofs.RequestLaws.{CanBeMet}
@@ -22,7 +24,7 @@ goes_quietly world tells old mid new asked result quiet goes = record {
         let done = (goes.does told).1 account given (knows_quietly (world old) (world mid) account asked quiet knows) may (foretold_from (world old) (world mid) (world new) given _ (quiet_gave (world old) (world mid) quiet) foretold) in
         record {
           whole = runs_quietly result (world old) (world mid) (world new) asked account given quiet done.whole;
-          turns = run_quietly world (EndsEarly result) old mid new quiet account given asked done.turns;
+          turns = run_quietly world (ending_by result) old mid new quiet account given asked done.turns;
         },
   );
   grows = λ account told knows.
@@ -54,8 +56,8 @@ goes_undone world tells old new asked result can failed quiet = record {
   grows = λ account told knows. grows_none (world old) (world new) (quiet_gave (world old) (world new) quiet);
 }
   where
-    turns_undone : (account : Account) (given : Given) (a : Asked) → AskedByTurns world (EndsEarly result) old new a account given
-    turns_undone account given (Runs a) = run_undone world (EndsEarly result) (early_err result failed) old new quiet account given a
+    turns_undone : (account : Account) (given : Given) (a : Asked) → AskedByTurns world (ending_by result) old new a account given
+    turns_undone account given (Runs a) = run_undone world (ending_by result) (early_err result failed) old new quiet account given a
     turns_undone account given (Does deed) = tt
 
 -- a refusal is said to session 0, and that is all
@@ -66,7 +68,7 @@ goes_refused world tells old new asked refusal result is gave says number = reco
     [],
     λ account given knows may foretold. record {
       whole = job_refused result result (world old) (world new) asked refusal account given is (says tell) (number tell) (says tell).said;
-      turns = subst (λ (a : Result Request Refusal). AskedByTurns world (EndsEarly result) old new (Runs a) account given) (sym is) (says tell).still.files;
+      turns = subst (λ (a : Result Request Refusal). AskedByTurns world (ending_by result) old new (Runs a) account given) (sym is) (says tell).still.files;
     },
   );
   grows = λ account tell knows. grows_none (world old) (world new) gave;
@@ -133,7 +135,7 @@ goes_turn_quietly world tells old mid new deed result quiet goes = record {
 module _ {H : Type 0} (world : H → World) (tells : Bool) (old new : H) (asked : Asked) (can : CanBeMet asked) (before : IsTrue tells → (name : List ℕ) → Leaves (world old) name ((world old).files name)) (timely : IsTimely (world new))
     (reads : IsTrue tells → (name : List ℕ) → Leaves (world new) name ((world new).files name)) where
   run_as : (result : Result Status RunError) (status : Status) → ((account : Account) (given : Given) → MayBeGiven given → IsTrue tells → GoesTo result (world old) (world new) asked account given → Performs status (world old) (world new) asked account given)
-      → ((account : Account) (given : Given) → AskedByTurns world (EndsEarly result) old new asked account given → AskedByTurns world (EndsEarly (Ok status)) old new asked account given) → Goes world tells result old new asked → IsRun world tells status old new asked
+      → ((account : Account) (given : Given) → AskedByTurns world (ending_by result) old new asked account given → AskedByTurns world (ending_by (Ok status)) old new asked account given) → Goes world tells result old new asked → IsRun world tells status old new asked
   run_as result status performs turns goes = record {
     does = λ told. (
       (goes.does told).0,
@@ -148,7 +150,7 @@ module _ {H : Type 0} (world : H → World) (tells : Bool) (old new : H) (asked 
   run_ended status = run_as (Ok status) status (λ account given may told. performs_ended (world old) (world new) account given may (before told) timely (reads told) asked can status) (λ account given turns. turns)
 
   pub run_device : (stop : RunError) → Goes world tells (Err stop) old new asked → IsRun world tells Device old new asked
-  run_device stop = run_as (Err stop) Device (λ account given may told. performs_device (world old) (world new) account given may (before told) timely (reads told) asked can stop) (λ account given turns. turns)
+  run_device stop = run_as (Err stop) Device (λ account given may told. performs_device (world old) (world new) account given may (before told) timely (reads told) asked can stop) (λ account given. asked_so world (ending_by (Err stop)) (ending_by (Ok Device)) (device_so stop) old new asked account given)
 
-  pub run_memory : (stop : RunError) → Goes world tells (Err stop) old new asked → IsRun world tells Memory old new asked
-  run_memory stop = run_as (Err stop) Memory (λ account given may told. performs_memory (world old) (world new) account given may (before told) timely (reads told) asked can stop) (λ account given turns. turns)
+  pub run_memory : Goes world tells (Err MemoryError) old new asked → IsRun world tells Memory old new asked
+  run_memory = run_as (Err MemoryError) Memory (λ account given may told. performs_memory (world old) (world new) account given may (before told) timely (reads told) asked can MemoryError) (λ account given. asked_so world (ending_by (Err MemoryError)) (ending_by (Ok Memory)) memory_so old new asked account given)

@@ -7,14 +7,14 @@ use Rattle.nb_model.specs.Gifts.{Foretells}
 use Rattle.nb_model.specs.Outcomes.{Given}
 use Rattle.nb_session.specs.Acts.{Grows}
 use Rattle.nb_ended.specs.declared.status.Status.{Status}
-use Rattle.nb_top.specs.ByTurns.{AskedByTurns, EndsEarly}
+use Rattle.nb_top.specs.ByTurns.{AskedByTurns, ending_by}
 use Rattle.nb_top.specs.Performed.{GoesTo, KnowsAsked, MayBeGiven, Performs}
 use Rattle.nb_top.specs.Requests.{Asked}
 
 -- It was done: what is said of all of it, and of each turn.
 pub record IsDone {H : Type 0} (world : H → World) (result : Result Status RunError) (old new : H) (asked : Asked) (account : Account) (given : Given) (done : Type 0) : Type 0 where
   pub whole : done
-  pub turns : AskedByTurns world (EndsEarly result) old new asked account given
+  pub turns : AskedByTurns world (ending_by result) old new asked account given
 
 -- It was done, up to its end or to what stopped it.
 pub record DoesAsked {H : Type 0} (world : H → World) (tells : Bool) (result : Result Status RunError) (old new : H) (asked : Asked) (done : Account → Given → Type 0) : Type 0 where

@@ -1,5 +1,5 @@
 use Rattle.std.proofs.Common.{[], ◌≡◌, refl, sym, ap, subst, ◌∙◌, Some, Ok, Err}
-use Rattle.nb_top.proofs.Common.{Files, Refused, FileExists, SaysLine, Changes, Only, Remade, is_free_name, generated, line_text, IsKept, IsUnfinishedOr, IsAnswer, script_of, grows_none, grows_joined, IsScriptText, generated_text, EndsEarly, Runs, ToGenerate, quiet_gave}
+use Rattle.nb_top.proofs.Common.{Files, Refused, FileExists, SaysLine, Changes, Only, Remade, is_free_name, generated, line_text, IsKept, IsUnfinishedOr, IsAnswer, script_of, grows_none, grows_joined, IsScriptText, generated_text, ending_by, Runs, ToGenerate, quiet_gave}
 use Rattle.nb_host.specs.declared.faults.RunError.TheVariants.{Memory}
 use Rattle.nb_model.specs.declared.reply.Reply.TheVariants.{Refused as RefusedReply}
 use Rattle.nb_top.proofs.ByTurnsLaws.{number_taken}
@@ -27,7 +27,7 @@ returns-then-not-branch-clause-goes g c = record {
         let says = subst (λ n. SaysLine c.refuse.result mid new (line_text 1 (RefusedReply (FileExists n)))) c.copied-name.ensures (c.refuse.ensures.line tells) in
         record {
           whole = taken_refused old c.args.number name account given c.requires knows taken c.refuse.result c.refuse.result mid new c.is_free.ensures.quiet says c.refuse.ensures.ok says.said;
-          turns = number_taken g.H.Host.world (EndsEarly c.refuse.result) c.args.number name account given c.args.host.now c.refuse.new.host taken (says.still.files ∙ c.is_free.ensures.quiet.still.files);
+          turns = number_taken g.H.Host.world (ending_by c.refuse.result) c.args.number name account given c.args.host.now c.refuse.new.host taken (says.still.files ∙ c.is_free.ensures.quiet.still.files);
         },
   );
   grows = λ account tells knows. let old = g.H.Host.world c.args.host.now in

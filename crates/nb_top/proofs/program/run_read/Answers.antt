@@ -1,3 +1,6 @@
+use Rattle.std.proofs.Common.{subst, Err}
+use Rattle.nb_host.specs.declared.faults.RunError.{RunError}
+use Rattle.nb_top.specs.Goes.{Goes}
 use Rattle.nb_top.proofs.GoesLaws.{run_device, run_ended, run_memory}
 use Rattle.nb_top.proofs.RequestLaws.{read_can}
 use Rattle.nb_top.proofs.program.run_read.Goals as goal
@@ -18,4 +21,4 @@ pub returns-in-Err-Memory-clause-runs : goal.returns-in-Err-Memory-clause-runs
 returns-in-Err-Memory-clause-runs g c asked by =
     let old = g.H.Host.world c.args.host.now in
     run_memory g.H.Host.world g.H.Host.tells c.args.host.now c.do_job.new.host asked (read_can old.files c.args.job.now asked c.requires.read by) (g.met.H.Host.reads_left c.args.host.now) (g.met.H.Host.timely c.do_job.new.host)
-    (g.met.H.Host.reads_left c.do_job.new.host) _ (c.in-Err-Memory.ensures.goes asked by)
+    (g.met.H.Host.reads_left c.do_job.new.host) (subst (λ (e : RunError). Goes g.H.Host.world g.H.Host.tells (Err e) c.args.host.now c.do_job.new.host asked) c.in-Err-Memory.field-0-is (c.in-Err-Memory.ensures.goes asked by))

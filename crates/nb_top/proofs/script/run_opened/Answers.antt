@@ -1,5 +1,6 @@
-use Rattle.std.proofs.Common.{[], ap, refl, ◌∙◌, Bool, Err, IsErr}
+use Rattle.std.proofs.Common.{[], ap, refl, ◌∙◌, Bool, Err}
 use Rattle.nb_top.proofs.Common.{RunError, after_steps, settled, grows_none, grows_joined, RunsOpened, first_event, opened_reply, told_first, told_later}
+use Rattle.nb_session.specs.ByTurns.{ending_of}
 use Rattle.nb_top.proofs.ByTurnsLaws.{reply_said_by, reply_unsaid_by}
 use Rattle.nb_top.proofs.OpenedSaid.{opened_err, reply_unsaid, reply_said_then, ready_still}
 use Rattle.nb_top.proofs.QuietRuns.{foretold_from}
@@ -21,7 +22,7 @@ returns-in_err-say_opened-clause-plays g c tells = (
       (λ e. record {
         whole = reply_unsaid old new new held held start now plan c.requires.askable ready todo making (told_first telling done) telling pages (told_first_made telling done) _ (told_output plan.first_session strokes plan.first held.files.count held.files.state telling)
             (ap (after_steps (settled start)) (told_first_steps telling done) ∙ trail) c.say_opened.result (c.say_opened.ensures.line tells) e;
-        turns = reply_unsaid_by g.H.Host.world g.met.H.Host.timely (λ h. g.met.H.Host.reads_left h tells) plan.first (told_later telling pages) now plan.schedule c.say_opened.result _ (IsErr {T = Bool} {E = RunError} (Err e)) refl c.args.host.now c.say_opened.new.host (c.say_opened.ensures.line tells);
+        turns = reply_unsaid_by g.H.Host.world g.met.H.Host.timely (λ h. g.met.H.Host.reads_left h tells) plan.first (told_later telling pages) now plan.schedule c.say_opened.result _ (ending_of {T = Bool} (Err e)) refl c.args.host.now c.say_opened.new.host (c.say_opened.ensures.line tells);
       }),
 )
 

@@ -1,8 +1,8 @@
 use Rattle.std.proofs.Common.{[], ◌≡◌, ap, sym, subst, ◌∙◌, Ok, Err, IfOk, IsTrue}
-use Rattle.nb_top.proofs.Common.{CountsRun, FaultCount, Refused, GaveNothing, Account, Foretells, line_text, Given, grows_none, grows_joined, says_other, EndsEarly, Knows, MayBeGiven, RunsTo, cache_asked, ToRun}
+use Rattle.nb_top.proofs.Common.{CountsRun, FaultCount, Refused, GaveNothing, Account, Foretells, line_text, Given, grows_none, grows_joined, says_other, Knows, MayBeGiven, RunsTo, cache_asked, ToRun, ending_by}
 use Rattle.nb_model.specs.declared.reply.Reply.TheVariants.{Refused as RefusedReply}
 use Rattle.nb_top.proofs.Beginnings.{Beginning, script_refused, script_now, script_todo, script_given, script_ready, script_making, script_trail, script_ran, script_by_turns}
-use Rattle.nb_top.proofs.ByTurnsLaws.{early_err, ended_early, script_early, script_none}
+use Rattle.nb_top.proofs.ByTurnsLaws.{early_err, ended_so, script_early, script_none}
 use Rattle.nb_top.proofs.BegunRuns.{start}
 use Rattle.nb_top.proofs.QuietRuns.{foretold_from, no_given}
 use Rattle.nb_top.proofs.ScriptRuns.{runs_err, settled_value, settled_refusal, script_begins, first_gave}
@@ -36,7 +36,7 @@ returns-in_err-engine-clause-goes g c =
             let begun = begins g at tells account knows given may in
             record {
               whole = runs_err c.from_residual.result c.from_residual.ensures.0 (λ r. RunsTo r old mid (Ok (ToRun plan c.args.telling)) account given) begun.fails;
-              turns = script_early g.H.Host.world (EndsEarly c.from_residual.result) account given plan c.args.telling c.args.host.now c.open.new.host (early_err c.from_residual.result c.from_residual.ensures.0) begun.beside;
+              turns = script_early g.H.Host.world (ending_by c.from_residual.result) account given plan c.args.telling c.args.host.now c.open.new.host (early_err c.from_residual.result c.from_residual.ensures.0) begun.beside;
             },
       );
       grows = λ account tells knows. grows_none old mid (gave g at tells account knows);
@@ -64,7 +64,7 @@ returns-in-Ok-clause-goes g c =
             (script_making old account given plan c.args.telling asks mid held done) later (script_trail old account given plan c.args.telling asks mid held done) in
             record {
               whole = script_ran old account given plan c.args.telling asks mid held done new (g.met.H.Host.timely c.run_opened.new.host) (g.met.H.Host.reads_left c.run_opened.new.host tells) c.run_opened.new.engine c.run_opened.result c.ended_as.result c.ended_as.ensures.ended c.run_opened.ensures.none_waits runs.whole;
-              turns = script_by_turns g.H.Host.world c.args.host.now c.open.new.host account given plan c.args.telling asks begun.beside held done (EndsEarly c.ended_as.result) _ (ended_early c.run_opened.result c.ended_as.result c.ended_as.ensures.ended) c.run_opened.new.host runs.turns;
+              turns = script_by_turns g.H.Host.world c.args.host.now c.open.new.host account given plan c.args.telling asks begun.beside held done (ending_by c.ended_as.result) _ (ended_so c.run_opened.result c.ended_as.result c.ended_as.ensures.ended) c.run_opened.new.host runs.turns;
             },
       );
       grows = λ account tells knows.
@@ -96,7 +96,7 @@ returns-in-Err-clause-goes g c =
             let says = says_other _ _ _ _ _ (ap (λ s. line_text s (RefusedReply refusal)) c.first_session.ensures.value) (c.refuse.ensures.line tells) in
             record {
               whole = script_refused old account given plan c.args.telling c.requires.askable mid refusal is new c.refuse.result c.refuse.result says c.refuse.ensures.ok says.said;
-              turns = script_none g.H.Host.world (EndsEarly c.refuse.result) account given plan c.args.telling c.args.host.now c.refuse.new.host is.ends (says.still.files ∙ is.quiet.still.files);
+              turns = script_none g.H.Host.world (ending_by c.refuse.result) account given plan c.args.telling c.args.host.now c.refuse.new.host is.ends (says.still.files ∙ is.quiet.still.files);
             },
       );
       grows = λ account tells knows. grows_joined old mid new (grows_none old mid (gave g at tells account knows)) (grows_none mid new c.refuse.ensures.gave);
