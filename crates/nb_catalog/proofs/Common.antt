@@ -10,7 +10,7 @@ pub use Rattle.nb_catalog.specs.NameLists.{AreDistinct, is_listed, is_next}
 unfoldable pub use Rattle.nb_catalog.specs.Plans.{entries_from}
 pub use Rattle.nb_catalog.specs.Plans.{ArePlaces, IsWithin, Retention, dropped, entries_of, is_in_line, is_in_lines, is_needed, is_newer, is_point, kept, line, line_by, newest, places, plan_of, points}
 unfoldable pub use Rattle.nb_catalog.specs.Reads.{reads_of}
-pub use Rattle.nb_catalog.specs.Reads.{all_reads}
+pub use Rattle.nb_catalog.specs.Reads.{all_reads, file_most, files_most}
 unfoldable pub use Rattle.nb_catalog.specs.Turns.{planned}
 pub use Rattle.nb_catalog.specs.Turns.{names_in}
 pub use Rattle.nb_catalog.specs.declared.entry.Entry.{Entry}

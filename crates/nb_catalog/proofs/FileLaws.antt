@@ -1,6 +1,6 @@
 -- Reading files one by one.
 use Rattle.std.proofs.Common.{◌≡◌, ℕ, ◌+◌, ◌<◌, ◌≤◌, List, [], ◌∷◌, ◌++◌, length, drop, refl, sym, ap, subst, ◌∙◌, arith, append_assoc, Result, Ok, Err, sum_by}
-use Rattle.nb_catalog.proofs.Common.{slice_index_or, append-nil, at_drop_more, at_drop_all, sum_by-drop_more, Files, Fault, Refused, Device, Memory, Refusal, LevelHead, Says, with_first, read_file, read_files, reads_of, all_reads}
+use Rattle.nb_catalog.proofs.Common.{slice_index_or, append-nil, at_drop_more, at_drop_all, sum_by-drop_more, Files, Fault, Refused, Device, Memory, Refusal, LevelHead, Says, with_first, read_file, read_files}
 
 -- with all of these in front
 abbrev pub with_all : {T : Type 0} → List T → Result (List T) Refusal → Result (List T) Refusal
@@ -51,12 +51,15 @@ pub refused : {T : Type 0} (meant : Result T Refusal) (fault : Fault) (r : Refus
 refused meant fault r is means = subst (λ (f : Fault). Says meant (Err f)) (sym is) means
 
 -- the reads of one file more
-pub reads_more : (files : Files) (names : List (List ℕ)) (n : ℕ) (name : List ℕ) (start before after all : ℕ) → name ≡ slice_index_or names n name → n < length names → before + all_reads files (drop n names) ≤ start + all → after ≤ before + reads_of (files name)
-    → after + all_reads files (drop (n + 1) names) ≤ start + all
-reads_more files names n name start before after all at there so_far more =
-    let f : List ℕ → ℕ = λ m. reads_of (files m) in
+pub reads_more : (f : List ℕ → ℕ) (names : List (List ℕ)) (n : ℕ) (name : List ℕ) (start before after all : ℕ) → name ≡ slice_index_or names n name → n < length names → before + sum_by f (drop n names) ≤ start + all → after ≤ before + f name
+    → after + sum_by f (drop (n + 1) names) ≤ start + all
+reads_more f names n name start before after all at there so_far more =
     let split : sum_by f (drop n names) ≡ f name + sum_by f (drop (n + 1) names) = sum_by-drop_more f names n name there ∙ ap (λ (m : List ℕ). f m + sum_by f (drop (n + 1) names)) (sym at) in
     omega (arith, so_far, more, split)
 
-pub reads_all : (files : Files) (names : List (List ℕ)) (n : ℕ) (start before all : ℕ) → before + all_reads files (drop n names) ≤ start + all → before ≤ start + all
-reads_all files names n start before all so_far = omega (arith, so_far)
+pub reads_all : (f : List ℕ → ℕ) (names : List (List ℕ)) (n : ℕ) (start before all : ℕ) → before + sum_by f (drop n names) ≤ start + all → before ≤ start + all
+reads_all f names n start before all so_far = omega (arith, so_far)
+
+-- of a file that stays
+pub most_same : (most now before after : ℕ) → now ≡ most → after ≤ before + now → after ≤ before + most
+most_same most now before after same read = omega (arith, same, read)

@@ -1,6 +1,7 @@
 -- What the answers of the calls below say of a file.
 use Rattle.std.proofs.Common.{◌≡◌, ℕ, ◌-◌, List, take, drop, refl, sym, ap, ◌∙◌, arith, nat_eq, ◌+◌, length, ◌≤◌, Bool, true, false, Some, None, Result, Ok, Err, IfOk}
-use Rattle.nb_catalog.proofs.Common.{take-take, File, bytes_of, Fault, Refused, Device, Memory, Refusal, NoFile, BadLevel, ChainLevel, Cause, Head, Contents, begins_level, level_signature, read_level, Link, first_link, not_whole, whole_link, LevelHead, Says, level_head, whole_head, read_file, WholeSays, IsWhole, reads_of}
+use Rattle.nb_catalog.proofs.Common.{take-take, File, bytes_of, Fault, Refused, Device, Memory, Refusal, NoFile, BadLevel, ChainLevel, Cause, Head, Contents, begins_level, level_signature, read_level, Link, first_link, not_whole, whole_link, LevelHead, Says, level_head, whole_head, read_file, WholeSays, IsWhole, file_most, reads_of}
+use Rattle.nb_chain.specs.Most.{first_most, level_most}
 use Rattle.std.specs.Cmp.Lexicographic.{pointwise}
 use Rattle.nb_page.specs.Header.{header_in}
 use Rattle.nb_page.specs.declared.header.Header.{Header}
@@ -110,3 +111,24 @@ pub whole_counted : (file : File) (name : List ℕ) (result : Result LevelHead F
 whole_counted None name (Ok head) start before after begins is counted begun = absurd (cc (sym (read_none name) ∙ is))
 whole_counted (Some bytes) name (Ok head) start before after begins is counted begun = omega (arith, counted, begun, whole_reads (Some bytes) bytes refl begins)
 whole_counted file name (Err fault) start before after begins is counted begun = tt
+
+-- and how many at most, of a file that begins as a level file, and of another
+pub level_within : (file now : File) (start before after : ℕ) → now ≡ file → begins_level (bytes_of file) ≡ true → before ≤ start + 1 → after ≤ before + level_most now → after ≤ start + file_most file
+level_within file now start before after same begins begun more =
+    let most : file_most file ≡ 1 + level_most file = ap (λ (b : Bool). 1 + elim b as (λ x. ℕ) [ true ↦ level_most file | false ↦ 1 ]) begins in
+    omega (arith, most, begun, more, ap level_most same)
+
+pub other_within : (file : File) (start before after : ℕ) → begins_level (bytes_of file) ≡ false → before ≤ start + 1 → after ≤ before + 1 → after ≤ start + file_most file
+other_within file start before after begins begun more =
+    let most : file_most file ≡ 2 = ap (λ (b : Bool). 1 + elim b as (λ x. ℕ) [ true ↦ level_most file | false ↦ 1 ]) begins in
+    omega (arith, most, begun, more)
+
+pub first_once : (file : File) (before after : ℕ) → begins_level (bytes_of file) ≡ false → after ≤ before + first_most file → after ≤ before + 1
+first_once None before after begins more = more
+first_once (Some bytes) before after begins more =
+    let most : first_most (Some bytes) ≡ 1 = ap (λ (b : Bool). elim b as (λ x. ℕ) [ true ↦ 1 + level_most (Some bytes) | false ↦ 1 ]) begins in
+    omega (arith, most, more)
+
+-- one read more than none
+pub start_within : (file : File) (start before : ℕ) → before ≤ start + 1 → before ≤ start + file_most file
+start_within file start before begun = omega (arith, begun)

@@ -8,7 +8,7 @@ ghost use Rattle.nb_catalog.specs.declared.entry.Entry.{Entry};
 ghost use Rattle.nb_catalog.specs.Chained.{IsChained};
 ghost use Rattle.nb_catalog.specs.Plans.{points};
 ghost use Rattle.nb_catalog.specs.Heads.{read_file, read_files};
-ghost use Rattle.nb_catalog.specs.Reads.{all_reads, reads_of};
+ghost use Rattle.nb_catalog.specs.Reads.{all_reads, file_most, files_most, reads_of};
 
 use crate::Catalogue;
 use nb_chain::{read_first, whole};
@@ -34,6 +34,7 @@ fn read_whole<H: Host>(alloc: Global, host: &mut H, name: &Name) -> Result<Level
     ensures answer { IsTrue H.tells → begins_level (bytes_of ((H.world host.old).files name.now)) ≡ false → Says (read_file name.now ((H.world host.old).files name.now)) result }
     ensures quiet { Quiet (H.world host.old) (H.world host.new) }
     ensures reads { IsTrue H.tells → IfOk result (λ head. (H.world host.new).reads ≤ (H.world host.old).reads + 1) }
+    ensures once { IsTrue H.tells → begins_level (bytes_of ((H.world host.old).files name.now)) ≡ false → (H.world host.new).reads ≤ (H.world host.old).reads + 1 }
     ensures cause { CountsDevice result (H.faults host.old) (H.faults host.new) }
 {
     let Header {
@@ -57,6 +58,7 @@ fn read_head<H: Host>(alloc: Global, host: &mut H, name: &Name) -> Result<LevelH
     ensures answer { IsTrue H.tells → Says (read_file name.now ((H.world host.old).files name.now)) result }
     ensures quiet { Quiet (H.world host.old) (H.world host.new) }
     ensures reads { IsTrue H.tells → IfOk result (λ head. (H.world host.new).reads ≤ (H.world host.old).reads + reads_of ((H.world host.old).files name.now)) }
+    ensures within { IsTrue H.tells → (H.world host.new).reads ≤ (H.world host.old).reads + file_most ((H.world host.old).files name.now) }
     ensures cause { CountsDevice result (H.faults host.old) (H.faults host.new) }
 {
     if is_level(host, name)? {
@@ -71,7 +73,8 @@ fn read_head<H: Host>(alloc: Global, host: &mut H, name: &Name) -> Result<LevelH
 /// The refusals are `NoFile` and `BadLevel`, with the first broken place, for each file in order, so the first that applies is
 /// answered. A file that begins as a level file is read once from front to back. Any other is taken as level 0, which is
 /// `BadLevel` at 0 where it doesn't begin with a header, at 22 where its state isn't 1, and at its length where that isn't 5 to
-/// 1,048,576 whole pages; of it the first 64 bytes are read. It takes memory for a head of each file and for two pages.
+/// 1,048,576 whole pages; of it the first 64 bytes are read, and of each file the first 4 before. No file is read again, whatever is
+/// answered. It takes memory for a head of each file and for two pages.
 pub fn catalogue<H: Host>(alloc: Global, host: &mut H, files: &[Name]) -> Result<Catalogue, Fault>
     requires few { length files.now < 2 ^ 32 }
     ensures answer { IsTrue H.tells → Says (read_files (H.world host.old).files files.now) result }
@@ -79,6 +82,7 @@ pub fn catalogue<H: Host>(alloc: Global, host: &mut H, files: &[Name]) -> Result
     ensures chained { IsTrue H.tells → IfOk result (λ heads. (e : Entry) → Contains (points heads) e → IsChained (H.world host.old).files files.now heads e) }
     ensures quiet { Quiet (H.world host.old) (H.world host.new) }
     ensures reads { IsTrue H.tells → IfOk result (λ heads. (H.world host.new).reads ≤ (H.world host.old).reads + all_reads (H.world host.old).files files.now) }
+    ensures within { IsTrue H.tells → (H.world host.new).reads ≤ (H.world host.old).reads + files_most (H.world host.old).files files.now }
     ensures cause { CountsDevice result (H.faults host.old) (H.faults host.new) }
 {
     let mut catalogue = Catalogue::new(alloc);

@@ -2,7 +2,7 @@
 pub use Rattle.nb_chain.specs.Chain.{CheckSays, IsChain, IsFirstOf, IsLast, level_reads}
 pub use Rattle.nb_chain.specs.First.{FirstRefused, FirstSays, IsFirst, IsRefused, is_bad_count}
 pub use Rattle.nb_chain.specs.Level.{IsRead, LevelRefused, LevelSays, WholeSays}
-pub use Rattle.nb_chain.specs.Most.{ReadsRoom, RefusedReads, chain_most, first_most, level_most, level_room, levels_most}
+pub use Rattle.nb_chain.specs.Most.{ReadsRoom, RefusedReads, chain_most, check_most, end_most, first_most, level_most, level_room, levels_most}
 pub use Rattle.nb_chain.specs.Next.{AreNext, IsNext, LevelsSay, NextRefused, NextSays, header_link, last_of, tip_link}
 unfoldable pub use Rattle.nb_chain.specs.Overlay.{all_noted, is_blank, links_noted, mark_of, noted, without_blank}
 pub use Rattle.nb_chain.specs.Overlay.{grown, is_blank_by}

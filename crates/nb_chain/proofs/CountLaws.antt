@@ -1,5 +1,5 @@
 -- Counting pages from the end gives the length of an image without its pages of zeros.
-use Rattle.std.proofs.Common.{◌≡◌, inl, inr, ℕ, zero, suc, [], ◌∷◌, length, refl, sym, ap, ◌∙◌, Bool, true, false}
+use Rattle.std.proofs.Common.{◌≡◌, inl, inr, ℕ, zero, suc, ◌+◌, ◌≤◌, [], ◌∷◌, length, refl, sym, ap, ◌∙◌, arith, Bool, true, false}
 use Rattle.nb_chain.proofs.Common.{cases_Bool, is_zeros, Page, Image, page_at, trimmed, without_blank, trimmed-none}
 
 by_last : (blank : Bool) (below here : ℕ) → ℕ
@@ -85,3 +85,15 @@ found_blank blank n m next e = ap (without_blank blank) next ∙ last_blank blan
 
 pub found_none : (blank : ℕ → Bool) (n : ℕ) → n ≡ 0 → without_blank blank n ≡ n
 found_none blank n none = ap (without_blank blank) none ∙ none_left blank ∙ sym none
+
+-- no more are left than there were
+pub no_more : (blank : ℕ → Bool) (n : ℕ) → without_blank blank n ≤ n
+no_more blank zero = omega (arith, none_left blank)
+no_more blank (suc n) = elim (cases_Bool (blank n)) [
+  | inl w ↦ omega (arith, last_blank blank n w, no_more blank n)
+  | inr w ↦ omega (arith, last_filled blank n w)
+]
+
+-- what was read from the end on, once the pages past `count` are known to be blank
+pub end_within : (blank : ℕ → Bool) (count total before here after : ℕ) → here + count ≤ before + total → without_blank blank total ≡ without_blank blank count → after ≤ here + 1 → after + without_blank blank total ≤ before + total + 1
+end_within blank count total before here after so_far same read = omega (arith, so_far, same, no_more blank count, read)

@@ -1,6 +1,6 @@
 -- How much is read of a file, page after page.
-use Rattle.std.proofs.Common.{◌≡◌, ℕ, suc, ◌+◌, ◌-◌, ◌*◌, ◌/◌, ◌<◌, ◌≤◌, List, [], ◌∷◌, length, take, drop, get_or, refl, sym, ap, subst, ◌∙◌, arith, length-drop, suc-mul, Bool, true, false, IsTrue, Some, None, Result, Ok, Err, max}
-use Rattle.nb_chain.proofs.Common.{part, number_in, is_page_size, File, Files, bytes_of, Fault, Refused, Device, Memory, begins_level, Reading, ReadsRoom, RefusedReads, chain_most, first_most, level_most, level_room, levels_most}
+use Rattle.std.proofs.Common.{◌≡◌, ℕ, suc, ◌+◌, ◌*◌, ◌/◌, ◌<◌, ◌≤◌, List, ◌∷◌, length, take, drop, get_or, sym, ap, subst, ◌∙◌, arith, length-drop, suc-mul, Bool, true, false, IsTrue, Some, None, Result, Ok, Err, max}
+use Rattle.nb_chain.proofs.Common.{part, number_in, is_page_size, File, Files, bytes_of, Fault, Refused, Device, Memory, begins_level, Reading, ReadsRoom, RefusedReads, chain_most, first_most, level_most, levels_most}
 use Rattle.nb_fields.proofs.SizeLaws.{size_facts}
 use Rattle.nb_chain.proofs.LinkLaws.{left_from}
 use Rattle.nb_level.specs.Answers.{GivesAt, IsThere}

@@ -1,11 +1,13 @@
 -- How much is read of the files of a chain, whatever comes of it.
-use Rattle.std.specs.Prelude.{◌≡◌, ℕ, ◌+◌, ◌*◌, ◌/◌, ◌≤◌, List, [], ◌∷◌, length, max, Some, None, true, false, Result, Ok, Err}
+use Rattle.std.specs.Prelude.{ℕ, ◌+◌, ◌-◌, ◌*◌, ◌/◌, ◌≤◌, List, [], ◌∷◌, length, max, Some, None, true, false, Result, Ok, Err}
 use Rattle.nb_fields.specs.Bytes.{number_in}
 use Rattle.nb_host.specs.Files.{File, Files}
 use Rattle.nb_host.specs.declared.faults.Fault.{Fault}
 use Rattle.nb_host.specs.declared.faults.Fault.TheVariants.{Refused, Device, Memory}
+use Rattle.nb_host.specs.declared.refusals.Refusal.{Refusal}
 use Rattle.nb_level.specs.Reading.{Reading}
 use Rattle.nb_model.specs.Levels.{begins_level}
+use Rattle.nb_model.specs.Restoring.{Link, verdict, all_over, applied}
 
 -- how many pages a level file has room for, by the page size in its head
 abbrev pub level_room : File → ℕ
@@ -31,6 +33,15 @@ first_most (Some bytes) = elim (begins_level bytes) [ true ↦ 1 + level_most (S
 abbrev pub chain_most : Files → (names : List (List ℕ)) → ℕ
 chain_most files [] = 0
 chain_most files (name ∷ names) = first_most (files name) + levels_most files names
+
+-- How many pages of an accepted chain are read from the end on: those of zeros that its image drops, and the one before them.
+abbrev pub end_most : Result (List Link) Refusal → ℕ
+end_most (Ok links) = length (all_over links []) - length (applied links) + 1
+end_most (Err refusal) = 0
+
+-- how many reads a check of a chain takes at most, whatever it answers
+abbrev pub check_most : Files → (names : List (List ℕ)) → ℕ
+check_most files names = chain_most files names + end_most (verdict files names)
 
 -- So many pages were read from where the reader stood, which the file has room for, and once more at most.
 pub record ReadsRoom (bytes : List ℕ) (r : Reading) (before after : ℕ) : Type 0 where

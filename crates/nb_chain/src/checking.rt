@@ -4,7 +4,7 @@ ghost use Rattle.nb_page.specs.Header.{HasForm};
 ghost use Rattle.nb_page.specs.Quiet.{Quiet};
 ghost use Rattle.nb_host.specs.Causes.{CountsDevice};
 ghost use Rattle.nb_chain.specs.Chain.{CheckSays, IsFirstOf};
-ghost use Rattle.nb_chain.specs.Most.{RefusedReads, chain_most, levels_most};
+ghost use Rattle.nb_chain.specs.Most.{RefusedReads, chain_most, check_most, levels_most};
 ghost use Rattle.nb_chain.specs.Next.{LevelsSay, tip_link, header_link};
 
 use crate::last_page::count_pages;
@@ -90,6 +90,7 @@ pub fn check<H: Host>(alloc: Global, host: &mut H, files: &[Name]) -> Result<Cha
     ensures answer { IsTrue H.tells
         → CheckSays (H.world host.old).files files.now (H.world host.old).reads (H.world host.new).reads result }
     ensures refused { IsTrue H.tells → RefusedReads result (H.world host.old).reads (chain_most (H.world host.old).files files.now) (H.world host.new).reads }
+    ensures within { IsTrue H.tells → (H.world host.new).reads ≤ (H.world host.old).reads + check_most (H.world host.old).files files.now }
     ensures size { IfOk result (λ chain. IsTrue (is_page_size chain.page_size)) }
     ensures most { IfOk result (λ chain. chain.count ≤ most_pages) }
     ensures first { IsTrue H.tells → IfOk result (λ chain. IsFirstOf (H.world host.old).files files.now chain.first) }

@@ -69,6 +69,8 @@ pub(crate) fn count_pages<H: Host>(
     ensures answer { IsTrue H.tells → (bytes : List ℕ) → (H.world host.old).files name.now ≡ Some bytes → pages * length page.old ≤ length bytes
         → IfOk result (λ count. count ≡ without_blank (is_blank bytes (length page.old) pages overlay.now) (max pages (length overlay.now))) }
     ensures reads { IsTrue H.tells → IfOk result (λ count. (H.world host.new).reads + count ≤ (H.world host.old).reads + max pages (length overlay.now) + 1) }
+    ensures within { IsTrue H.tells → (bytes : List ℕ) → (H.world host.old).files name.now ≡ Some bytes → pages * length page.old ≤ length bytes
+        → (H.world host.new).reads + without_blank (is_blank bytes (length page.old) pages overlay.now) (max pages (length overlay.now)) ≤ (H.world host.old).reads + max pages (length overlay.now) + 1 }
     ensures most { IfOk result (λ count. count ≤ most_pages) }
     ensures quiet { Quiet (H.world host.old) (H.world host.new) }
     ensures cause { CountsFault result (H.faults host.old) (H.faults host.new) }

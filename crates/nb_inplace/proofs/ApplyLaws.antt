@@ -11,6 +11,8 @@ use Rattle.nb_inplace.proofs.HalfLaws.{front_size, itself_half}
 use Rattle.nb_inplace.proofs.PagesLaws.{over_alike}
 use Rattle.nb_inplace.proofs.StampLaws.{since_image}
 use Rattle.nb_inplace.proofs.VerdictLaws.{answered, verdict_by}
+use Rattle.nb_chain.specs.Most.{RefusedReads}
+use Rattle.nb_inplace.proofs.MostLaws.{taken_refuses}
 
 -- 1. Nothing was changed.
 module _ (old new : World) (standby name : List ℕ) (quiet : Quiet old new) where
@@ -280,3 +282,9 @@ module _ (old : World) (standby name : List ℕ) (s : Standby) (reader : Reading
       apply_done n same durable stays result done left gave =
           subst (λ (k : ℕ). ByPlan k (λ records ps. IsTaken result (KeepsMerged new standby k records ps)) → ByPlan k (λ records ps. Changes mid new (Only standby) (Remade mid standby (IsHalfOr k records ps first))) → Applies result old new standby name) same
           (λ its_done its_left. answers result (its_done c.head.guid pages c.pages plan_then durable) (record { durable = durable; left = its_left c.head.guid pages c.pages plan_then durable; stays = stays }) gave) done left
+
+      -- a merge that was begun refuses nothing
+      pub apply_takes : (n : ℕ) → size ≡ n → IsDurable mid standby (mid.files standby) → (result : Result ℕ Fault) → ByPlan n (λ records ps. IsTaken result (KeepsMerged new standby n records ps)) → (before most after : ℕ) → RefusedReads result before most after
+      apply_takes n same durable result done before most after =
+          subst (λ (k : ℕ). ByPlan k (λ records ps. IsTaken result (KeepsMerged new standby k records ps)) → RefusedReads result before most after) same
+          (λ its_done. taken_refuses ℕ result (KeepsMerged new standby size c.pages pages) before most after (its_done c.head.guid pages c.pages plan_then durable)) done

@@ -6,6 +6,7 @@ pub mod HalfLaws
 pub mod AgainLaws
 pub mod StandbyLaws
 pub mod StampLaws
+pub mod MostLaws
 pub mod AcceptLaws
 pub mod FileLaws
 pub mod EndLaws

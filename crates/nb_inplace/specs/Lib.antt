@@ -8,3 +8,4 @@ pub mod Accepted
 pub mod Ready
 pub mod Merging
 pub mod Plan
+pub mod Most

@@ -1,11 +1,12 @@
 // Whether a level file is the one to merge into a standby.
-ghost use Rattle.std.specs.Prelude.{◌≡◌, IfOk, IsTrue, OnOk};
+ghost use Rattle.std.specs.Prelude.{◌≡◌, IfOk, IsTrue, OnOk, ◌+◌, ◌≤◌};
 ghost use Rattle.nb_host.specs.Causes.{CountsDevice, FaultCount};
 ghost use Rattle.nb_host.specs.declared.refusals.Refusal.TheVariants.{ChainSize};
 ghost use Rattle.nb_model.specs.Levels.{Contents};
 ghost use Rattle.nb_page.specs.Header.{HasForm};
 ghost use Rattle.nb_page.specs.Quiet.{Quiet};
 ghost use Rattle.nb_level.specs.Heads.{head_of};
+ghost use Rattle.nb_chain.specs.Most.{level_most};
 ghost use Rattle.nb_model.specs.Causes.{TestedByReads};
 ghost use Rattle.nb_inplace.specs.Accepted.{AcceptSays};
 ghost use Rattle.nb_inplace.specs.Standby.{IsWholeStandby};
@@ -107,6 +108,7 @@ pub(crate) fn accept<H: Host>(
     ensures answer { IsTrue H.tells → AcceptSays (H.world host.old).files standby.now file.now result }
     ensures whole { IfOk result (λ found. IsWholeStandby found.0) }
     ensures size { IfOk result (λ found. found.1.head.page_size ≡ found.0.header.page_size) }
+    ensures within { IsTrue H.tells → (H.world host.new).reads ≤ (H.world host.old).reads + (2 + level_most ((H.world host.old).files file.now)) }
     ensures quiet { Quiet (H.world host.old) (H.world host.new) }
     ensures cause { CountsDevice result (H.faults host.old) (H.faults host.new) }
 {

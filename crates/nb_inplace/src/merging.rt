@@ -6,9 +6,11 @@ ghost use Rattle.nb_change.specs.Gave.{GaveNothing};
 ghost use Rattle.nb_fields.specs.Places.{is_page_size};
 ghost use Rattle.nb_host.specs.Crash.{IsDurable, PageLeft};
 ghost use Rattle.nb_model.specs.Image.{Page, Numbered};
+ghost use Rattle.nb_chain.specs.Most.{RefusedReads};
 ghost use Rattle.nb_restore.specs.Target.{IsKept};
 ghost use Rattle.nb_inplace.specs.Apply.{Applies};
 ghost use Rattle.nb_inplace.specs.Merging.{IsHalfOr, KeepsMerged, begun_file};
+ghost use Rattle.nb_inplace.specs.Most.{refused_most};
 ghost use Rattle.nb_inplace.specs.Plan.{IsPlan};
 ghost use Rattle.nb_inplace.specs.Standby.{IsWholeStandby};
 
@@ -99,7 +101,8 @@ fn merge<H: Host>(
 /// with the first stamp of a page that was written since the restore. A refused call changes nothing. Neither does one that answers
 /// `Memory`: all memory is taken before the first write.
 ///
-/// The level file is read twice, once to check it and once to write its pages. Unless it is half merged the standby is read once.
+/// The level file is read twice, once to check it and once to write its pages. Unless it is half merged the standby is read once, by pieces
+/// of 256 KiB. A call that is refused reads neither again.
 pub fn apply<H: Host>(
     alloc: Global,
     host: &mut H,
@@ -107,6 +110,7 @@ pub fn apply<H: Host>(
     file: &Name,
 ) -> Result<u32, Fault>
     ensures applies { IsTrue H.tells → Applies result (H.world host.old) (H.world host.new) standby.now file.now }
+    ensures refused { IsTrue H.tells → RefusedReads result (H.world host.old).reads (refused_most (H.world host.old).files standby.now file.now) (H.world host.new).reads }
     ensures cause { CountsDevice result (H.faults host.old) (H.faults host.new) }
 {
     let mut piece = vec![in alloc; 0; PIECE]?;

@@ -1,5 +1,5 @@
 // A standby is made ready for a merge that is accepted.
-ghost use Rattle.std.specs.Prelude.{◌≡◌, ◌≤◌, IsTrue, List, OnOk, Some, length};
+ghost use Rattle.std.specs.Prelude.{◌≡◌, ◌+◌, ◌*◌, ◌≤◌, IsTrue, List, OnOk, Some, length};
 ghost use Rattle.nb_host.specs.Causes.{CountsDevice};
 ghost use Rattle.nb_fields.specs.Places.{is_page_size};
 ghost use Rattle.nb_host.specs.Crash.{IsDurable};
@@ -8,6 +8,7 @@ ghost use Rattle.nb_model.specs.Levels.{joined};
 ghost use Rattle.nb_model.specs.Sound.{IsOfSize};
 ghost use Rattle.nb_page.specs.Quiet.{Quiet};
 ghost use Rattle.nb_restore.specs.Copied.{IsDone};
+ghost use Rattle.nb_restore.specs.Most.{piece_length, pieces_in};
 ghost use Rattle.nb_model.specs.Causes.{TestedByReads};
 ghost use Rattle.nb_inplace.specs.Half.{applying_page};
 ghost use Rattle.nb_inplace.specs.Standby.{IsWholeStandby};
@@ -31,8 +32,9 @@ fn settle<H: Host>(
     piece: &mut [u8],
 ) -> Result<(), Fault>
     requires whole { IsWholeStandby found.now }
-    requires piece { 32768 ≤ length piece.old }
+    requires piece { length piece.old ≡ piece_length }
     ensures test { IsTrue H.tells → (ps : List Page) → (H.world host.old).files standby.now ≡ Some (joined ps) → IsOfSize found.now.header.page_size ps → length ps ≡ found.now.pages → TestedByReads result (stamp_cause found.now file.now scn ps) }
+    ensures within { IsTrue H.tells → (H.world host.new).reads ≤ (H.world host.old).reads + pieces_in (found.now.pages * found.now.header.page_size) }
     ensures kept { IsTrue H.tells → OnOk result (IsDurable (H.world host.new) standby.now ((H.world host.old).files standby.now)) }
     ensures quiet { Quiet (H.world host.old) (H.world host.new) }
     ensures cause { CountsDevice result (H.faults host.old) (H.faults host.new) }
@@ -54,6 +56,7 @@ fn read_page_0<H: Host>(
 ) -> Result<(), Fault>
     requires { IsTrue (is_page_size (length first.old)) }
     ensures page { IsTrue H.tells → (ps : List Page) → (H.world host.old).files standby.now ≡ Some (joined ps) → IsOfSize (length first.old) ps → 1 ≤ length ps → IsDone result (first.new ≡ applying_page guid.now (first_page ps)) }
+    ensures once { IsTrue H.tells → (H.world host.new).reads ≤ (H.world host.old).reads + 1 }
     ensures quiet { Quiet (H.world host.old) (H.world host.new) }
     ensures cause { CountsDevice result (H.faults host.old) (H.faults host.new) }
 {
@@ -80,9 +83,10 @@ pub(crate) fn make_ready<H: Host>(
 ) -> Result<(), Fault>
     requires whole { IsWholeStandby found.now }
     requires first { length first.old ≡ found.now.header.page_size }
-    requires piece { 32768 ≤ length piece.old }
+    requires piece { length piece.old ≡ piece_length }
     ensures answer { IsTrue H.tells → (ps : List Page) → (H.world host.old).files standby.now ≡ Some (joined ps) → IsOfSize found.now.header.page_size ps → length ps ≡ found.now.pages
         → ReadySays (stamp_cause found.now file.now head.now.previous_scn ps) (applying_page head.now.guid (first_page ps)) first.new result }
+    ensures within { IsTrue H.tells → (H.world host.new).reads ≤ (H.world host.old).reads + (1 + pieces_in (found.now.pages * found.now.header.page_size)) }
     ensures kept { IsTrue H.tells → OnOk result (IsDurable (H.world host.new) standby.now ((H.world host.old).files standby.now)) }
     ensures quiet { Quiet (H.world host.old) (H.world host.new) }
     ensures cause { CountsDevice result (H.faults host.old) (H.faults host.new) }

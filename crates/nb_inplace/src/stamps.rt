@@ -10,6 +10,7 @@ ghost use Rattle.nb_model.specs.Sound.{IsOfSize};
 ghost use Rattle.nb_page.specs.Quiet.{Quiet};
 ghost use Rattle.nb_model.specs.Causes.{TestedByReads};
 ghost use Rattle.nb_restore.specs.Copied.{IsDone};
+ghost use Rattle.nb_restore.specs.Most.{piece_length, pieces_in};
 
 use crate::standby::no_database;
 use nb_fields::layouts::head;
@@ -40,6 +41,7 @@ fn read_pages<H: Host>(
 ) -> Result<(), Fault>
     ensures pages { IsTrue H.tells → (ps : List Page) (count : ℕ) → (H.world host.old).files standby.now ≡ Some (joined ps) → IsOfSize page_size ps → length pages.old ≡ count * page_size → number + count ≤ length ps
         → IsDone result (pages.new ≡ joined (take count (drop number ps))) }
+    ensures once { IsTrue H.tells → (H.world host.new).reads ≤ (H.world host.old).reads + 1 }
     ensures quiet { Quiet (H.world host.old) (H.world host.new) }
     ensures cause { CountsDevice result (H.faults host.old) (H.faults host.new) }
 {
@@ -66,8 +68,9 @@ pub(crate) fn test_stamps<H: Host>(
 ) -> Result<(), Fault>
     requires size { IsTrue (is_page_size page_size) }
     requires most { pages ≤ most_pages }
-    requires piece { 32768 ≤ length piece.old }
+    requires piece { length piece.old ≡ piece_length }
     ensures test { IsTrue H.tells → (ps : List Page) → (H.world host.old).files standby.now ≡ Some (joined ps) → IsOfSize page_size ps → length ps ≡ pages → TestedByReads result (written_since file.now scn (drop 1 ps)) }
+    ensures within { IsTrue H.tells → (H.world host.new).reads ≤ (H.world host.old).reads + pieces_in (pages * page_size) }
     ensures quiet { Quiet (H.world host.old) (H.world host.new) }
     ensures cause { CountsDevice result (H.faults host.old) (H.faults host.new) }
 {

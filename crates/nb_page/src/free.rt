@@ -41,6 +41,7 @@ pub fn is_free<H: Host>(host: &mut H, name: &Name) -> Result<bool, HostFault>
         → IfOk result (λ free. free ≡ is_free_name (H.world host.old).files name.now) }
     ensures quiet { Quiet (H.world host.old) (H.world host.new) }
     ensures reads { IsTrue H.tells → OnOk result ((H.world host.new).reads ≡ (H.world host.old).reads + 1) }
+    ensures once { IsTrue H.tells → (H.world host.new).reads ≤ (H.world host.old).reads + 1 }
     ensures cause { CountsFault result (H.faults host.old) (H.faults host.new) }
 {
     let mut first = [0; header::LENGTH];

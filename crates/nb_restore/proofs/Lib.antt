@@ -13,6 +13,7 @@ pub mod PlanLaws
 pub mod ChainLaws
 pub mod PreparedLaws
 pub mod RefusedLaws
+pub mod MostLaws
 pub mod RestoreLaws
 pub mod AskLaws
 pub mod ParentLaws

@@ -1,5 +1,5 @@
 -- An accepted chain is read again as what it was, and gives a plan.
-use Rattle.std.proofs.Common.{◌≡◌, ◌≢◌, ℕ, ◌*◌, ◌≤◌, List, [], ◌∷◌, length, sym, ap, subst, ◌∙◌, arith, true, Some, Ok, Err, Contains}
+use Rattle.std.proofs.Common.{◌≡◌, ◌≢◌, ℕ, ◌*◌, ◌≤◌, List, [], ◌∷◌, length, drop, sym, ap, subst, ◌∙◌, arith, true, Some, Ok, Err, Contains}
 use Rattle.nb_restore.proofs.Common.{and_parts, is_free_file, is_header, size_of, size_facts, most_pages, Files, Fault, Refused, Device, Memory, HasForm, Page, first_page, cut, joined, Link, whole_link, first_link, verdict, all_over, IsOfSize, Pages, pages_of, cut-joined, Reading, over, IsDone, IsAccepted, IsPrepared, PlanSays, IsLevel0, AreSources, AreReady, IsGiven, IsPlan, IsUnfinishedPage, some_same, ok_same}
 use Rattle.std.specs.Global.{Vec}
 use Rattle.nb_page.specs.Free.{is_free_name}
@@ -109,6 +109,7 @@ module _ (files : Files) (target : List ℕ) (names : List (List ℕ)) (count : 
       named = named;
       pages = whole.pages;
       links = split.rest;
+      rest = sym (ap (drop 1) split.all);
       gives = gives;
       plan_is = subst (λ k. IsPlan files target name k first.pages readers.items start.items page.items whole.pages split.rest) (sym long) (record {
         whole = level_0;

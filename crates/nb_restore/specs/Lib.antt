@@ -4,3 +4,4 @@ pub mod Target
 pub mod Restore
 pub mod Plan
 pub mod Kept
+pub mod Most

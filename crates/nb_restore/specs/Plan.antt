@@ -1,5 +1,5 @@
 -- What is known of a chain before its restore makes the target.
-use Rattle.std.specs.Prelude.{◌≡◌, ◌≢◌, ℕ, true, List, [], ◌∷◌, length, Contains, Result, Ok, Err}
+use Rattle.std.specs.Prelude.{◌≡◌, ◌≢◌, ℕ, true, List, [], ◌∷◌, length, drop, Contains, Result, Ok, Err}
 use Rattle.nb_host.specs.Files.{Files}
 use Rattle.nb_host.specs.declared.faults.Fault.{Fault}
 use Rattle.nb_host.specs.declared.faults.Fault.TheVariants.{Refused, Device, Memory}
@@ -33,6 +33,7 @@ pub record IsPrepared (files : Files) (target : List ℕ) (names : List (List �
   pub named : names ≡ level_0 ∷ others
   pub pages : List Page
   pub links : List Link
+  pub rest : links ≡ drop 1 chain.links
   pub gives : all_over chain.links [] ≡ all_over links pages
   pub plan_is : IsPlan files target level_0 (length plan.page.items) plan.pages plan.readers.items plan.first.items plan.page.items pages links
 

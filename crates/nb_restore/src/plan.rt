@@ -8,8 +8,10 @@ ghost use Rattle.nb_model.specs.Sound.{IsOfSize};
 ghost use Rattle.nb_page.specs.Header.{HasForm};
 ghost use Rattle.nb_page.specs.Quiet.{Quiet};
 ghost use Rattle.nb_chain.specs.Chain.{IsFirstOf};
-ghost use Rattle.nb_chain.specs.Most.{RefusedReads, chain_most};
+ghost use Rattle.nb_model.specs.Restoring.{verdict};
+ghost use Rattle.nb_chain.specs.Most.{RefusedReads, chain_most, check_most};
 ghost use Rattle.nb_restore.specs.Copied.{IsDone};
+ghost use Rattle.nb_restore.specs.Most.{ready_most};
 ghost use Rattle.nb_restore.specs.Plan.{AcceptSays, PlanSays};
 ghost use Rattle.nb_restore.specs.Sources.{AreOfPages};
 ghost use Rattle.nb_restore.specs.Target.{IsUnfinishedPage};
@@ -47,6 +49,7 @@ fn accept<H: Host>(
     requires few { length files.now ≤ 10 }
     ensures answer { IsTrue H.tells → AcceptSays (H.world host.old).files target.now files.now result }
     ensures refused { IsTrue H.tells → RefusedReads result (H.world host.old).reads (1 + chain_most (H.world host.old).files files.now) (H.world host.new).reads }
+    ensures within { IsTrue H.tells → (H.world host.new).reads ≤ (H.world host.old).reads + (1 + check_most (H.world host.old).files files.now) }
     ensures first { IsTrue H.tells → IfOk result (λ chain. IsFirstOf (H.world host.old).files files.now chain.first) }
     ensures form { IfOk result (λ chain. HasForm chain.first.header) }
     ensures least { IfOk result (λ chain. 5 ≤ chain.first.pages) }
@@ -76,6 +79,7 @@ fn read_page_0<H: Host>(
     ensures answer { IsTrue H.tells → (ps : List Page) → (H.world host.old).files file.now ≡ Some (joined ps) → IsOfSize (length first.old) ps → 1 ≤ length ps → is_header (first_page ps) ≡ true
         → IsDone result ((first.new ≡ first_page ps) × IsUnfinishedPage page.new) }
     ensures quiet { Quiet (H.world host.old) (H.world host.new) }
+    ensures once { IsTrue H.tells → (H.world host.new).reads ≤ (H.world host.old).reads + 1 }
     ensures cause { CountsDevice result (H.faults host.old) (H.faults host.new) }
 {
     if !host.read_page(file, 0, first)? {
@@ -103,6 +107,8 @@ pub(crate) fn prepare<H: Host>(
     requires few { length files.now ≤ 10 }
     ensures answer { IsTrue H.tells → PlanSays (H.world host.old).files target.now files.now result }
     ensures refused { IsTrue H.tells → RefusedReads result (H.world host.old).reads (1 + chain_most (H.world host.old).files files.now) (H.world host.new).reads }
+    ensures within { IsTrue H.tells
+        → (H.world host.new).reads ≤ (H.world host.old).reads + (1 + check_most (H.world host.old).files files.now + ready_most files.now (verdict (H.world host.old).files files.now)) }
     ensures size { IfOk result (λ plan. IsTrue (is_page_size (length plan.page.items))) }
     ensures first { IfOk result (λ plan. length plan.first.items ≡ length plan.page.items) }
     ensures most { IfOk result (λ plan. plan.pages ≤ most_pages) }

@@ -1,4 +1,4 @@
-ghost use Rattle.std.specs.Prelude.{◌≡◌, ◌≤◌, ℕ, IsTrue, IfOk, List, length, drop};
+ghost use Rattle.std.specs.Prelude.{◌≡◌, ◌+◌, ◌-◌, ◌≤◌, ℕ, IsTrue, IfOk, List, length, drop};
 ghost use Rattle.nb_host.specs.Answers.{IsGiven};
 ghost use Rattle.nb_host.specs.Causes.{CountsDevice};
 ghost use Rattle.nb_model.specs.Restoring.{Link};
@@ -19,6 +19,7 @@ fn start_reader<H: Host>(
     ensures ready { IsTrue H.tells → (target : List ℕ) (link : Link) → IsSource (H.world host.old).files target name.now page_size link → IsGiven result (IsReady (H.world host.old).files target page_size link) }
     ensures size { IfOk result (λ reader. reader.head.page_size ≡ page_size) }
     ensures quiet { Quiet (H.world host.old) (H.world host.new) }
+    ensures once { IsTrue H.tells → (H.world host.new).reads ≤ (H.world host.old).reads + 1 }
     ensures cause { CountsDevice result (H.faults host.old) (H.faults host.new) }
 {
     let reader = LevelReader::start(alloc, host, name)?;
@@ -45,6 +46,7 @@ pub(crate) fn start_readers<H: Host>(
         → IsGiven result (λ readers. AreReady (H.world host.old).files target page_size links readers.items) }
     ensures size { IfOk result (λ readers. AreOfPages page_size readers.items) }
     ensures quiet { Quiet (H.world host.old) (H.world host.new) }
+    ensures within { IsTrue H.tells → (H.world host.new).reads ≤ (H.world host.old).reads + (length files.now - 1) }
     ensures cause { CountsDevice result (H.faults host.old) (H.faults host.new) }
 {
     let mut readers = Vec::new(alloc);

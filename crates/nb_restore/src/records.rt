@@ -1,4 +1,4 @@
-ghost use Rattle.std.specs.Prelude.{◌≡◌, ◌≢◌, ◌+◌, ◌^◌, ◌++◌, ◌≤◌, ◌<◌, ℕ, IsTrue, List, Ok, OnOk, Some, [], ◌∷◌, length, take, drop};
+ghost use Rattle.std.specs.Prelude.{◌≡◌, ◌≢◌, ◌+◌, ◌*◌, ◌%◌, ◌^◌, ◌++◌, ◌≤◌, ◌<◌, ℕ, IsTrue, List, Ok, OnOk, Some, [], ◌∷◌, length, take, drop};
 ghost use Rattle.nb_fields.specs.Places.{is_page_size, most_pages};
 ghost use Rattle.nb_host.specs.Causes.{CountsDevice, CountsFault};
 ghost use Rattle.nb_host.specs.Files.{bytes_of, with_bytes};
@@ -10,6 +10,7 @@ ghost use Rattle.nb_model.specs.Restoring.{Link};
 ghost use Rattle.nb_model.specs.Sound.{IsOfSize};
 ghost use Rattle.nb_level.specs.Reading.{still_to_come};
 ghost use Rattle.nb_restore.specs.Copied.{IsDone, KeepsFront, Overwrites, OverwritesAll};
+ghost use Rattle.nb_restore.specs.Most.{pages_most, piece_length, pieces_in};
 ghost use Rattle.nb_restore.specs.Sources.{AreOfPages, AreReady};
 
 use nb_host::{Fault, Host, HostFault, Name, Refusal};
@@ -29,6 +30,7 @@ fn put_page<H: Host>(
     ensures left { IsTrue H.tells → Changes (H.world host.old) (H.world host.new) (Only target.now) (Moved (H.world host.old) target.now KeepsFront) }
     ensures pages { IsTrue H.tells → OnOk result (Overwrites (length page.now) ((number, page.now) ∷ []) ((H.world host.old).files target.now) ((H.world host.new).files target.now) first.old first.new) }
     ensures gave { GaveNothing (H.world host.old) (H.world host.new) }
+    ensures no_read { (H.world host.new).reads ≡ (H.world host.old).reads }
     ensures cause { CountsFault result (H.faults host.old) (H.faults host.new) }
 {
     if number == 0 {
@@ -45,6 +47,7 @@ fn piece_at(at: u64, end: u64, longest: usize) -> usize
     ensures some { 0 < result }
     ensures room { result ≤ longest }
     ensures inside { at + result ≤ end }
+    ensures whole { at + result < end → (at + result) % longest ≡ 0 }
 {
     let longest = longest as u64 - at % longest as u64;
     longest.min(end - at) as usize
@@ -63,6 +66,7 @@ fn copy_piece<H: Host>(
     ensures bytes { IsTrue H.tells → (bytes : List ℕ) → (H.world host.old).files file.now ≡ Some bytes → at + length piece.old ≤ length bytes
         → IsDone result ((H.world host.new).files target.now ≡ with_bytes ((H.world host.old).files target.now) (take (length piece.old) (drop at bytes))) }
     ensures gave { GaveNothing (H.world host.old) (H.world host.new) }
+    ensures once { IsTrue H.tells → (H.world host.new).reads ≤ (H.world host.old).reads + 1 }
     ensures cause { CountsDevice result (H.faults host.old) (H.faults host.new) }
 {
     let got = host.read_at(file, at, piece)?;
@@ -88,11 +92,12 @@ pub(crate) fn copy_pages<H: Host>(
 ) -> Result<(), Fault>
     requires size { IsTrue (is_page_size page_size) }
     requires most { pages ≤ most_pages }
-    requires piece { 0 < length piece.old }
+    requires piece { length piece.old ≡ piece_length }
     ensures left { IsTrue H.tells → Changes (H.world host.old) (H.world host.new) (Only target.now) (Moved (H.world host.old) target.now KeepsFront) }
     ensures pages { IsTrue H.tells → (ps : List Page) (start : Page) → file.now ≢ target.now → (H.world host.old).files file.now ≡ Some (joined ps) → IsOfSize page_size ps → length ps ≡ pages
         → (H.world host.old).files target.now ≡ Some start → IsDone result ((H.world host.new).files target.now ≡ Some (start ++ drop page_size (joined ps))) }
     ensures gave { GaveNothing (H.world host.old) (H.world host.new) }
+    ensures within { IsTrue H.tells → (H.world host.new).reads ≤ (H.world host.old).reads + pieces_in (pages * page_size) }
     ensures cause { CountsDevice result (H.faults host.old) (H.faults host.new) }
 {
     let end = u64::from(pages) * u64::from(page_size);
@@ -119,6 +124,8 @@ fn write_level<H: Host>(
     ensures left { IsTrue H.tells → Changes (H.world host.old) (H.world host.new) (Only target.now) (Moved (H.world host.old) target.now KeepsFront) }
     ensures pages { IsTrue H.tells → (records : List Numbered) → reader.old.name ≢ target.now → still_to_come (bytes_of ((H.world host.old).files reader.old.name)) reader.old ≡ Ok records
         → IsDone result (Overwrites (length page.old) records ((H.world host.old).files target.now) ((H.world host.new).files target.now) first.old first.new) }
+    ensures within { IsTrue H.tells → (records : List Numbered) → reader.old.name ≢ target.now → still_to_come (bytes_of ((H.world host.old).files reader.old.name)) reader.old ≡ Ok records
+        → (H.world host.new).reads ≤ (H.world host.old).reads + length records + 1 }
     ensures gave { GaveNothing (H.world host.old) (H.world host.new) }
     ensures cause { CountsDevice result (H.faults host.old) (H.faults host.new) }
 {
@@ -142,6 +149,7 @@ pub(crate) fn write_levels<H: Host>(
     ensures left { IsTrue H.tells → Changes (H.world host.old) (H.world host.new) (Only target.now) (Moved (H.world host.old) target.now KeepsFront) }
     ensures pages { IsTrue H.tells → (links : List Link) → AreReady (H.world host.old).files target.now (length page.old) links readers.items
         → IsDone result (OverwritesAll (length page.old) links ((H.world host.old).files target.now) ((H.world host.new).files target.now) first.old first.new) }
+    ensures within { IsTrue H.tells → (links : List Link) → AreReady (H.world host.old).files target.now (length page.old) links readers.items → (H.world host.new).reads ≤ (H.world host.old).reads + pages_most links }
     ensures gave { GaveNothing (H.world host.old) (H.world host.new) }
     ensures cause { CountsDevice result (H.faults host.old) (H.faults host.new) }
 {

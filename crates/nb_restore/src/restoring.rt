@@ -1,6 +1,7 @@
 ghost use Rattle.std.specs.Prelude.{◌+◌, ◌≤◌, length, IsTrue};
 ghost use Rattle.nb_chain.specs.Most.{RefusedReads, chain_most};
 ghost use Rattle.nb_host.specs.Causes.{CountsDevice};
+ghost use Rattle.nb_restore.specs.Most.{restore_most};
 ghost use Rattle.nb_restore.specs.Restore.{Restores};
 
 use crate::plan::{Plan, prepare};
@@ -21,6 +22,9 @@ const PIECE: usize = 262_144;
 /// The refusals are `FileExists`, where the target's name isn't free, and then those of `nb_chain::check`, in its order. A
 /// refused call changes nothing, and reads no file more often than `nb_chain::check` does. Neither does one that answers `Memory`: all memory is taken before the target is made.
 ///
+/// Whatever it answers, level 0 is read once, by pieces of 256 KiB, but for its start and for the pages of zeros at its end, and each
+/// level file twice, page by page.
+///
 /// A crash, and an answer of `Device`, leave the target as it was, or such that its name is free for another restore, or
 /// whole. Until then it can't be opened.
 pub fn restore<H: Host>(
@@ -33,6 +37,7 @@ pub fn restore<H: Host>(
     requires few { length files.now ≤ 10 }
     ensures restores { IsTrue H.tells → Restores result (H.world host.old) (H.world host.new) target.now files.now }
     ensures refused { IsTrue H.tells → RefusedReads result (H.world host.old).reads (1 + chain_most (H.world host.old).files files.now) (H.world host.new).reads }
+    ensures within { IsTrue H.tells → (H.world host.new).reads ≤ (H.world host.old).reads + restore_most (H.world host.old).files files.now }
     ensures cause { CountsDevice result (H.faults host.old) (H.faults host.new) }
 {
     let mut piece = vec![in alloc; 0; PIECE]?;

@@ -1,4 +1,4 @@
-ghost use Rattle.std.specs.Prelude.{◌≡◌, ◌<◌, ◌≤◌, IsTrue, List, OnOk, Some, length};
+ghost use Rattle.std.specs.Prelude.{◌≡◌, ◌+◌, ◌*◌, ◌≤◌, IsTrue, List, OnOk, Some, length};
 ghost use Rattle.nb_fields.specs.Places.{is_page_size, most_pages};
 ghost use Rattle.nb_host.specs.Causes.{CountsDevice, CountsFault};
 ghost use Rattle.nb_change.specs.Changes.{Changes, Only, Remade};
@@ -6,6 +6,7 @@ ghost use Rattle.nb_change.specs.Gave.{GaveNothing};
 ghost use Rattle.nb_model.specs.Image.{Page};
 ghost use Rattle.nb_model.specs.Restoring.{Link};
 ghost use Rattle.nb_restore.specs.Copied.{IsDone};
+ghost use Rattle.nb_restore.specs.Most.{pages_most, piece_length, pieces_in};
 ghost use Rattle.nb_restore.specs.Sources.{AreOfPages};
 ghost use Rattle.nb_restore.specs.Target.{IsFree, IsFreeOr, IsKept, IsPlan, IsUnfinishedPage, KeepsWhole, ReadsOr, restored};
 
@@ -22,6 +23,7 @@ fn begin<H: Host>(host: &mut H, target: &Name, page: &[u8]) -> Result<(), HostFa
     ensures reads { IsTrue H.tells → IsUnfinishedPage page.now → ReadsOr (H.world host.old) (H.world host.new) target.now IsFree }
     ensures begun { IsTrue H.tells → OnOk result (IsKept (H.world host.new) target.now (Some page.now)) }
     ensures gave { GaveNothing (H.world host.old) (H.world host.new) }
+    ensures no_read { (H.world host.new).reads ≡ (H.world host.old).reads }
     ensures cause { CountsFault result (H.faults host.old) (H.faults host.new) }
 {
     host.make(target)?;
@@ -42,7 +44,7 @@ pub(crate) fn write_target<H: Host>(
 ) -> Result<(), Fault>
     requires size { IsTrue (is_page_size (length page.old)) }
     requires most { pages ≤ most_pages }
-    requires piece { 0 < length piece.old }
+    requires piece { length piece.old ≡ piece_length }
     requires readers { AreOfPages (length page.old) readers.items }
     requires first { length first.old ≡ length page.old }
     ensures left { IsTrue H.tells → (ps : List Page) (links : List Link) → IsPlan (H.world host.old).files target.now file.now (length page.old) pages readers.items first.old page.old ps links
@@ -51,6 +53,8 @@ pub(crate) fn write_target<H: Host>(
         → ReadsOr (H.world host.old) (H.world host.new) target.now (IsFreeOr (restored ps links)) }
     ensures done { IsTrue H.tells → (ps : List Page) (links : List Link) → IsPlan (H.world host.old).files target.now file.now (length page.old) pages readers.items first.old page.old ps links
         → IsDone result (KeepsWhole (H.world host.new) target.now (restored ps links)) }
+    ensures within { IsTrue H.tells → (ps : List Page) (links : List Link) → IsPlan (H.world host.old).files target.now file.now (length page.old) pages readers.items first.old page.old ps links
+        → (H.world host.new).reads ≤ (H.world host.old).reads + (pieces_in (pages * length page.old) + pages_most links) }
     ensures gave { GaveNothing (H.world host.old) (H.world host.new) }
     ensures cause { CountsDevice result (H.faults host.old) (H.faults host.new) }
 {

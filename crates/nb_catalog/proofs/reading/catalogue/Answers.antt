@@ -1,8 +1,8 @@
 use Rattle.std.proofs.Common.{ℕ, ◌+◌, List, [], ◌∷◌, length, ap, subst, ◌∙◌, length-append, arith, Ok, Err}
-use Rattle.nb_catalog.proofs.Common.{File, Files, LevelHead, Says, read_file, read_files, all_reads, reads_of, passed}
+use Rattle.nb_catalog.proofs.Common.{File, Files, LevelHead, Says, read_file, read_files, all_reads, file_most, files_most, reads_of, passed}
 use Rattle.nb_page.proofs.QuietLaws.{quiet_joined}
 use Rattle.nb_catalog.proofs.ChainLaws.{points_chained}
-use Rattle.nb_catalog.proofs.FileLaws.{reads_more, reads_all, read_more, read_fault, read_all}
+use Rattle.nb_catalog.proofs.FileLaws.{most_same, reads_more, reads_all, read_more, read_fault, read_all}
 use Rattle.nb_catalog.proofs.reading.catalogue.Goals as goal
 
 pub returns-in_err-head-clause-answer : goal.returns-in_err-head-clause-answer
@@ -31,8 +31,14 @@ loop-name-preserved g c =
           let files : Files = (g.H.Host.world c.args.host.now).files in
           let name : List ℕ = c.name-item.result in
           let same = ap (λ (f : Files). reads_of (f name)) loop.quiet.still.files in
-          reads_more files c.args.files.now c.loop-name.name-index name (g.H.Host.world c.args.host.now).reads (g.H.Host.world c.loop-name.host).reads (g.H.Host.world c.read_head.new.host).reads (all_reads files c.args.files.now) c.name-item.is
+          reads_more (λ m. reads_of (files m)) c.args.files.now c.loop-name.name-index name (g.H.Host.world c.args.host.now).reads (g.H.Host.world c.loop-name.host).reads (g.H.Host.world c.read_head.new.host).reads (all_reads files c.args.files.now) c.name-item.is
           c.loop-name-test.true (loop.reads tells) (omega (arith, c.in_ok-head.ensures.reads tells, same));
+      within = λ tells.
+          let files : Files = (g.H.Host.world c.args.host.now).files in
+          let name : List ℕ = c.name-item.result in
+          let read = c.read_head.ensures.within tells in
+          let same = ap (λ (f : Files). file_most (f name)) loop.quiet.still.files in
+          reads_more (λ m. file_most (files m)) c.args.files.now c.loop-name.name-index name _ _ _ (files_most files c.args.files.now) c.name-item.is c.loop-name-test.true (loop.within tells) (most_same _ _ _ _ same read);
     }
 
 pub returns-clause-answer : goal.returns-clause-answer
@@ -47,4 +53,29 @@ returns-clause-chained g c tells =
 pub returns-clause-reads : goal.returns-clause-reads
 returns-clause-reads g c tells =
     let files : Files = (g.H.Host.world c.args.host.now).files in
-    reads_all files c.args.files.now c.loop-name.name-index (g.H.Host.world c.args.host.now).reads (g.H.Host.world c.loop-name.host).reads (all_reads files c.args.files.now) (c.loop-name.invariant.reads tells)
+    reads_all (λ m. reads_of (files m)) c.args.files.now c.loop-name.name-index (g.H.Host.world c.args.host.now).reads (g.H.Host.world c.loop-name.host).reads (all_reads files c.args.files.now) (c.loop-name.invariant.reads tells)
+
+pub returns-in_err-head-clause-within : goal.returns-in_err-head-clause-within
+returns-in_err-head-clause-within g c tells =
+    let loop = c.loop-name.invariant in
+    let files : Files = (g.H.Host.world c.args.host.now).files in
+    let name : List ℕ = c.name-item.result in
+    let read = c.read_head.ensures.within tells in
+    let same = ap (λ (f : Files). file_most (f name)) loop.quiet.still.files in
+    reads_all (λ m. file_most (files m)) c.args.files.now (c.loop-name.name-index + 1) _ _ (files_most files c.args.files.now)
+    (reads_more (λ m. file_most (files m)) c.args.files.now c.loop-name.name-index name _ _ _ (files_most files c.args.files.now) c.name-item.is c.loop-name-test.true (loop.within tells) (most_same _ _ _ _ same read))
+
+pub returns-in_err-add-clause-within : goal.returns-in_err-add-clause-within
+returns-in_err-add-clause-within g c tells =
+    let loop = c.loop-name.invariant in
+    let files : Files = (g.H.Host.world c.args.host.now).files in
+    let name : List ℕ = c.name-item.result in
+    let read = c.read_head.ensures.within tells in
+    let same = ap (λ (f : Files). file_most (f name)) loop.quiet.still.files in
+    reads_all (λ m. file_most (files m)) c.args.files.now (c.loop-name.name-index + 1) _ _ (files_most files c.args.files.now)
+    (reads_more (λ m. file_most (files m)) c.args.files.now c.loop-name.name-index name _ _ _ (files_most files c.args.files.now) c.name-item.is c.loop-name-test.true (loop.within tells) (most_same _ _ _ _ same read))
+
+pub returns-clause-within : goal.returns-clause-within
+returns-clause-within g c tells =
+    let files : Files = (g.H.Host.world c.args.host.now).files in
+    reads_all (λ m. file_most (files m)) c.args.files.now c.loop-name.name-index _ _ (files_most files c.args.files.now) (c.loop-name.invariant.within tells)

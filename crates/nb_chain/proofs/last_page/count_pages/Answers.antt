@@ -1,6 +1,6 @@
-use Rattle.std.proofs.Common.{◌≡◌, ℕ, ◌-◌, ◌*◌, ◌≤◌, length, ap, sym, subst, ◌∙◌, arith}
+use Rattle.std.proofs.Common.{◌≡◌, ℕ, ◌-◌, ◌*◌, ◌≤◌, length, ap, sym, subst, ◌∙◌, arith, max}
 use Rattle.nb_chain.proofs.Common.{Files, quiet_joined, is_blank}
-use Rattle.nb_chain.proofs.CountLaws.{found_filled, found_blank, found_none}
+use Rattle.nb_chain.proofs.CountLaws.{end_within, found_filled, found_blank, found_none}
 use Rattle.nb_chain.proofs.last_page.count_pages.Goals as goal
 
 pub returns-then-not-branch-clause-answer : goal.returns-then-not-branch-clause-answer
@@ -34,3 +34,18 @@ pub returns-clause-answer : goal.returns-clause-answer
 returns-clause-answer g c tells bytes there long =
     let loop = c.loop-count.invariant in
     sym (loop.behind tells bytes there long ∙ found_none (is_blank bytes (length c.args.page.now) c.args.pages c.args.overlay.now) c.loop-count.count (omega (arith, c.loop-count-test.false)))
+
+pub returns-in_err-is_blank-clause-within : goal.returns-in_err-is_blank-clause-within
+returns-in_err-is_blank-clause-within g c tells bytes there long =
+    let loop = c.loop-count.invariant in
+    end_within (is_blank bytes (length c.args.page.now) c.args.pages c.args.overlay.now) c.loop-count.count (max c.args.pages (length c.args.overlay.now)) _ _ _ (loop.reads tells) (loop.behind tells bytes there long) (c.is_blank.ensures.reads tells)
+
+pub returns-then-not-branch-clause-within : goal.returns-then-not-branch-clause-within
+returns-then-not-branch-clause-within g c tells bytes there long =
+    let loop = c.loop-count.invariant in
+    end_within (is_blank bytes (length c.args.page.now) c.args.pages c.args.overlay.now) c.loop-count.count (max c.args.pages (length c.args.overlay.now)) _ _ _ (loop.reads tells) (loop.behind tells bytes there long) (c.is_blank.ensures.reads tells)
+
+pub returns-clause-within : goal.returns-clause-within
+returns-clause-within g c tells bytes there long =
+    let loop = c.loop-count.invariant in
+    end_within (is_blank bytes (length c.args.page.now) c.args.pages c.args.overlay.now) c.loop-count.count (max c.args.pages (length c.args.overlay.now)) _ _ _ (loop.reads tells) (loop.behind tells bytes there long) (omega arith)

@@ -1,6 +1,7 @@
 use Rattle.std.proofs.Common.{sym, ap, ◌∙◌}
 use Rattle.nb_inplace.proofs.Common.{Files, not_standby, head_of, Reading, Standby, AcceptSays, passed}
 use Rattle.nb_inplace.proofs.AcceptLaws.{standby_fails, standby_there, reader_fails, level_fails, reader_of, head_fails}
+use Rattle.nb_inplace.proofs.MostLaws.{accept_within}
 use Rattle.nb_inplace.proofs.VerdictLaws.{standby_state}
 use Rattle.nb_inplace.proofs.accepting.accept.Goals as goal
 
@@ -55,3 +56,15 @@ returns-clause-answer g c tells =
       level = level;
       clear = c.in_ok-accept_head.ensures.test (c.in_ok-whole.ensures.answer tells).contents (sym level.head ∙ ap head_of (sym c.head.ensures.value));
     }
+
+pub returns-in_err-whole-clause-within : goal.returns-in_err-whole-clause-within
+returns-in_err-whole-clause-within g c tells =
+    accept_within _ _ c.args.file.now _ _ _ _ (c.in_ok-reader.ensures.quiet.still.files ∙ c.in_ok-found.ensures.quiet.still.files) (c.read_standby.ensures.reads tells) (c.start.ensures.reads tells) (c.whole.ensures.within tells)
+
+pub returns-in_err-accept_head-clause-within : goal.returns-in_err-accept_head-clause-within
+returns-in_err-accept_head-clause-within g c tells =
+    accept_within _ _ c.args.file.now _ _ _ _ (c.in_ok-reader.ensures.quiet.still.files ∙ c.in_ok-found.ensures.quiet.still.files) (c.read_standby.ensures.reads tells) (c.start.ensures.reads tells) (c.whole.ensures.within tells)
+
+pub returns-clause-within : goal.returns-clause-within
+returns-clause-within g c tells =
+    accept_within _ _ c.args.file.now _ _ _ _ (c.in_ok-reader.ensures.quiet.still.files ∙ c.in_ok-found.ensures.quiet.still.files) (c.read_standby.ensures.reads tells) (c.start.ensures.reads tells) (c.whole.ensures.within tells)

@@ -1,8 +1,10 @@
-use Rattle.std.proofs.Common.{◌≡◌, ◌+◌, length, refl, sym, ap, subst, ◌∙◌, arith, Err}
-use Rattle.nb_restore.proofs.Common.{with_items_is, split, first_page, IsDone, PlanSays, IsUnfinishedPage, passed}
+use Rattle.std.proofs.Common.{◌≡◌, ◌+◌, ◌≤◌, length, refl, sym, ap, subst, ◌∙◌, arith, Err}
+use Rattle.nb_restore.proofs.Common.{with_items_is, split, verdict, first_page, IsDone, PlanSays, IsUnfinishedPage, passed}
 use Rattle.std.specs.Vec.{with_items}
 use Rattle.nb_restore.proofs.PreparedLaws.{given_fails, done_fails, behind_now, page_0_of, prepared}
-use Rattle.nb_chain.specs.Most.{RefusedReads, chain_most}
+use Rattle.nb_chain.specs.Most.{RefusedReads, chain_most, check_most}
+use Rattle.nb_restore.specs.Most.{ready_most}
+use Rattle.nb_restore.proofs.MostLaws.{ready_within}
 use Rattle.nb_chain.specs.declared.checking.Chain.{Chain}
 use Rattle.nb_restore.specs.declared.plan.Plan.{Plan}
 use Rattle.nb_chain.proofs.MostLaws.{refused_as}
@@ -58,3 +60,47 @@ returns-in_err-read_page_0-clause-refused g c tells =
     (done_refuses (Unit {0}) Plan _ c.in_err-read_page_0.field-0.0 _ _ _
     (page_0_of _ _ _ _ (chain.answer tells) c.index-files-0.result _ (split c.args.files.now c.index-files-0.result c.requires.some c.index-files-0.is) c.in_ok-chain.chain.first (chain.first tells) chain.form chain.least chain.pages
     (λ ps. IsDone {T = Unit {0}} (Err c.in_err-read_page_0.field-0.0) ((c.read_page_0.new.first ≡ first_page ps) × IsUnfinishedPage c.read_page_0.new.page)) _ _ _ (c.in_ok-readers.ensures.quiet.still.files ∙ chain.quiet.still.files) refl (omega (arith, ap length c.deref_mut.ensures.value, c.in_ok-first.ensures.len, c.in_ok-first.first.ok.0)) (c.in_err-read_page_0.ensures.answer tells)))
+
+pub returns-in_err-chain-clause-within : goal.returns-in_err-chain-clause-within
+returns-in_err-chain-clause-within g c tells =
+    let accept = c.accept.ensures.within tells in
+    let few : (g.H.Host.world c.accept.new.host).reads
+    ≤ (g.H.Host.world c.args.host.now).reads + (1 + check_most (g.H.Host.world c.args.host.now).files c.args.files.now + ready_most c.args.files.now (verdict (g.H.Host.world c.args.host.now).files c.args.files.now)) = omega (arith, accept) in
+    few
+
+pub returns-in_err-readers-clause-within : goal.returns-in_err-readers-clause-within
+returns-in_err-readers-clause-within g c tells =
+    let chain = c.in_ok-chain.ensures.answer tells in
+    let accept = c.accept.ensures.within tells in
+    let start = c.start_readers.ensures.within tells in
+    ready_within _ c.args.files.now chain.links _ (g.H.Host.world c.accept.new.host).reads _ chain.accepted accept (omega (arith, start, c.requires.some))
+
+pub returns-in_err-first-clause-within : goal.returns-in_err-first-clause-within
+returns-in_err-first-clause-within g c tells =
+    let chain = c.in_ok-chain.ensures.answer tells in
+    let accept = c.accept.ensures.within tells in
+    let start = c.start_readers.ensures.within tells in
+    ready_within _ c.args.files.now chain.links _ (g.H.Host.world c.accept.new.host).reads _ chain.accepted accept (omega (arith, start, c.requires.some))
+
+pub returns-in_err-page-clause-within : goal.returns-in_err-page-clause-within
+returns-in_err-page-clause-within g c tells =
+    let chain = c.in_ok-chain.ensures.answer tells in
+    let accept = c.accept.ensures.within tells in
+    let start = c.start_readers.ensures.within tells in
+    ready_within _ c.args.files.now chain.links _ (g.H.Host.world c.accept.new.host).reads _ chain.accepted accept (omega (arith, start, c.requires.some))
+
+pub returns-in_err-read_page_0-clause-within : goal.returns-in_err-read_page_0-clause-within
+returns-in_err-read_page_0-clause-within g c tells =
+    let chain = c.in_ok-chain.ensures.answer tells in
+    let accept = c.accept.ensures.within tells in
+    let start = c.start_readers.ensures.within tells in
+    let once = c.read_page_0.ensures.once tells in
+    ready_within _ c.args.files.now chain.links _ (g.H.Host.world c.accept.new.host).reads _ chain.accepted accept (omega (arith, start, once, c.requires.some))
+
+pub returns-clause-within : goal.returns-clause-within
+returns-clause-within g c tells =
+    let chain = c.in_ok-chain.ensures.answer tells in
+    let accept = c.accept.ensures.within tells in
+    let start = c.start_readers.ensures.within tells in
+    let once = c.read_page_0.ensures.once tells in
+    ready_within _ c.args.files.now chain.links _ (g.H.Host.world c.accept.new.host).reads _ chain.accepted accept (omega (arith, start, once, c.requires.some))

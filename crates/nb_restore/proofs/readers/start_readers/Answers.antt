@@ -9,6 +9,7 @@ loop-place-init g c = record {
   quiet = quiet_begun _ (g.met.H.Host.timely _);
   size = subst (λ (rs : List Reading). AreOfPages c.args.page_size rs) (sym c.new-readers.ensures.items) tt;
   cause = refl;
+  within = λ tells. omega arith;
   so_far = λ tells target links sources. started_none _ _ _ _ _ _ c.new-readers.ensures.items sources;
 }
 
@@ -27,6 +28,7 @@ loop-place-preserved g c =
       quiet = quiet_joined _ _ _ loop.quiet reader.quiet;
       size = of_pages_more _ c.loop-place.readers.items _ c.in_ok-reader.reader c.in_ok-push.ensures.items loop.size reader.size;
       cause = reader.cause ∙ loop.cause;
+      within = λ tells. let so_far = loop.within tells in let once = reader.once tells in omega (arith, so_far, once, c.loop-place-test.true);
       so_far = λ tells target links sources.
           started_more _ _ target _ links c.index-files-place.result _ _ _ (loop.so_far tells target links sources) (names_from c.args.files.now c.loop-place.place c.index-files-place.result (omega (arith, c.loop-place-test.true)) c.index-files-place.is)
           loop.quiet.still.files c.in_ok-reader.reader _ c.in_ok-push.ensures.items (λ link source. reader.ready tells target link source);
@@ -35,3 +37,6 @@ loop-place-preserved g c =
 pub returns-clause-ready : goal.returns-clause-ready
 returns-clause-ready g c tells target links sources =
     started_all _ _ _ links _ _ (drop_all c.loop-place.place c.args.files.now (omega (arith, c.loop-place-test.false))) (c.loop-place.invariant.so_far tells target links sources)
+
+pub returns-in_err-reader-clause-within : goal.returns-in_err-reader-clause-within
+returns-in_err-reader-clause-within g c tells = let so_far = c.loop-place.invariant.within tells in let once = c.in_err-reader.ensures.once tells in omega (arith, so_far, once, c.loop-place-test.true)

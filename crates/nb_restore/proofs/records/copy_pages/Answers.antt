@@ -2,7 +2,9 @@ use Rattle.std.proofs.Common.{◌≡◌, ◌*◌, ◌++◌, length, take, drop, 
 use Rattle.nb_restore.proofs.Common.{length-take-le, with_bytes, gave_begun, nothing_joined, joined, length-joined, IsDone, passed}
 use Rattle.nb_restore.proofs.FrontLaws.{front_begun, front_joined}
 use Rattle.nb_restore.proofs.LevelLaws.{fails_alike}
+use Rattle.nb_restore.proofs.MostLaws.{piece_even, piece_next}
 use Rattle.nb_restore.proofs.PieceLaws.{copied_none, copied_next, copied_all}
+use Rattle.nb_restore.specs.Most.{pieces_in}
 use Rattle.nb_restore.proofs.records.copy_pages.Goals as goal
 
 pub loop-at-init : goal.loop-at-init
@@ -12,6 +14,8 @@ loop-at-init g c = record {
   gave = gave_begun _;
   cause = refl;
   behind = omega (arith, c.from-at.ensures);
+  on_way = λ tells more. omega arith;
+  within = λ tells. omega arith;
 }
 
 pub returns-in_err-copy_piece-clause-left : goal.returns-in_err-copy_piece-clause-left
@@ -39,7 +43,24 @@ loop-at-preserved g c =
       gave = nothing_joined _ _ _ loop.gave copy.gave;
       cause = copy.cause ∙ loop.cause;
       behind = omega (arith, loop.behind);
+      on_way = λ tells. (piece_next _ c.loop-at.at c.piece_at-count.result _ _ _ c.loop-at-test.true c.piece_at-count.ensures.inside (piece_even _ _ _ _ c.loop-at.auto.piece c.requires.piece c.piece_at-count.ensures.whole) c.piece_at-count.ensures.some (loop.on_way tells) (copy.once tells)).0;
+      within = λ tells. (piece_next _ c.loop-at.at c.piece_at-count.result _ _ _ c.loop-at-test.true c.piece_at-count.ensures.inside (piece_even _ _ _ _ c.loop-at.auto.piece c.requires.piece c.piece_at-count.ensures.whole) c.piece_at-count.ensures.some (loop.on_way tells) (copy.once tells)).1;
     }
+
+pub returns-in_err-copy_piece-clause-within : goal.returns-in_err-copy_piece-clause-within
+returns-in_err-copy_piece-clause-within g c tells =
+    let loop = c.loop-at.invariant in
+    let reads = (piece_next _ c.loop-at.at c.piece_at-count.result _ _ _ c.loop-at-test.true c.piece_at-count.ensures.inside (piece_even _ _ _ _ c.loop-at.auto.piece c.requires.piece c.piece_at-count.ensures.whole) c.piece_at-count.ensures.some (loop.on_way tells) (c.copy_piece.ensures.once tells)).1 in
+    let end : c.from.result * c.from-2.result ≡ c.args.pages * c.args.page_size = ap (λ k. k * c.from-2.result) c.from.ensures ∙ ap (λ k. c.args.pages * k) c.from-2.ensures in
+    let most : pieces_in (c.from.result * c.from-2.result) ≡ pieces_in (c.args.pages * c.args.page_size) = ap pieces_in end in
+    omega (arith, reads, most)
+
+pub returns-clause-within : goal.returns-clause-within
+returns-clause-within g c tells =
+    let reads = c.loop-at.invariant.within tells in
+    let end : c.from.result * c.from-2.result ≡ c.args.pages * c.args.page_size = ap (λ k. k * c.from-2.result) c.from.ensures ∙ ap (λ k. c.args.pages * k) c.from-2.ensures in
+    let most : pieces_in (c.from.result * c.from-2.result) ≡ pieces_in (c.args.pages * c.args.page_size) = ap pieces_in end in
+    omega (arith, reads, most)
 
 pub returns-clause-pages : goal.returns-clause-pages
 returns-clause-pages g c tells ps start apart there sizes long stands =

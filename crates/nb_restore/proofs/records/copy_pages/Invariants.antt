@@ -1,6 +1,7 @@
-use Rattle.std.proofs.Common.{◌≡◌, ◌≢◌, ◌-◌, ◌≤◌, List, length, IsTrue, Some}
+use Rattle.std.proofs.Common.{◌≡◌, ◌≢◌, ◌+◌, ◌-◌, ◌/◌, ◌<◌, ◌≤◌, List, length, IsTrue, Some}
 use Rattle.nb_restore.proofs.Common.{Changes, Only, Moved, GaveNothing, Page, joined, IsOfSize, KeepsFront}
 use Rattle.nb_restore.proofs.PieceLaws.{IsCopiedTo}
+use Rattle.nb_restore.specs.Most.{piece_length, pieces_in}
 use Rattle.nb_restore.proofs.records.copy_pages.Given as goal
 
 -- level 0 stands in the target so far
@@ -12,6 +13,8 @@ invariant-loop-at g l = record {
   gave : GaveNothing (g.H.Host.world l.fn.host) (g.H.Host.world l.host);
   cause : g.H.Host.faults l.host ≡ g.H.Host.faults l.fn.host;
   behind : l.page_size ≤ l.at;
+  on_way : IsTrue g.H.Host.tells → l.at < l.end → (g.H.Host.world l.host).reads ≤ (g.H.Host.world l.fn.host).reads + l.at / piece_length;
+  within : IsTrue g.H.Host.tells → (g.H.Host.world l.host).reads ≤ (g.H.Host.world l.fn.host).reads + pieces_in l.end;
 }
 
 abbrev pub decreases-loop-at : goal.decreases-loop-at

@@ -1,6 +1,7 @@
 use Rattle.std.proofs.Common.{◌≡◌, ◌≢◌, ◌-◌, List, length, IsTrue, Ok}
 use Rattle.nb_restore.proofs.Common.{most_pages, bytes_of, Changes, Only, Moved, GaveNothing, Numbered, still_to_come, KeepsFront}
 use Rattle.nb_restore.proofs.LevelLaws.{SoFar}
+use Rattle.nb_restore.proofs.MostLaws.{ReadSoFar}
 use Rattle.nb_restore.proofs.records.write_level.Given as goal
 
 -- the pages so far were written over
@@ -10,6 +11,8 @@ invariant-loop-number g l = record {
   left : IsTrue g.H.Host.tells → Changes (g.H.Host.world l.fn.host) (g.H.Host.world l.host) (Only l.target) (Moved (g.H.Host.world l.fn.host) l.target KeepsFront);
   so_far : IsTrue g.H.Host.tells → (records : List Numbered) → l.fn.reader.name ≢ l.target → still_to_come (bytes_of ((g.H.Host.world l.fn.host).files l.fn.reader.name)) l.fn.reader ≡ Ok records
       → SoFar (length l.fn.page) (bytes_of ((g.H.Host.world l.fn.host).files l.fn.reader.name)) l.reader records ((g.H.Host.world l.fn.host).files l.target) ((g.H.Host.world l.host).files l.target) l.fn.first l.first;
+  within : IsTrue g.H.Host.tells → (records : List Numbered) → l.fn.reader.name ≢ l.target → still_to_come (bytes_of ((g.H.Host.world l.fn.host).files l.fn.reader.name)) l.fn.reader ≡ Ok records
+      → ReadSoFar (bytes_of ((g.H.Host.world l.fn.host).files l.fn.reader.name)) l.reader records (g.H.Host.world l.fn.host).reads (g.H.Host.world l.host).reads;
   gave : GaveNothing (g.H.Host.world l.fn.host) (g.H.Host.world l.host);
   cause : g.H.Host.faults l.host ≡ g.H.Host.faults l.fn.host;
 }

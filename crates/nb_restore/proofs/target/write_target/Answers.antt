@@ -1,4 +1,4 @@
-use Rattle.std.proofs.Common.{inl, inr, ⊎_elim, length, refl}
+use Rattle.std.proofs.Common.{inl, inr, ⊎_elim, length, refl, arith}
 use Rattle.nb_restore.proofs.Common.{reads_has, IsDone, OverwritesAll, KeepsWhole, restored, passed}
 use Rattle.nb_restore.proofs.FrontLaws.{front_joined}
 use Rattle.nb_restore.proofs.LevelLaws.{fails_alike}
@@ -68,3 +68,24 @@ pub returns-clause-done : goal.returns-clause-done
 returns-clause-done g c tells ps links plan =
     let written = written_by _ _ _ _ _ _ _ _ _ _ plan c.requires.size (c.in_ok-begin.ensures.left tells) (c.in_ok-begin.ensures.begun tells) _ _ _ _ refl (c.in_ok-copy_pages.ensures.left tells) (c.in_ok-write_levels.ensures.left tells) (c.in_ok-copy_pages.ensures.pages tells) (c.in_ok-write_levels.ensures.pages tells) in
     all_kept _ _ _ _ _ _ _ _ written _ c.put.ensures.written (c.in_ok-write_first.ensures.done tells)
+
+pub returns-in_err-write_levels-clause-within : goal.returns-in_err-write_levels-clause-within
+returns-in_err-write_levels-clause-within g c tells ps links plan =
+    let ready = readers_ready _ _ _ _ _ _ _ _ ps _ plan c.requires.size (c.in_ok-begin.ensures.left tells) (c.in_ok-begin.ensures.begun tells) _ _ refl (c.copy_pages.ensures.left tells) in
+    let copied = c.copy_pages.ensures.within tells in
+    let written = c.write_levels.ensures.within tells links ready in
+    omega (arith, c.begin.ensures.no_read, copied, written)
+
+pub returns-in_err-write_first-clause-within : goal.returns-in_err-write_first-clause-within
+returns-in_err-write_first-clause-within g c tells ps links plan =
+    let ready = readers_ready _ _ _ _ _ _ _ _ ps _ plan c.requires.size (c.in_ok-begin.ensures.left tells) (c.in_ok-begin.ensures.begun tells) _ _ refl (c.copy_pages.ensures.left tells) in
+    let copied = c.copy_pages.ensures.within tells in
+    let written = c.write_levels.ensures.within tells links ready in
+    omega (arith, c.begin.ensures.no_read, copied, written, c.write_first.ensures.reads)
+
+pub returns-clause-within : goal.returns-clause-within
+returns-clause-within g c tells ps links plan =
+    let ready = readers_ready _ _ _ _ _ _ _ _ ps _ plan c.requires.size (c.in_ok-begin.ensures.left tells) (c.in_ok-begin.ensures.begun tells) _ _ refl (c.copy_pages.ensures.left tells) in
+    let copied = c.copy_pages.ensures.within tells in
+    let written = c.write_levels.ensures.within tells links ready in
+    omega (arith, c.begin.ensures.no_read, copied, written, c.write_first.ensures.reads)
