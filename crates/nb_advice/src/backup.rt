@@ -1,4 +1,7 @@
 // A backup that couldn't begin or end.
+ghost use Rattle.std.specs.Prelude.{IfOk};
+ghost use Rattle.nb_advice.specs.Advised.{SaysOf, of_backup, of_lock, of_unlock};
+
 use crate::done::locked;
 use crate::opening::opening;
 use crate::refused::Refused;
@@ -6,15 +9,25 @@ use crate::seen::{Seen, There};
 use nb_host::Name;
 use std::alloc::{AllocError, Global};
 
+/// The database isn't in the normal state, or wasn't when it was asked.
+fn not_normal(alloc: Global, db: &Name, seen: &Seen) -> Result<String, AllocError> {
+    match locked(alloc, db, seen)? {
+        Some(text) => Ok(text),
+        None => format!(in alloc; "{db} was locked, and isn't any more: give the same words again"),
+    }
+}
+
 /// What is to be said where a backup doesn't begin, `-L` or `-B`.
 pub(crate) fn lock(
     alloc: Global,
     db: &Name,
     refused: &Refused<'_>,
     seen: &Seen,
-) -> Result<Option<String>, AllocError> {
+) -> Result<Option<String>, AllocError>
+    ensures says { IfOk result (λ text. SaysOf of_lock refused.now.name.now text) }
+{
     let text = match refused.name {
-        "WrongState" => return locked(alloc, db, seen),
+        "WrongState" => not_normal(alloc, db, seen)?,
         "Access" => format!(in alloc;
             "{db} is read-only, and a backup writes to it: a script with the line '1: access read_write' lifts that"
         )?,
@@ -32,7 +45,9 @@ pub(crate) fn unlock(
     db: &Name,
     refused: &Refused<'_>,
     seen: &Seen,
-) -> Result<Option<String>, AllocError> {
+) -> Result<Option<String>, AllocError>
+    ensures says { IfOk result (λ text. SaysOf of_unlock refused.now.name.now text) }
+{
     match refused.name {
         "WrongState" => Ok(Some(format!(in alloc;
             "{db} isn't locked: there is no backup to end"
@@ -42,11 +57,7 @@ pub(crate) fn unlock(
 }
 
 /// A name that isn't free.
-pub(crate) fn not_free(
-    alloc: Global,
-    name: &str,
-    seen: &Seen,
-) -> Result<Option<String>, AllocError> {
+pub(crate) fn not_free(alloc: Global, name: &str, seen: &Seen) -> Result<String, AllocError> {
     let text = match seen.there {
         There::Unknown | There::Unfinished if seen.has_delta => format!(in alloc;
             "{name} is no free name, since {name}.delta stands beside it: move that away where nothing needs it, or choose another name"
@@ -58,20 +69,15 @@ pub(crate) fn not_free(
             format!(in alloc; "{name} is there already: choose another name, or move it away")?
         }
     };
-    Ok(Some(text))
+    Ok(text)
 }
 
 /// No backup of that level is there to go on from.
-fn no_level(
-    alloc: Global,
-    db: &Name,
-    level: &str,
-    seen: &Seen,
-) -> Result<Option<String>, AllocError> {
+fn no_level(alloc: Global, db: &Name, level: &str, seen: &Seen) -> Result<String, AllocError> {
     let Some(levels) = seen.levels else {
-        return Ok(Some(format!(in alloc;
+        return format!(in alloc;
             "the history of {db} has no backup of level {level} to go on from: first make: nehumiro -B {level} {db} FILE"
-        )?));
+        );
     };
     let next = levels.lowest_missing();
     let text = match levels.text(alloc)? {
@@ -82,11 +88,11 @@ fn no_level(
             "the history of {db} has no backup to go on from (a copy made by hand is none): first make: nehumiro -B 0 {db} FILE"
         )?,
     };
-    Ok(Some(text))
+    Ok(text)
 }
 
 /// No backup has that GUID.
-fn no_guid(alloc: Global, db: &Name, seen: &Seen) -> Result<Option<String>, AllocError> {
+fn no_guid(alloc: Global, db: &Name, seen: &Seen) -> Result<String, AllocError> {
     let text = match seen.levels {
         Some(levels) => match levels.text(alloc)? {
             Some(has) => format!(in alloc;
@@ -100,7 +106,7 @@ fn no_guid(alloc: Global, db: &Name, seen: &Seen) -> Result<Option<String>, Allo
             "the history of {db} has no backup with this GUID: give a level, as: nehumiro -B 0 {db} FILE"
         )?,
     };
-    Ok(Some(text))
+    Ok(text)
 }
 
 /// What is to be said where a backup isn't made, `-B`.
@@ -109,12 +115,14 @@ pub(crate) fn backup(
     db: &Name,
     refused: &Refused<'_>,
     seen: &Seen,
-) -> Result<Option<String>, AllocError> {
+) -> Result<Option<String>, AllocError>
+    ensures says { IfOk result (λ text. SaysOf of_backup refused.now.name.now text) }
+{
     let [value, _, _] = refused.values;
     match refused.name {
-        "FileExists" => not_free(alloc, value, seen),
-        "NoHistory" => no_level(alloc, db, value, seen),
-        "NoGuid" => no_guid(alloc, db, seen),
+        "FileExists" => Ok(Some(not_free(alloc, value, seen)?)),
+        "NoHistory" => Ok(Some(no_level(alloc, db, value, seen)?)),
+        "NoGuid" => Ok(Some(no_guid(alloc, db, seen)?)),
         "Full" => Ok(Some(format!(in alloc;
             "{db} is full, and its history needs a page: free one by a script"
         )?)),

@@ -1,4 +1,7 @@
 // A chain that wasn't restored, levels that weren't folded, and backup files that weren't planned for.
+ghost use Rattle.std.specs.Prelude.{IfOk};
+ghost use Rattle.nb_advice.specs.Advised.{SaysOf, of_chain, of_files, of_plan};
+
 use crate::backup::not_free;
 use crate::opening::no_file;
 use crate::refused::Refused;
@@ -24,7 +27,7 @@ pub(crate) fn broken_file(
     file: &str,
     at: &str,
     seen: &Seen,
-) -> Result<Option<String>, AllocError> {
+) -> Result<String, AllocError> {
     let is_short = match (at.parse::<u64>(), seen.length) {
         (Ok(at), Some(length)) => at == length,
         _ => false,
@@ -50,7 +53,7 @@ pub(crate) fn broken_file(
             "{file} is damaged at its byte {at}: take another copy of it, or a chain without it"
         )?
     };
-    Ok(Some(text))
+    Ok(text)
 }
 
 /// Why files are no chain, whatever is to be made of them.
@@ -59,13 +62,15 @@ fn not_chained(
     files: &[Name],
     refused: &Refused<'_>,
     seen: &Seen,
-) -> Result<Option<String>, AllocError> {
+) -> Result<Option<String>, AllocError>
+    ensures says { IfOk result (λ text. SaysOf of_files refused.now.name.now text) }
+{
     let [file, found, wanted] = refused.values;
     let before = before(files, file);
     let text = match refused.name {
-        "FileExists" => return not_free(alloc, file, seen),
-        "NoFile" => return no_file(alloc, file),
-        "BadLevel" => return broken_file(alloc, file, found, seen),
+        "FileExists" => not_free(alloc, file, seen)?,
+        "NoFile" => no_file(alloc, file)?,
+        "BadLevel" => broken_file(alloc, file, found, seen)?,
         "ChainGuid" => format!(in alloc;
             "{file} doesn't go on from {before}, which is the backup {wanted}, but from the backup {found}: give the file of that one before it"
         )?,
@@ -86,7 +91,9 @@ pub(crate) fn restore(
     files: &[Name],
     refused: &Refused<'_>,
     seen: &Seen,
-) -> Result<Option<String>, AllocError> {
+) -> Result<Option<String>, AllocError>
+    ensures says { IfOk result (λ text. SaysOf of_chain refused.now.name.now text) }
+{
     let [file, found, wanted] = refused.values;
     match refused.name {
         "ChainLevel" => Ok(Some(format!(in alloc;
@@ -97,12 +104,7 @@ pub(crate) fn restore(
 }
 
 /// That no level follows a file of level 9, and what to do where the next one is of level 9 too, as a backup since that one is.
-fn past_nine(
-    alloc: Global,
-    file: &str,
-    level: &str,
-    before: &str,
-) -> Result<Option<String>, AllocError> {
+fn past_nine(alloc: Global, file: &str, level: &str, before: &str) -> Result<String, AllocError> {
     let text = if level == "9" {
         format!(in alloc;
             "{before} is of level 9, and no level follows 9: fold it with the file of level 8 that it goes on from, and no further; a restore takes {file} after that fold"
@@ -112,7 +114,7 @@ fn past_nine(
             "{before} is of level 9, and no level follows 9: give consecutive levels, the lowest first"
         )?
     };
-    Ok(Some(text))
+    Ok(text)
 }
 
 /// What is to be said where level files are not folded, `fold`.
@@ -121,13 +123,20 @@ pub(crate) fn fold(
     files: &[Name],
     refused: &Refused<'_>,
     seen: &Seen,
-) -> Result<Option<String>, AllocError> {
+) -> Result<Option<String>, AllocError>
+    ensures says { IfOk result (λ text. SaysOf of_chain refused.now.name.now text) }
+{
     let [file, found, wanted] = refused.values;
     match refused.name {
         "BadLevel" if found == "0" => Ok(Some(format!(in alloc;
             "{file} is no level file: give those that -B 1 to -B 9 made, and restore one of level 0 with the file that they are folded into"
         )?)),
-        "ChainLevel" if wanted == "10" => past_nine(alloc, file, found, before(files, file)),
+        "ChainLevel" if wanted == "10" => Ok(Some(past_nine(
+            alloc,
+            file,
+            found,
+            before(files, file),
+        )?)),
         "ChainLevel" => Ok(Some(format!(in alloc;
             "{file} is of level {found}, and one of level {wanted} has to follow {}: give consecutive levels, the lowest first",
             before(files, file)
@@ -142,14 +151,16 @@ pub(crate) fn plan(
     list: &Name,
     refused: &Refused<'_>,
     seen: &Seen,
-) -> Result<Option<String>, AllocError> {
+) -> Result<Option<String>, AllocError>
+    ensures says { IfOk result (λ text. SaysOf of_plan refused.now.name.now text) }
+{
     let [file, found, _] = refused.values;
     match refused.name {
-        "NoFile" if file == list.as_str() => no_file(alloc, file),
+        "NoFile" if file == list.as_str() => Ok(Some(no_file(alloc, file)?)),
         "NoFile" => Ok(Some(format!(in alloc;
             "{file} is in {list}, and isn't there: take its line out, or bring the file back"
         )?)),
-        "BadLevel" => broken_file(alloc, file, found, seen),
+        "BadLevel" => Ok(Some(broken_file(alloc, file, found, seen)?)),
         "ScriptLong" => Ok(Some(format!(in alloc;
             "{list} is too long: a list has 1,000 names and 1,048,576 bytes at most"
         )?)),

@@ -1,4 +1,7 @@
 // What is said of deeds, each of which is one turn: what to do about a refusal, and what stands after one that failed.
+ghost use Rattle.std.specs.Prelude.{IfOk};
+ghost use Rattle.nb_advice.specs.Advised.{SaysOf, of_deed};
+
 use crate::chain::{fold, restore};
 use crate::fixup::fixup;
 use crate::refused::Refused;
@@ -14,7 +17,9 @@ pub(crate) fn advice(
     deed: &Deed,
     refused: &Refused<'_>,
     seen: &Seen,
-) -> Result<Option<String>, AllocError> {
+) -> Result<Option<String>, AllocError>
+    ensures says { IfOk result (λ text. SaysOf (of_deed deed.now) refused.now.name.now text) }
+{
     match deed {
         Deed::Restore { files, .. } => restore(alloc, files.as_slice(), refused, seen),
         Deed::Fixup { db } => fixup(alloc, db, refused, seen),

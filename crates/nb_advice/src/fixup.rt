@@ -1,4 +1,7 @@
 // A copy that wasn't made a database.
+ghost use Rattle.std.specs.Prelude.{IfOk};
+ghost use Rattle.nb_advice.specs.Advised.{SaysOf, of_fixup};
+
 use crate::opening::no_file;
 use crate::refused::Refused;
 use crate::seen::Seen;
@@ -11,10 +14,12 @@ pub(crate) fn fixup(
     db: &Name,
     refused: &Refused<'_>,
     seen: &Seen,
-) -> Result<Option<String>, AllocError> {
+) -> Result<Option<String>, AllocError>
+    ensures says { IfOk result (λ text. SaysOf of_fixup refused.now.name.now text) }
+{
     let [value, _, _] = refused.values;
     let text = match refused.name {
-        "NoFile" => return no_file(alloc, value),
+        "NoFile" => no_file(alloc, value)?,
         "NotDatabase" => format!(in alloc;
             "{db} is no whole copy of a database (page {value}): copy it again while the database is locked"
         )?,

@@ -1,4 +1,7 @@
 // A level file that wasn't merged into a standby.
+ghost use Rattle.std.specs.Prelude.{IfOk};
+ghost use Rattle.nb_advice.specs.Advised.{SaysOf, of_merge};
+
 use crate::chain::broken_file;
 use crate::opening::no_file;
 use crate::refused::Refused;
@@ -71,10 +74,12 @@ pub(crate) fn merge(
     db: &Name,
     refused: &Refused<'_>,
     seen: &Seen,
-) -> Result<Option<String>, AllocError> {
+) -> Result<Option<String>, AllocError>
+    ensures says { IfOk result (λ text. SaysOf of_merge refused.now.name.now text) }
+{
     let [value, found, wanted] = refused.values;
     let text = match refused.name {
-        "NoFile" => return no_file(alloc, value),
+        "NoFile" => no_file(alloc, value)?,
         "NotDatabase" => format!(in alloc;
             "{db} is no whole database (page {value}): make the standby anew by a restore"
         )?,
@@ -82,7 +87,7 @@ pub(crate) fn merge(
         "BadLevel" if found == "0" => format!(in alloc;
             "{value} is no level file: only levels of 1 to 9 are merged, those that -B made"
         )?,
-        "BadLevel" => return broken_file(alloc, value, found, seen),
+        "BadLevel" => broken_file(alloc, value, found, seen)?,
         "Unfinished" => unfinished(alloc, db, seen.pending)?,
         "ChainGuid" if seen.is_merged => {
             format!(in alloc; "{value} is merged into {db} already: nothing is to be done")?
