@@ -9,6 +9,7 @@ pub mod Short
 pub mod Ended
 pub mod Says
 pub mod Askers
+pub mod Dangers
 pub mod Acts
 pub mod Steps
 pub mod Others

@@ -7,9 +7,13 @@ pub mod Performed
 pub mod Rows
 pub mod Worlds
 pub mod Touched
+pub mod Done
+pub mod Shipping
+pub mod Shipped
 pub mod Goes
 pub mod Shown
 pub mod ByTurns
 pub mod Forced
 pub mod Stopped
 pub mod Among
+pub mod Dangers
