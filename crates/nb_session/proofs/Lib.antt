@@ -12,6 +12,7 @@ pub mod ToldLaws
 pub mod EventLaws
 pub mod OthersLaws
 pub mod ShortLaws
+pub mod FilesLaws
 pub mod TurnLaws
 pub mod KeepLaws
 pub mod ActLaws

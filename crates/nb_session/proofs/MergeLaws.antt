@@ -1,6 +1,17 @@
 -- The turns of the end of a backup.
-use Rattle.std.proofs.Common.{◌≡◌, ◌≢◌, IfErr, inl, inr, ℕ, zero, suc, ◌+◌, ◌-◌, ◌<◌, List, [], ◌∷◌, ◌++◌, length, replicate, refl, sym, ap, subst, ◌∙◌, arith, true≢false, Result, Ok, Err, IsErr, Option, Some, None, Bool, true, false, not, ◌==◌}
+use Rattle.std.proofs.Common.{◌≡◌, ◌≢◌, IfErr, inl, inr, ℕ, zero, suc, ◌+◌, ◌-◌, ◌<◌, List, [], ◌∷◌, ◌++◌, length, replicate, refl, sym, ap, subst, ◌∙◌, arith, true≢false, Result, Ok, Err, IsErr, Option, Some, None, Bool, true, false, not, ◌==◌, ◌≤◌}
 use Rattle.nb_session.proofs.Common.{slice_index_or, eqb_tells, append-nil, normal_state, stalled_state, World, Fault, Refused, Device, Memory, HostFault, RunError, Refusal, Reply, Scn, EndBackup, Base, Cause, first_cause, when, runs_other, IsAt, IsGoing, IsMaking, Image, image_state, Turn, Begins, Ends, Finishes, Seen, Outcome, unless, passes, end_turn, ends_by, end_scn, end_strokes, Now, base_now, outcome, event_of, Stroke, finish, on_base, base_after, Trail, first_turn, turn, end_either, Strikes, after_strokes, IsNoRefusal, Held, IsOpen, name_of, WhereEnded, GoesOn, Progress, More, Finished, after_base, where_ended, DoesEnd, Says, Acts, MayAct, IsMerging, left_refused, merge_first, merge_rest, task_todo, Left, Taken, Task, Merge, Told, IsReady, EndsEarly, IsBehind, Turns, only_told, some_none}
+use Rattle.nb_fields.specs.States.{merge_state}
+use Rattle.nb_session.proofs.FilesLaws.{grows_sized}
+use Rattle.nb_session.specs.Files.{LeavesFiles, TurnLeaves, is_end, is_finish}
+use Rattle.nb_session.specs.Replies.{HasEnded}
+use Rattle.nb_base.specs.Stays.{GrowsWithin}
+use Rattle.nb_model.specs.Owner.{delta_name}
+use Rattle.nb_model.specs.Trail.{after_stroke}
+use Rattle.nb_model.specs.Image.{image_guid, image_scn, trimmed}
+use Rattle.nb_model.proofs.TrailLaws.{trail_base}
+use Rattle.nb_model.proofs.TrimLaws.{finish_base, trimmed_length}
+use Rattle.nb_model.proofs.ControlSound.{control_long}
 use Rattle.nb_change.specs.Changes.{Only}
 use Rattle.nb_base.specs.Open.{OfFiles}
 use Rattle.nb_base.specs.Takes.{StrikesOn}
@@ -19,6 +30,11 @@ use Rattle.nb_alloc.proofs.WantLaws.{not_wanted}
 use Rattle.nb_session.specs.Short.{RanOut}
 use Rattle.nb_session.proofs.WayLaws.{merge_turns, ending_at}
 use Rattle.nb_model.proofs.WholeLaws.{two_none}
+
+-- the last operation of a merge makes no image longer
+finish_shorter : (t : Trail) → length (after_stroke finish t).base.image ≤ length t.base.image
+finish_shorter t =
+    omega (arith, ap (λ (b : Base). length b.image) (trail_base finish t ∙ finish_base t.base), control_long normal_state (image_scn t.base.image) (image_guid t.base.image) (trimmed t.base.image), trimmed_length t.base.image)
 
 -- The parts of a turn that ends the stalled state.
 module _ (s : Seen) (session : ℕ) (reply : Reply) where
@@ -113,6 +129,14 @@ module _ (old new : World) (a b : Held) (t : Trail) (now : Now) (session : ℕ) 
   abbrev turn_of : Outcome
   turn_of = end_turn (seen_now now) session
 
+  -- the main file is frozen no more
+  end_files : {ended : Type 0} (turn : Turn) → is_end turn ≡ true → is_finish turn ≡ false → (ss : List Stroke) → GrowsWithin old new (name_of a) a.files.page_size t ss → TurnLeaves ended old new (name_of a) t turn ss
+  end_files turn over other ss grows = record {
+    frozen = λ stalled plain. absurd (true≢false (sym over ∙ plain));
+    gone = λ merged. absurd (true≢false (sym merged.1 ∙ other));
+    long = grows_sized old new a t ss ready.opened grows;
+  }
+
   -- the first turn of `alter database end backup`
   pub end_acts : (result : Result ℕ Fault) → b.cap ≡ a.cap → IfErr result (λ fault. fault ≢ Memory) → DoesEnd result old new a b t (end_scn t.base.image) turn_of → MayAct (λ scn. None) result old new a b t now session (Begins EndBackup) []
   end_acts result cap sure does =
@@ -130,6 +154,7 @@ module _ (old new : World) (a b : Held) (t : Trail) (now : Now) (session : ℕ) 
           kept = where_ended result _ (kept_none new (event_of session (Begins EndBackup) (outcome session (Begins EndBackup) now)) (sym (ap (λ (x : Outcome). x.made) same) ∙ end_made (seen_now now) session));
           unchanged = idle_unchanged old new turn_of.reply (event_of session (Begins EndBackup) (outcome session (Begins EndBackup) now)) (ap (λ (x : Outcome). x.reply) same) does.idle;
           short = not_wanted result _ sure;
+          files = subst (λ (x : Outcome). TurnLeaves (HasEnded result) old new (name_of a) t (Begins EndBackup) x.strokes) same (end_files (Begins EndBackup) refl refl turn_of.strokes does.long);
           name = does.name;
           cap = cap;
         };
@@ -206,6 +231,7 @@ module _ (old new : World) (a b : Held) (t : Trail) (now : Now) (session : ℕ) 
         kept = where_ended result _ (kept_none new (event_of session (Ends reply) this) (ap (λ (x : Outcome). x.made) (ends_is session reply now) ∙ ends_made (seen_now now) session reply));
         unchanged = idle_unchanged old new turn_of.reply (event_of session (Ends reply) this) reply_is does.idle;
         short = not_wanted result _ sure;
+        files = subst (TurnLeaves (HasEnded result) old new (name_of a) t (Ends reply)) strokes_are (end_files (Ends reply) refl refl turn_of.strokes does.long);
         name = does.name;
         cap = cap;
       };
@@ -263,9 +289,22 @@ module _ (old new : World) (a b : Held) (t : Trail) (now : Now) (session : ℕ) 
   merge_told : only_told (event_of session MergesOne (outcome session MergesOne now)) ≡ true → ⊥
   merge_told told = unsaid (event_of session MergesOne (outcome session MergesOne now)) (ap (λ (x : Outcome). x.reply) (merge_is session now)) told
 
+  -- the database isn't in the stalled state
+  merge_files : (u : Turn) (ended : Type 0) (ss : List Stroke) → a.files.state ≡ merge_state → (ended × (is_finish u ≡ true) → new.files (delta_name (name_of a)) ≡ None) → GrowsWithin old new (name_of a) a.files.page_size t ss
+      → TurnLeaves ended old new (name_of a) t u ss
+  merge_files u ended ss merge gone grows = record {
+    frozen = λ stalled plain. absurd (omega (arith, stalled, merge, ready.opened.files.agrees.state));
+    gone = gone;
+    long = grows_sized old new a t ss ready.opened grows;
+  }
+
+  -- the last operation of a merge makes no image longer
+  no_longer : GrowsWithin old new (name_of a) a.files.page_size t (finish ∷ []) → GrowsWithin old new (name_of a) a.files.page_size t []
+  no_longer grows most within = grows most (within, omega (arith, within, finish_shorter t))
+
   -- it fails
-  failed : (u : Turn) (ss : List Stroke) → (only_told (event_of session u (outcome session u now)) ≡ true → ⊥) → (outcome session u now).strokes ≡ ss → (outcome session u now).made ≡ None → Strikes old new (name_of a) t ss → name_of b ≡ name_of a → Acts (merge_said reply) (Err Device) old new a b t now session u []
-  failed u ss never is none struck name = record { says = tt; left = strikes_left old new (name_of a) t _ (event_of session u (outcome session u now)) none (subst (Strikes old new (name_of a) t) (sym is) struck); opened = tt; running = tt; given = tt; kept = tt; unchanged = λ told. absurd (never told); short = tt; name = name; cap = cap }
+  failed : (u : Turn) (ss : List Stroke) → (only_told (event_of session u (outcome session u now)) ≡ true → ⊥) → (outcome session u now).strokes ≡ ss → (outcome session u now).made ≡ None → Strikes old new (name_of a) t ss → a.files.state ≡ merge_state → GrowsWithin old new (name_of a) a.files.page_size t ss → name_of b ≡ name_of a → Acts (merge_said reply) (Err Device) old new a b t now session u []
+  failed u ss never is none struck merge grows name = record { says = tt; left = strikes_left old new (name_of a) t _ (event_of session u (outcome session u now)) none (subst (Strikes old new (name_of a) t) (sym is) struck); opened = tt; running = tt; given = tt; kept = tt; unchanged = λ told. absurd (never told); short = tt; files = subst (LeavesFiles (is_end u) (⊥ × (is_finish u ≡ true)) old new (name_of a) t) (sym is) (merge_files u ⊥ ss merge (λ m. absurd m.0) grows); name = name; cap = cap }
 
   finishes : (result : Result Progress HostFault) → IsMerging session 0 a → Merges result old new a b t → Acts (merge_said reply) (merge_answer result) old new a b t now session (Finishes reply) []
   finishes (Ok More) merging merges = absurd (omega (arith, diverted 0 merging, merges.on.0))
@@ -280,10 +319,11 @@ module _ (old new : World) (a b : Held) (t : Trail) (now : Now) (session : ℕ) 
         kept = kept_none new (event_of session (Finishes reply) (outcome session (Finishes reply) now)) (ap (λ (x : Outcome). x.made) o);
         unchanged = λ told. absurd (finish_told told);
         short = tt;
+        files = subst (λ (x : Outcome). TurnLeaves (Unit {0}) old new (name_of a) t (Finishes reply) x.strokes) (sym o) (merge_files (Finishes reply) (Unit {0}) (finish ∷ []) merging.state (λ m. merges.puts) merges.long);
         name = merges.name;
         cap = cap;
       }
-  finishes (Err fault) merging merges = failed (Finishes reply) (finish ∷ []) finish_told (ap (λ (x : Outcome). x.strokes) (finish_is session reply now)) (ap (λ (x : Outcome). x.made) (finish_is session reply now)) merges.left merges.name
+  finishes (Err fault) merging merges = failed (Finishes reply) (finish ∷ []) finish_told (ap (λ (x : Outcome). x.strokes) (finish_is session reply now)) (ap (λ (x : Outcome). x.made) (finish_is session reply now)) merges.left merging.state merges.long merges.name
 
   one_left : (left : ℕ) → IsMerging session (suc left) a → a.merged < length t.base.diverted
   one_left left merging = omega (arith, diverted (suc left) merging)
@@ -303,11 +343,12 @@ module _ (old new : World) (a b : Held) (t : Trail) (now : Now) (session : ℕ) 
         kept = kept_none new (event_of session MergesOne (outcome session MergesOne now)) (ap (λ (x : Outcome). x.made) o);
         unchanged = λ told. absurd (merge_told told);
         short = tt;
+        files = subst (λ (x : Outcome). TurnLeaves (Unit {0}) old new (name_of a) t MergesOne x.strokes) (sym o) (merge_files MergesOne (Unit {0}) [] merging.state (λ m. absurd (true≢false (sym m.1))) (no_longer merges.long));
         name = merges.name;
         cap = cap;
       }
   merges_one (Ok Finished) left merging merges = absurd (omega (arith, diverted (suc left) merging, merges.on.0))
-  merges_one (Err fault) left merging merges = failed MergesOne [] merge_told (ap (λ (x : Outcome). x.strokes) (merge_is session now)) (ap (λ (x : Outcome). x.made) (merge_is session now)) (struck_one (merges.more (one_left left merging))) merges.name
+  merges_one (Err fault) left merging merges = failed MergesOne [] merge_told (ap (λ (x : Outcome). x.strokes) (merge_is session now)) (ap (λ (x : Outcome). x.made) (merge_is session now)) (struck_one (merges.more (one_left left merging))) merging.state (no_longer merges.long) merges.name
 
   pub merge_acts : (result : Result Progress HostFault) (left : ℕ) → IsMerging session left a → Merges result old new a b t
       → MayAct (merge_said reply) (merge_answer result) old new a b t now session (merge_first left (Finishes reply)) []

@@ -46,8 +46,8 @@ module _ {T : Type 0} (refused : T → Bool) (task : T → Option Task) (old new
   told_turn = subst (λ (ts : List Turn). Foretells now.given (shown_first ts a) old new) here
 
   -- it is the next one
-  ends_next : (ran_out : Type 0) → EndsTurn ran_out old new (name_of a) t now asker.number turn → EndsNext ran_out old new (name_of a) t now asker.number
-  ends_next ran_out ends = subst (EndsFirst ran_out old new (name_of a) t now asker.number) (sym (has ∙ here)) ends
+  ends_next : (ran_out ended : Type 0) → EndsTurn ran_out ended old new (name_of a) t now asker.number turn → EndsNext ran_out ended old new (name_of a) t now asker.number
+  ends_next ran_out ended ends = subst (EndsFirst ran_out ended old new (name_of a) t now asker.number) (sym (has ∙ here)) ends
 
   -- the turn was taken
   takes_turn : (value : T) (noted : Bool) → moved ≡ record { number = asker.number; told = asker.told; statements = rest; task = task value; refused = noted }
@@ -55,7 +55,7 @@ module _ {T : Type 0} (refused : T → Bool) (task : T → Option Task) (old new
   takes_turn value noted same turns = record {
     grows = turns.grows;
     plays = λ told. plays_one (Ok (refused value)) (turns.plays (told_turn told));
-    ends = λ told. ends_next (RanOut {T = Unit {0}} (Ok tt)) (record { unchanged = (turns.ends (told_turn told)).unchanged; short = λ ran done. absurd ran });
+    ends = λ told. ends_next (RanOut {T = Unit {0}} (Ok tt)) (Unit {0}) (record { unchanged = (turns.ends (told_turn told)).unchanged; short = λ ran done. absurd ran; files = (turns.ends (told_turn told)).files });
     todo = λ told.
         ap (λ (x : Asker). slice_index_or (one_turn asker.number now).1.todo (x.number - 1) []) same
         ∙ ap (λ (p : Played). slice_index_or p.1.todo (asker.number - 1) []) one_is ∙ taken_todo asker.number now turn (tail ++ more) (has ∙ here)
@@ -75,7 +75,7 @@ module _ {T : Type 0} (refused : T → Bool) (task : T → Option Task) (old new
         (plays_one (Err error) (turns.plays (told_turn told)));
     ends = λ told.
         let here_ends = turns.ends (told_turn told) in
-        ends_next (RanOut {T = Unit {0}} (Err e)) (record { unchanged = here_ends.unchanged; short = λ ran done. here_ends.short (subst (λ (f : RunError). RanOut {T = T} (Err f)) is.1 ran) done });
+        ends_next (RanOut {T = Unit {0}} (Err e)) ⊥ (record { unchanged = here_ends.unchanged; short = λ ran done. here_ends.short (subst (λ (f : RunError). RanOut {T = T} (Err f)) is.1 ran) done; files = here_ends.files });
     todo = λ told. tt;
     goes = λ told. tt;
   }

@@ -6,6 +6,7 @@ pub mod Todo
 pub mod Told
 pub mod Replies
 pub mod Short
+pub mod Files
 pub mod Ended
 pub mod Says
 pub mod Askers

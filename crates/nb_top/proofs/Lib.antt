@@ -64,6 +64,7 @@ pub mod FoldStands
 pub mod Planned
 pub mod Lists
 pub mod ForcedRuns
+pub mod FrozenStays
 pub mod MergedAlready
 pub mod StoppedMerges
 pub mod NamedFiles

@@ -11,5 +11,6 @@ pub mod Goes
 pub mod Shown
 pub mod ByTurns
 pub mod Forced
+pub mod Frozen
 pub mod Stopped
 pub mod Among

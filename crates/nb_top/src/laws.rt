@@ -13,16 +13,16 @@ ghost use Rattle.nb_mem.specs.Histories.{files_of, guids_behind, world_of};
 ghost use Rattle.nb_mem.specs.Outcomes.{IsLeft, placed};
 ghost use Rattle.nb_model.specs.Account.{Account, Base, Kept};
 ghost use Rattle.nb_model.specs.Image.{page_at, is_forced};
-ghost use Rattle.nb_model.specs.Steps.{AreForced};
+ghost use Rattle.nb_model.specs.Steps.{AreForced, after_steps, steps_of};
 ghost use Rattle.nb_model.specs.Strokes.{Stroke, make};
-ghost use Rattle.nb_model.specs.Trail.{IsBehindFirst};
+ghost use Rattle.nb_model.specs.Trail.{IsBehindFirst, Trail};
 ghost use Rattle.nb_model.specs.Jobs.{IsAttaching, turn_of};
 ghost use Rattle.nb_model.specs.Levels.{Contents};
 ghost use Rattle.nb_model.specs.NewGuids.{AreNew, guids_in};
 ghost use Rattle.nb_model.specs.Outcomes.{Given};
 ghost use Rattle.nb_model.specs.Owner.{delta_name};
 ghost use Rattle.nb_model.specs.Restoring.{Link, verdict};
-ghost use Rattle.nb_model.specs.Run.{Event, strokes_of};
+ghost use Rattle.nb_model.specs.Run.{Event, Now, play, strokes_of};
 ghost use Rattle.nb_model.specs.Stands.{Stands};
 ghost use Rattle.nb_model.specs.Trail.{ShowsIn};
 ghost use Rattle.nb_model.specs.declared.job.Ask.{Ask};
@@ -33,9 +33,11 @@ ghost use Rattle.nb_inplace.specs.Verdict.{IsMergeable};
 ghost use Rattle.nb_page.specs.Free.{is_free_name};
 ghost use Rattle.nb_restore.specs.Kept.{AreKept, last_guid};
 ghost use Rattle.nb_script.specs.Scripts.{Plan};
+ghost use Rattle.nb_session.specs.ByTurns.{ByTurns};
 ghost use Rattle.nb_ended.specs.declared.status.Status.{Status};
 ghost use Rattle.nb_top.specs.Among.{AreClosed, FollowOn, GoOnAlone, HoldTheirs, RestoresKept, StandAlone, among, is_among, only_of, with_deltas};
 ghost use Rattle.nb_top.specs.Forced.{AreForcedIn, PrefixLeft, StandsWhole};
+ghost use Rattle.nb_top.specs.Frozen.{AreDuring, StaysWithin};
 ghost use Rattle.nb_top.specs.Goes.{IsRun};
 ghost use Rattle.nb_top.specs.OneTurn.{DoesTurn, leaves_all, one_turn};
 ghost use Rattle.nb_top.specs.Performed.{IsPerformed, IsSure, KnowsAsked, PerformsRun, RunLeft, StandsWithin, Target, Finished, HasSmallScn, MayBeGiven, target_of};
@@ -226,4 +228,12 @@ pub fn the_next_run_may_begin_alone<H: Host>(_before: &H, _behind: &H)
     ensures beside { (names : List (List ℕ)) (files others : Files) (kept : List Kept) → HoldsKept (among names files) kept → ((m : List ℕ) → is_among names m ≡ true → others m ≡ files m) → HoldsKept (among names others) kept }
     ensures closed { (names : List (List ℕ)) → AllByRecursion (λ (name : List ℕ). is_delta name ≡ false) names → AreClosed (with_deltas names) }
     ensures part { IsTrue H.tells → (names : List (List ℕ)) (account : Account) → AreClosed names → StandsFor (H.world _before.now) account → StandAlone names (H.world _before.now) (only_of names account) }
+{}
+
+/// While a backup is under way the main file stays as it is. Among turns that were taken one after another, a stretch of them, each taken in the stalled
+/// state and none ending it, leaves the database's file as it reads, byte for byte, and at each moment of the stretch a crash leaves of it what it would
+/// have left before.
+pub fn a_frozen_file_stays<H: Host>(_before: &H, _behind: &H)
+    ensures { (told : List Event → List Event) (front stretch rest : List ℕ) (t : Trail) (now : Now) → ByTurns H.world told (front ++ (stretch ++ rest)) _before.now _behind.now t now
+        → AreDuring stretch (after_steps t (steps_of (play front now).0)) (play front now).1 → StaysWithin H.world told front stretch rest _before.now _behind.now t now }
 {}

@@ -1,6 +1,5 @@
 use Rattle.std.proofs.Common.{ℕ, [], refl, ap, ◌∙◌, Ok, Err, Some}
 use Rattle.nb_session.proofs.Common.{Device, Done, PageMade, Value, Scn, ImageShown, CacheShown, write_turn, header_turn, first_turn, done, page_made, valued, scn_is, Held, some_said, quiet_begun}
-use Rattle.nb_base.proofs.TouchLaws.{strikes_in}
 use Rattle.nb_shown.specs.Replies.{pages_shown, image_shown}
 use Rattle.nb_alloc.proofs.WantLaws.{not_wanted}
 use Rattle.nb_model.specs.declared.statement.Statement.TheVariants.{Read, ShowPages, ShowImage}
@@ -82,13 +81,13 @@ returns-in_ok-scn-in-BeginBackup-clause-turn g c now t session tells ready =
 pub returns-in_ok-sync-in-Sync-clause-turn : goal.returns-in_ok-sync-in-Sync-clause-turn
 returns-in_ok-sync-in-Sync-clause-turn g c now t session tells ready =
     may_value (λ v. Some Done) some_said _ _ _ _ t now session _ [] c.in_ok-sync-in-Sync.field-0 Done refl
-    (sync_acts _ _ _ _ t now session c.args.statement.now c.in-Sync.is ready c.in_ok-sync-in-Sync.ensures.same (strikes_in _ _ c.args.engine.now.files.state _ t [] (c.in_ok-sync-in-Sync.ensures.takes t tells ready.opened).left) c.in_ok-sync-in-Sync.ensures.gave c.in_ok-sync-in-Sync.field-0
+    (sync_acts _ _ _ _ t now session c.args.statement.now c.in-Sync.is ready c.in_ok-sync-in-Sync.ensures.same (c.in_ok-sync-in-Sync.ensures.takes t tells ready.opened).left (c.in_ok-sync-in-Sync.ensures.long t tells ready.opened) c.in_ok-sync-in-Sync.ensures.gave c.in_ok-sync-in-Sync.field-0
     (c.in_ok-sync-in-Sync.ensures.settled t tells ready.opened))
 
 pub returns-in_err-sync-in-Sync-clause-turn : goal.returns-in_err-sync-in-Sync-clause-turn
 returns-in_err-sync-in-Sync-clause-turn g c now t session tells ready =
     may_passed some_said some_said _ _ _ _ t now session _ [] Device c.from_residual-in_err-sync-in-Sync.result c.from_residual-in_err-sync-in-Sync.ensures
-    (sync_failed _ _ _ _ t now session c.args.statement.now c.in-Sync.is ready c.in_err-sync-in-Sync.ensures.same (strikes_in _ _ c.args.engine.now.files.state _ t [] (c.in_err-sync-in-Sync.ensures.takes t tells ready.opened).left) c.in_err-sync-in-Sync.ensures.gave some_said)
+    (sync_failed _ _ _ _ t now session c.args.statement.now c.in-Sync.is ready c.in_err-sync-in-Sync.ensures.same (c.in_err-sync-in-Sync.ensures.takes t tells ready.opened).left (c.in_err-sync-in-Sync.ensures.long t tells ready.opened) c.in_err-sync-in-Sync.ensures.gave some_said)
 
 pub returns-in-ShowHeader-clause-turn : goal.returns-in-ShowHeader-clause-turn
 unfolding first_turn
