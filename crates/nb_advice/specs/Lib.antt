@@ -1,1 +1,4 @@
 pub mod Advised
+
+pub mod Advised
+pub mod Dangers

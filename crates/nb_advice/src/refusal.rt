@@ -9,6 +9,7 @@ use crate::deeds;
 use crate::opening::looking;
 use crate::refused::Refused;
 use crate::seen::Seen;
+use crate::ship::ship;
 use nb_host::Name;
 use nb_model::{Ask, Job};
 use std::alloc::{AllocError, Global};
@@ -72,5 +73,6 @@ pub fn advice(
         Job::Plan { list, .. } => plan(alloc, list, refused, seen),
         Job::Gen { .. } => of_gen(alloc, refused),
         Job::Run { script } => of_run(alloc, script, refused),
+        Job::Ship { primary, standby } => ship(alloc, primary, standby, refused, seen),
     }
 }

@@ -32,7 +32,7 @@ pub(crate) fn unfinished(
 }
 
 /// The standby is in a state in which nothing is merged into it.
-fn wrong_state(alloc: Global, db: &Name, state: &str) -> Result<String, AllocError> {
+pub(crate) fn wrong_state(alloc: Global, db: &Name, state: &str) -> Result<String, AllocError> {
     if state == "1" {
         format!(in alloc;
             "{db} is locked, or is a copy of a locked database, and no standby: restore one from the copy: nehumiro -R STANDBY {db}"

@@ -103,6 +103,7 @@ pub fn progress_of(
     let (job, name) = match job {
         Job::Run { script } | Job::Gen { script, .. } => ("running", script),
         Job::Plan { list, .. } => ("planning for", list),
+        Job::Ship { standby, .. } => ("shipping to", standby),
         Job::Attach { db, ask } => return asking(alloc, db, ask, manner),
         Job::Turn { deed } => return doing(alloc, deed, manner),
     };

@@ -30,6 +30,8 @@ pub mod SceneLaws
 pub mod AnyLaws
 pub mod EndLaws
 pub mod WholeLaws
+pub mod DangerLaws
+pub mod FindLaws
 pub mod OutLaws
 pub mod HeaderLaws
 pub mod ByTurnsLaws

@@ -66,6 +66,8 @@ pub record Asker : Type 0 where
   pub task : Option Task
   -- whether a statement of it was refused
   pub refused : Bool
+  -- the pages in danger that its last check has found, if one was done
+  pub danger : Option (List ℕ)
 
 -- so many turns, and then a last one: the first of them, and those after it
 abbrev pub copy_first : (left : ℕ) → (last : Turn) → Turn
@@ -171,7 +173,7 @@ keeps_fit session other before after apart keeps fit = record { asks = fit.asks;
 
 -- a session that has all of its statements to do
 abbrev pub fresh_asker : Told → Plan → (session : ℕ) → Asker
-fresh_asker told plan session = record { number = session; told = told; statements = statements_of plan session; task = None; refused = false }
+fresh_asker told plan session = record { number = session; told = told; statements = statements_of plan session; task = None; refused = false; danger = None }
 
 -- the sessions of a script before their first turns
 abbrev pub first_askers : Told → Plan → List Asker

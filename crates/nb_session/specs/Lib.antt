@@ -10,6 +10,7 @@ pub mod Files
 pub mod Ended
 pub mod Says
 pub mod Askers
+pub mod Dangers
 pub mod Acts
 pub mod Steps
 pub mod Others

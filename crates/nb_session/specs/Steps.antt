@@ -18,6 +18,7 @@ use Rattle.nb_session.specs.declared.task.Left.{Left}
 use Rattle.nb_session.specs.declared.task.Task.{Task}
 use Rattle.nb_session.specs.declared.told.Told.{Told}
 use Rattle.nb_session.specs.Askers.{Asker, HasTodo, KeepsOthers, left_refused, left_task, task_first, task_rest, task_todo, todo_of}
+use Rattle.nb_session.specs.Dangers.{Finds}
 use Rattle.nb_session.specs.Ready.{IsReady, TaskGoes}
 use Rattle.nb_session.specs.Ended.{EndsTurn, EndsNext}
 use Rattle.nb_session.specs.Short.{RanOut, CameToEnd}
@@ -93,6 +94,7 @@ pub record Steps (tells : Bool) (result : Result (Unit {0}) RunError) (old new :
   pub refused : Bool
   pub noted : OnOk result (moved.refused ≡ (asker.refused || refused))
   pub told : moved.told ≡ asker.told
+  pub danger : OnOk result (Finds tells old before asker.task asker.statements asker.danger moved.danger)
   pub takes : (now : Now) (t : Trail) → IsTrue tells → IsReady old before t now → IsMaking now → HasTodo asker now → TaskGoes asker.number old before t.base.frozen asker.task
       → TakesNext refused result old new before after t now asker moved
   pub others : KeepsOthers asker.number before after

@@ -11,7 +11,7 @@ use Rattle.nb_ended.specs.declared.status.Status.TheVariants.{Done, Refused, Usa
 use Rattle.nb_session.specs.ByTurns.{ByTurns, Ending, EndsInLast, GoesByTurns, SaidInLast, ending_of}
 use Rattle.nb_session.specs.Ended.{EndsFirst}
 use Rattle.nb_top.specs.ByTurns.{ending_by}
-use Rattle.nb_top.specs.Requests.{Asked, Runs, Does}
+use Rattle.nb_top.specs.Requests.{Asked, Runs, Does, Ships}
 use Rattle.nb_session.specs.Todo.{PlaysInTurn}
 use Rattle.nb_session.specs.Told.{told_events}
 use Rattle.nb_session.specs.declared.told.Told.{Told}
@@ -330,3 +330,4 @@ module _ {H : Type 0} (world : H → World) (one other : Ending) (so : IsAs one 
   pub asked_so : (old new : H) (asked : Asked) (account : Account) (given : Given) → AskedByTurns world one old new asked account given → AskedByTurns world other old new asked account given
   asked_so old new (Runs asked) account given turns = run_so old new asked account given turns
   asked_so old new (Does deed) account given turns = tt
+  asked_so old new (Ships primary standby) account given turns = tt

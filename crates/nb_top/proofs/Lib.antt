@@ -28,6 +28,7 @@ pub mod WellRuns
 pub mod SureFiles
 pub mod SureRuns
 pub mod WordNames
+pub mod LongNames
 pub mod WordsFit
 pub mod Deeds
 pub mod JobRuns
@@ -55,8 +56,15 @@ pub mod Fixed
 pub mod MergeTurns
 pub mod Merged
 pub mod GoesLaws
+pub mod ShipPlans
+pub mod ShipParts
+pub mod ShipHeads
+pub mod ShipSteps
+pub mod ShipOthers
+pub mod AllStay
 pub mod GeneratedGoes
 pub mod ShownLaws
+pub mod DangerLaws
 pub mod FoldTurns
 pub mod Folded
 pub mod FoldRecords

@@ -7,6 +7,9 @@ pub mod Performed
 pub mod Rows
 pub mod Worlds
 pub mod Touched
+pub mod Done
+pub mod Shipping
+pub mod Shipped
 pub mod Goes
 pub mod Shown
 pub mod ByTurns
@@ -14,3 +17,4 @@ pub mod Forced
 pub mod Frozen
 pub mod Stopped
 pub mod Among
+pub mod Dangers

@@ -12,7 +12,7 @@ use nb_script::Script;
 use std::alloc::Global;
 
 /// How many pages the cache of such a job holds.
-const USUAL_CACHE: u32 = 64;
+pub(crate) const USUAL_CACHE: u32 = 64;
 
 /// The script that opens a database and asks it one thing, in session 1.
 fn script_of_one(alloc: Global, db: &Name, statement: Statement) -> Result<Script, Fault>

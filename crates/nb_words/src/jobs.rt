@@ -2,7 +2,7 @@
 ghost use Rattle.std.specs.Prelude.{◌≡◌, [], ◌∷◌, Some, None, cond, IfOk, IfErr};
 ghost use Rattle.std.specs.List.{list_all};
 ghost use Rattle.nb_host.specs.declared.faults.Fault.TheVariants.{Memory};
-ghost use Rattle.nb_model.specs.Words.{is_file, asks_one, named_job, gen_job, plan_job, gen_or_plan, fold_job, backup_job, restore_job, apply_job, ask_job, fixup_job};
+ghost use Rattle.nb_model.specs.Words.{is_file, asks_one, named_job, gen_job, plan_job, ship_job, job_of_three, fold_job, backup_job, restore_job, apply_job, ask_job, fixup_job};
 ghost use Rattle.nb_words.specs.Choice.{job_in};
 ghost use Rattle.nb_words.specs.Parts.{one_database};
 ghost use Rattle.nb_words.specs.Read.{words_of};
@@ -73,25 +73,36 @@ fn planned(keep: &str, list: &str) -> Option<Job>
     Some(Job::Plan { keep, list })
 }
 
+/// `ship PRIMARY STANDBY`
+fn shipped(primary: &str, standby: &str) -> Option<Job>
+    ensures { result ≡ ship_job primary.now standby.now }
+{
+    let primary = word::database(primary)?;
+    let standby = word::database(standby)?;
+    Some(Job::Ship { primary, standby })
+}
+
 /// What the first of three words names.
-fn of_three(verb: &str, number: &str, name: &str) -> Option<Job>
-    ensures { result ≡ gen_or_plan (verb.now ∷ number.now ∷ name.now ∷ []) }
+fn of_three(verb: &str, one: &str, other: &str) -> Option<Job>
+    ensures { result ≡ job_of_three (verb.now ∷ one.now ∷ other.now ∷ []) }
 {
     if verb == "gen" {
-        generated(number, name)
+        generated(one, other)
     } else if verb == "plan" {
-        planned(number, name)
+        planned(one, other)
+    } else if verb == "ship" {
+        shipped(one, other)
     } else {
         None
     }
 }
 
-/// `gen N SCRIPT` and `plan K LIST`
-fn gen_or_plan(words: &[&str]) -> Option<Job>
-    ensures { result ≡ gen_or_plan (words_of words.now) }
+/// `gen N SCRIPT`, `plan K LIST` and `ship PRIMARY STANDBY`
+fn three(words: &[&str]) -> Option<Job>
+    ensures { result ≡ job_of_three (words_of words.now) }
 {
     match words {
-        [verb, number, name] => of_three(verb, number, name),
+        [verb, one, other] => of_three(verb, one, other),
         _ => None,
     }
 }
@@ -245,7 +256,7 @@ pub(crate) fn of_cell(alloc: Global, cell: u8, words: &[&str]) -> Result<Option<
 {
     match cell {
         1 => Ok(named(words)),
-        2 => Ok(gen_or_plan(words)),
+        2 => Ok(three(words)),
         3 => Ok(backup(words)),
         4 => restore(alloc, words),
         5 => Ok(asking(words, Ask::Lock)),
