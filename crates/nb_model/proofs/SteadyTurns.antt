@@ -1,6 +1,6 @@
 -- While a backup is under way its record is kept, and all that was seen goes on from it: so each turn keeps what was seen well.
 use Rattle.std.proofs.Common.{◌≡◌, ◌≢◌, inl, inr, ℕ, zero, suc, ◌-◌, List, [], ◌∷◌, ◌++◌, length, replicate, get_or, refl, sym, ap, subst, ◌∙◌, arith, append_assoc, Bool, Option, None, true, false, ◌==◌}
-use Rattle.nb_model.proofs.Common.{AllByRecursion, eqb-true, eqb_tells, normal_state, stalled_state, merge_state, Refusal, Refused, Reply, Statement, Ask, Kept, Base, room_in, close_backup, close_copy, runs_other, AreBeginnings, AreMerging, IsNamed, AreNamed, HasRoom, Runs, IsAt, waits, backs_up, copies, merges, IsGoing, image_state, image_scn, Turn, Begins, Copies, ClosesBackup, ClosesCopy, Ends, Merges, Finishes, Backing, Seen, Outcome, says, next_guid, next_time, end_strokes, ends_by, Event, Now, Played, base_now, event_of, outcome, stands_then, one_turn, play, Step, settles, after_step, after_steps, made, steps_of, HasHeader, Stroke, begin, ends, finish, base_after, Trail, settled, first_turn, turn, is_on_pages, IsWellTrail, none_some}
+use Rattle.nb_model.proofs.Common.{AllByRecursion, activated, eqb-true, eqb_tells, normal_state, stalled_state, merge_state, Refusal, Refused, Reply, Statement, Ask, Kept, Base, room_in, close_backup, close_copy, runs_other, AreBeginnings, AreMerging, IsNamed, AreNamed, HasRoom, Runs, IsAt, waits, backs_up, copies, merges, IsGoing, image_state, image_scn, Turn, Begins, Copies, ClosesBackup, ClosesCopy, Ends, Merges, Finishes, Backing, Seen, Outcome, says, next_guid, next_time, end_strokes, ends_by, Event, Now, Played, base_now, event_of, outcome, stands_then, one_turn, play, Step, settles, after_step, after_steps, made, steps_of, HasHeader, Stroke, begin, ends, finish, base_after, Trail, settled, first_turn, turn, is_on_pages, IsWellTrail, none_some}
 use Rattle.nb_model.specs.Going.{ends as ending}
 use Rattle.nb_model.proofs.BackupWell.{IsLedTo, IsRecorded, StartsWell, recorded_on, recorded_settled, start_well, close_well}
 use Rattle.nb_model.proofs.GoingLaws.{next_sixteen, one_runs, name_short, then_base, own_todo, other_todo, one_cases, going_turn, named_turn, merge_turns}
@@ -160,7 +160,7 @@ module _ (kept : List Kept) (t : Trail) (now : Now) (session : ℕ) (base : t.ba
     statement_turn : (statement : Statement) → IsNamed (Begins statement) → Does (first_turn s session statement)
     unfolding first_turn
     statement_turn = statement_cases (λ x. IsNamed (Begins x) → Does (first_turn s session x)) pages_turn (λ named. begin_either Does s refused_turn begun_turn) (λ named. end_either Does s session refused_turn (λ may. ended_turn _ may.other (alone_by may)))
-        (λ named. activate_either Does s session refused_turn (said_turn _) (λ may. ended_turn _ may.other (alone_by may)))
+        (λ named. activate_either Does s session refused_turn (said_turn (activated s.base)) (λ may. ended_turn _ may.other (alone_by may)))
         (λ level name named. backup_either Does s session level name refused_turn (started_turn name)) (λ guid name named. since_either Does s session guid name refused_turn (started_turn name)) (λ name named. copy_either Does s session name refused_turn (copied_turn name))
 
   -- the further turns of a backup, a copy or a merge of this session

@@ -315,6 +315,7 @@ first_holds s session = statement_cases (λ x. (first_turn s session x).given.ho
     (λ x on. ap (λ (g : Given). g.holds) (pages_once x on s session).given)
     (begin_either Same s (λ r. refl) (λ may. refl))
     (end_either Same s session (λ r. refl) (λ may. refl))
+    (activate_either Same s session (λ r. refl) refl (λ may. refl))
     (λ level name. backup_either Same s session level name (λ r. refl) (λ ask is may. refl))
     (λ guid name. since_either Same s session guid name (λ r. refl) (λ ask is may. refl))
     (λ name. copy_either Same s session name (λ r. refl) (λ may. refl))

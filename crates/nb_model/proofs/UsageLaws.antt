@@ -1,6 +1,6 @@
 -- No statement is refused as words that name no job.
 use Rattle.std.proofs.Common.{◌≡◌, ◌≢◌, ℕ, zero, suc, List, [], ◌∷◌, ◌++◌, refl, sym, ap, subst, ◌∙◌, Bool, Option, Some, None, false, true, ◌==◌}
-use Rattle.nb_model.proofs.Common.{AllByRecursion, true≢false, Refusal, Usage, normal_state, Reply, Done, Refused, Statement, CreateDb, OpenDb, PageNew, Write, Free, BeginBackup, EndBackup, Activate, Backup, BackupSince, CopyTo, CreateTable, DropTable, Insert, Update, Delete, Get, Scan, Forced, Reclaim, ShowCache, Ask, Draft, Cause, runs_other, not_of_form, no_room, Chain, image_state, History, Slot, Spot, pages_of, Seen, Outcome, unless, changes, new_turn, write_turn, free_turn, begin_turn, end_turn, activate_turn, activated, ends_by, forced_turn, access_turn, cache_turn, with_spot, in_table, in_row, create_turn, drop_turn, insert_turn, update_turn, delete_turn, get_turn, scan_turn, room_in, starts, backup_turn, since_turn, copy_turn, reclaim_turn, first_turn}
+use Rattle.nb_model.proofs.Common.{AllByRecursion, says, true≢false, Refusal, Usage, normal_state, Reply, Done, Refused, Statement, CreateDb, OpenDb, PageNew, Write, Free, BeginBackup, EndBackup, Activate, Backup, BackupSince, CopyTo, CreateTable, DropTable, Insert, Update, Delete, Get, Scan, Forced, Reclaim, ShowCache, Ask, Draft, Cause, runs_other, not_of_form, no_room, Chain, image_state, History, Slot, Spot, pages_of, Seen, Outcome, unless, changes, new_turn, write_turn, free_turn, begin_turn, end_turn, activate_turn, activated, ends_by, forced_turn, access_turn, cache_turn, with_spot, in_table, in_row, create_turn, drop_turn, insert_turn, update_turn, delete_turn, get_turn, scan_turn, room_in, starts, backup_turn, since_turn, copy_turn, reclaim_turn, first_turn}
 use Rattle.nb_model.specs.declared.statement.Statement.TheVariants.{Access as SetAccess}
 use Rattle.nb_model.proofs.StatusLaws.{is_refusal}
 use Rattle.nb_model.proofs.ToldTurns.{Tells, told_turn}
