@@ -1,9 +1,9 @@
 -- What a check has found in danger, where it is the one statement of a script.
-use Rattle.std.proofs.Common.{◌≡◌, ◌≢◌, ◌⊎◌, inl, inr, ℕ, zero, suc, ◌-◌, ◌<◌, ◌≤◌, List, [], ◌∷◌, length, replicate, get_or, refl, sym, ap, subst, ◌∙◌, arith, length-set, IsTrue, Ok, Option, Some, None}
+use Rattle.std.proofs.Common.{Bool, ◌≡◌, ◌≢◌, ◌⊎◌, inl, inr, ℕ, zero, suc, ◌-◌, ◌<◌, ◌≤◌, List, [], ◌∷◌, length, replicate, get_or, refl, sym, ap, subst, ◌∙◌, arith, length-set, IsTrue, Ok, Option, Some, None}
 use Rattle.std.proofs.lemmas.Bool.{cases_eq}
 use Rattle.nb_script.specs.Scripts.{statements_of}
 use Rattle.nb_sched.specs.Turns.{IsLower}
-use Rattle.nb_session.proofs.Common.{World, Statement, Trail, Scene, scene, agent_of, AllDone, Moves, TakesTurns, Held, Task, Told, Plan, Asker, task_left, left_of, fresh_asker, first_askers}
+use Rattle.nb_session.proofs.Common.{FaultCount, World, Statement, Trail, Scene, scene, agent_of, AllDone, Moves, TakesTurns, Held, Task, Told, Plan, Asker, task_left, left_of, fresh_asker, first_askers}
 use Rattle.nb_sched.proofs.AgentLaws.{agent_of_set, agent_there}
 use Rattle.nb_sched.proofs.TurnLaws.{turns_hold}
 use Rattle.nb_session.proofs.SceneLaws.{sessions_kind, agent_some}
@@ -31,7 +31,7 @@ first_is : (agents : List Asker) (found : Option (List ℕ)) → HaveFound found
 first_is [] found have = absurd (omega (arith, have.0))
 first_is (a ∷ agents) found have = (have.1 1 a refl).1 refl
 
-module _ {H : Type 0} (tells : Bool) (told : IsTrue tells) (world : H → World) (faults : H → ℕ) (old : H) (before : Held) (how : Told) (plan : Plan) (statement : Statement) (is : plan.sessions ≡ alone statement) (t : Trail) (opened : IsOpen (world old) before t) where
+module _ {H : Type 0} (tells : Bool) (told : IsTrue tells) (world : H → World) (faults : H → FaultCount) (old : H) (before : Held) (how : Told) (plan : Plan) (statement : Statement) (is : plan.sessions ≡ alone statement) (t : Trail) (opened : IsOpen (world old) before t) where
   abbrev start : Scene Asker H Held
   start = scene (first_askers how plan) old before
 

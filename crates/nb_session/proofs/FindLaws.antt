@@ -21,10 +21,10 @@ module _ (image : Image) (before : Option (List ℕ)) (statement : Statement) (i
   check_found found pages none same all = same ∙ ap Some all ∙ sym (ap found_by none) ∙ sym found_is
 
   -- one that is refused finds nothing more
-  pub check_refused : {T S : Type 0} (fault : Fault) (result : Result S Fault) → IsErr result × IsErrAnd result (λ e. e ≡ fault) → Tested {T = T} (Err fault) (check_cause image)
+  pub check_refused : (T : Type 0) {S : Type 0} (fault : Fault) (result : Result S Fault) → IsErr result × IsErrAnd result (λ e. e ≡ fault) → Tested {T = T} (Err fault) (check_cause image)
       → WhereEnded result (before ≡ danger_after statement image before)
-  check_refused fault (Ok value) handed tested = absurd handed.1
-  check_refused {T} {S} fault (Err e) handed tested = subst (λ (f : Fault). WhereEnded {T = S} (Err f) (before ≡ danger_after statement image before)) (sym handed.1) (by fault tested)
+  check_refused T fault (Ok value) handed tested = absurd handed.1
+  check_refused T {S} fault (Err e) handed tested = subst (λ (f : Fault). WhereEnded {T = S} (Err f) (before ≡ danger_after statement image before)) (sym handed.1) (by fault tested)
     where
       by : (f : Fault) → Tested {T = T} (Err f) (check_cause image) → WhereEnded {T = S} (Err f) (before ≡ danger_after statement image before)
       by (Refused refusal) some = sym (found_is ∙ ap found_by some)
