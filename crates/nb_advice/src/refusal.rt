@@ -6,7 +6,7 @@ use crate::backup::{backup, lock, not_free, unlock};
 use crate::chain::plan;
 use crate::check::{check, reclaim};
 use crate::deeds;
-use crate::opening::{looking, opening};
+use crate::opening::looking;
 use crate::refused::Refused;
 use crate::seen::Seen;
 use crate::ship::ship;
@@ -25,12 +25,11 @@ fn of_ask(
     ensures says { IfOk result (λ text. SaysOf (of_ask ask.now) refused.now.name.now text) }
 {
     match ask {
-        Ask::Stat => looking(alloc, db, refused, seen),
+        Ask::Stat | Ask::Activate => looking(alloc, db, refused, seen),
         Ask::Check => check(alloc, db, refused, seen),
         Ask::Reclaim => reclaim(alloc, db, refused, seen),
         Ask::Lock | Ask::LockWithSize => lock(alloc, db, refused, seen),
         Ask::Unlock => unlock(alloc, db, refused, seen),
-        Ask::Activate => opening(alloc, db, refused, seen),
         Ask::Backup { .. } | Ask::BackupSince { .. } => backup(alloc, db, refused, seen),
     }
 }

@@ -138,8 +138,9 @@ where
 
     /// Holds the file of that name alone from now on. Where there is no memory for it nothing changes.
     pub fn hold_alone(&mut self, name: Name) -> Result<(), AllocError>
-        ensures held { OnOk result (self.new ≡ record self.old { alone = self.old.alone ++ name ∷ [] }) }
-        ensures same { IfErr result (λ error. self.new ≡ self.old) }
+        ensures held { OnOk result (self.new.alone ≡ self.old.alone ++ name ∷ []) }
+        ensures same { IfErr result (λ error. self.new.alone ≡ self.old.alone) }
+        ensures waiting { self.new.waiting ≡ self.old.waiting }
     {
         self.alone.add(name)
     }
