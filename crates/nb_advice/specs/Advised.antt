@@ -3,7 +3,7 @@ use Rattle.std.specs.Prelude.{◌≡◌, ◌≢◌, ℕ, List, [], ◌∷◌, �
 use Rattle.std.specs.Global.{Global}
 use Rattle.std.specs.List.{AllByRecursion}
 use Rattle.nb_model.specs.declared.job.Ask.{Ask}
-use Rattle.nb_model.specs.declared.job.Ask.TheVariants.{Stat, Check, Reclaim, Backup, BackupSince, Lock, LockWithSize, Unlock}
+use Rattle.nb_model.specs.declared.job.Ask.TheVariants.{Stat, Check, Reclaim, Backup, BackupSince, Lock, LockWithSize, Unlock, Activate}
 use Rattle.nb_model.specs.declared.job.Deed.{Deed}
 use Rattle.nb_model.specs.declared.job.Deed.TheVariants.{Restore, Fixup, Apply, Fold, Plan as PlanFiles}
 use Rattle.nb_model.specs.declared.job.Job.{Job}
@@ -59,6 +59,7 @@ of_ask (BackupSince guid file) = of_backup
 of_ask Lock = of_lock
 of_ask LockWithSize = of_lock
 of_ask Unlock = of_unlock
+of_ask Activate = of_opening
 
 abbrev pub of_deed : Deed → List (List ℕ)
 of_deed (Restore db files) = of_chain

@@ -63,7 +63,9 @@ fn of_ask(
         Ask::Backup { file, .. } | Ask::BackupSince { file, .. } => {
             of_backup(alloc, db, file, whose, seen)
         }
-        Ask::Lock | Ask::LockWithSize | Ask::Unlock => of_database(alloc, db, whose, seen),
+        Ask::Lock | Ask::LockWithSize | Ask::Unlock | Ask::Activate => {
+            of_database(alloc, db, whose, seen)
+        }
         Ask::Stat | Ask::Check | Ask::Reclaim => Ok(None),
     }
 }

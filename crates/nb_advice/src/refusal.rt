@@ -25,7 +25,7 @@ fn of_ask(
     ensures says { IfOk result (λ text. SaysOf (of_ask ask.now) refused.now.name.now text) }
 {
     match ask {
-        Ask::Stat => looking(alloc, db, refused, seen),
+        Ask::Stat | Ask::Activate => looking(alloc, db, refused, seen),
         Ask::Check => check(alloc, db, refused, seen),
         Ask::Reclaim => reclaim(alloc, db, refused, seen),
         Ask::Lock | Ask::LockWithSize => lock(alloc, db, refused, seen),

@@ -61,7 +61,8 @@ fn show_ask<V: ReadOnly + Eprint>(
             show_origin(alloc, rt, db, file, is_asked);
             say(rt, named_as_output(alloc, file));
         }
-        Ask::Check | Ask::Reclaim | Ask::Lock | Ask::LockWithSize | Ask::Unlock => {}
+        Ask::Check | Ask::Reclaim | Ask::Lock | Ask::LockWithSize | Ask::Unlock | Ask::Activate =>
+            {}
     }
 }
 

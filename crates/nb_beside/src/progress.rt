@@ -65,7 +65,7 @@ fn asking(
             Counted::WrittenTo(file.copied()),
             Vec::new(alloc),
         ),
-        Ask::Unlock => return merging(alloc, db, manner),
+        Ask::Unlock | Ask::Activate => return merging(alloc, db, manner),
         Ask::Lock | Ask::LockWithSize => return Ok(None),
     };
     Ok(Some(Progress {
