@@ -1,4 +1,4 @@
-use Rattle.std.proofs.Common.{◌≡◌, ℕ, ◌+◌, ◌-◌, ◌≤◌, ◌∷◌, length, drop, ap, sym, subst, ◌∙◌, arith, length-drop}
+use Rattle.std.proofs.Common.{◌≡◌, ℕ, ◌-◌, ◌∷◌, drop, ap, sym, subst, ◌∙◌, arith, length-drop}
 use Rattle.nb_inplace.proofs.Common.{Files, IsOfSize, quiet_joined}
 use Rattle.nb_inplace.proofs.CountingLaws.{blank_there, count_found, count_on, count_first, count_within}
 use Rattle.nb_inplace.proofs.counting.count_pages.Goals as goal
