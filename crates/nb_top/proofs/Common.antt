@@ -108,9 +108,9 @@ pub use Rattle.nb_model.specs.Trail.{ShowsIn, StandsIn, Trail, settled}
 pub use Rattle.nb_model.specs.Well.{IsWell, IsWellBaseIn}
 pub use Rattle.nb_model.specs.WellTrail.{AllGoOn, IsWellTrail}
 unfoldable pub use Rattle.nb_model.specs.Words.{job_of, job_of_flags, job_read, number_in_word, read_words}
-pub use Rattle.nb_model.specs.Words.{Word, apply_job, are_flags, ask_job, asks_one, backup_job, count_in_word, fixup_job, fold_job, gen_job, is_database, is_file, job_if, job_of_three, named_job, plain_job, plan_job, restore_job, ship_job}
+pub use Rattle.nb_model.specs.Words.{Word, apply_job, are_flags, ask_job, asks_change, asks_one, backup_job, count_in_word, fixup_job, fold_job, gen_job, is_database, is_file, job_if, job_of_three, named_job, plain_job, plan_job, restore_job, ship_job}
 pub use Rattle.nb_model.specs.declared.job.Ask.{Ask}
-pub use Rattle.nb_model.specs.declared.job.Ask.TheVariants.{Backup, BackupSince, Check, Lock, LockWithSize, Reclaim, Stat, Unlock}
+pub use Rattle.nb_model.specs.declared.job.Ask.TheVariants.{Activate, Backup, BackupSince, Check, Lock, LockWithSize, Reclaim, Stat, Unlock}
 pub use Rattle.nb_model.specs.declared.job.Deed.{Deed}
 pub use Rattle.nb_model.specs.declared.job.Deed.TheVariants.{Apply, Fixup, Fold, Restore}
 pub use Rattle.nb_model.specs.declared.job.Job.{Job}

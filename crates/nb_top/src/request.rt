@@ -65,6 +65,7 @@ pub(crate) fn script_asking(alloc: Global, db: &Name, ask: &Ask) -> Result<Scrip
         Ask::Lock => script_of_one(alloc, db, Statement::BeginBackup),
         Ask::LockWithSize => script_of_one(alloc, db, Statement::BeginBackup),
         Ask::Unlock => script_of_one(alloc, db, Statement::EndBackup),
+        Ask::Activate => script_of_one(alloc, db, Statement::Activate),
     }
 }
 
@@ -80,6 +81,7 @@ pub(crate) fn telling_of(ask: &Ask) -> Telling
         | Ask::Backup { .. }
         | Ask::BackupSince { .. }
         | Ask::Lock
-        | Ask::Unlock => Telling::Quietly,
+        | Ask::Unlock
+        | Ask::Activate => Telling::Quietly,
     }
 }
