@@ -30,6 +30,7 @@ ghost use Rattle.nb_model.specs.declared.job.Deed.{Deed};
 ghost use Rattle.nb_model.specs.declared.job.Deed.TheVariants.{Apply, Restore};
 ghost use Rattle.nb_model.specs.declared.job.Job.TheVariants.{Attach, Turn};
 ghost use Rattle.nb_inplace.specs.Verdict.{IsMergeable};
+ghost use Rattle.nb_model.specs.Words.{is_database};
 ghost use Rattle.nb_page.specs.Free.{is_free_name};
 ghost use Rattle.nb_restore.specs.Kept.{AreKept, last_guid};
 ghost use Rattle.nb_script.specs.Scripts.{Plan};
@@ -41,8 +42,10 @@ ghost use Rattle.nb_top.specs.Frozen.{AreDuring, StaysWithin};
 ghost use Rattle.nb_top.specs.Goes.{IsRun};
 ghost use Rattle.nb_top.specs.OneTurn.{DoesTurn, leaves_all, one_turn};
 ghost use Rattle.nb_top.specs.Performed.{IsPerformed, IsSure, KnowsAsked, PerformsRun, RunLeft, StandsWithin, Target, Finished, HasSmallScn, MayBeGiven, target_of};
-ghost use Rattle.nb_top.specs.Requests.{Does, Request, Runs, attached, request_asked, request_of, ToRun};
+ghost use Rattle.nb_top.specs.Requests.{Does, Request, Runs, Ships, attached, request_asked, request_of, ToRun};
 ghost use Rattle.nb_top.specs.Rows.{IsNewPage};
+ghost use Rattle.nb_top.specs.ShipDone.{GivesNew, HasStandby, IsShipped};
+ghost use Rattle.nb_top.specs.ShipStops.{GivesFirstNew, IsStopped};
 ghost use Rattle.nb_top.specs.Standing.{HoldsKept, NextMayBegin, StandsFor};
 ghost use Rattle.nb_top.specs.Stopped.{FinishesMerge, IsOnWay, KeepsMerged};
 ghost use Rattle.nb_top.specs.declared.telling.Telling.{Telling};
@@ -236,4 +239,25 @@ pub fn the_next_run_may_begin_alone<H: Host>(_before: &H, _behind: &H)
 pub fn a_frozen_file_stays<H: Host>(_before: &H, _behind: &H)
     ensures { (told : List Event → List Event) (front stretch rest : List ℕ) (t : Trail) (now : Now) → ByTurns H.world told (front ++ (stretch ++ rest)) _before.now _behind.now t now
         → AreDuring stretch (after_steps t (steps_of (play front now).0)) (play front now).1 → StaysWithin H.world told front stretch rest _before.now _behind.now t now }
+{}
+
+/// A ship that is done leaves the standby as the image that the begin of its own backup kept, in the normal state, read-only and with nothing pending, for
+/// good. The primary is as the run of that backup leaves it, for good; one GUID and one time were given; the ship file is gone for good; and the reply tells
+/// the SCN of that backup and the pages of the standby. So it is where the files stood for an account and the GUID that was given is new, where the standby
+/// names the backup that it was restored from, and a merge into it that was begun is of a kept backup. The files go on to stand, with one record more.
+pub fn a_ship_gives_the_kept_image<H: Host>(_before: &H, _behind: &H)
+    ensures { IsTrue H.tells → (primary standby : List ℕ) (account : Account) → is_database primary ≡ true → is_database standby ≡ true → primary ≢ standby
+        → HaveNames (H.world _before.now).files → StandsFor (H.world _before.now) account → HasStandby (H.world _before.now).files account.kept standby → GivesNew (H.world _before.now) (H.world _behind.now) account.kept
+        → IsRun H.world H.tells Status.Done _before.now _behind.now (Ships primary standby) → IsShipped H.world _before.now _behind.now account primary standby }
+{}
+
+/// A ship that is stopped, or that fails or is refused: at each moment of it, and after it, a crash leaves the primary as it was, or as the run of its copy
+/// leaves it after some of its steps; and the standby as it was, or half way, with the GUID of the whole ship file pending, or merged with it. That file is
+/// one whose merge was begun as the ship began, or one whose backup the primary's history named then, or that of the ship's own copy. The files stand for an
+/// account with the records of before and of the backups that have begun.
+pub fn a_stopped_ship_leaves_them_so<H: Host>(_before: &H, _behind: &H)
+    ensures { IsTrue H.tells → (primary standby : List ℕ) (status : Status) (account : Account) (further : List ℕ) → is_database primary ≡ true → is_database standby ≡ true → primary ≢ standby
+        → HaveNames (H.world _before.now).files → StandsFor (H.world _before.now) account → HasStandby (H.world _before.now).files account.kept standby
+        → GivesFirstNew (H.world _before.now) (H.world _behind.now) account.kept further → IsRun H.world H.tells status _before.now _behind.now (Ships primary standby)
+        → AtEachMoment (H.world _before.now) (H.world _behind.now) (λ files said. IsStopped H.world _before.now account primary standby files) }
 {}
