@@ -167,8 +167,9 @@ fn from_merge<H: Host>(
     ensures done { IfOk result (λ status. (status ≡ Status.Done) ⊎ (status ≡ Status.Refused)) }
     ensures cause { CountsRun result (H.faults host.old) (H.faults host.new) }
 {
-    match settled(merge(alloc, host, standby, &ship_name(standby)))? {
-        Ok(_) => from_discard(alloc, host, primary, standby, since),
+    let ship = ship_name(standby);
+    match settled(merge(alloc, host, standby, &ship))? {
+        Ok(_reply) => from_discard(alloc, host, primary, standby, since),
         Err(refusal) => refuse(alloc, host, 1, refusal),
     }
 }

@@ -1,5 +1,6 @@
 use Rattle.std.proofs.Common.{◌≡◌, sym, subst, Ok, IfOk}
-use Rattle.nb_top.proofs.Common.{quiet_begun, asks_of, BackupSince, GoesOn, IsAskable, Plan, Runs, Sparingly, ToRun, plan_of}
+use Rattle.nb_top.proofs.Common.{quiet_begun, asks_of, BackupSince, IsAskable, Plan, Runs, Sparingly, ToRun, plan_of}
+use Rattle.nb_top.specs.Done.{GoesOn}
 use Rattle.nb_top.specs.Shipped.{copying}
 use Rattle.nb_top.proofs.GoesLaws.{goes_undone}
 use Rattle.nb_top.proofs.RequestLaws.{attach_askable}
