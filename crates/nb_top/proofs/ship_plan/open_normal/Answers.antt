@@ -17,5 +17,4 @@ returns-then-state-ne-NORMAL-clause-opens g c tells =
     let new = g.H.Host.world c.attach.new.host in
     let held = c.in_ok-engine.engine in
     let is = c.state-state.ensures.value ∙ ap (λ (h : Held). h.files.state) c.store.ensures in
-    let ne = c.if-state-ne-NORMAL.true in
-    opened_other old new c.args.primary.now held (c.in_ok-engine.ensures.attaches tells) c.from-found.result (c.from-found.ensures ∙ is) (λ normal. ?)
+    opened_other old new c.args.primary.now held (c.in_ok-engine.ensures.attaches tells) c.from-found.result (c.from-found.ensures ∙ is) (λ normal. c.if-state-ne-NORMAL.true (is ∙ normal))
