@@ -61,12 +61,7 @@ fn scn_of<H: Host>(alloc: Global, host: &mut H, ship: &Name) -> Result<u32, Faul
 }
 
 /// The merge: the ship file is merged into the standby, in place. Answers the SCN of its backup, and how many pages the standby has.
-fn merge<H: Host>(
-    alloc: Global,
-    host: &mut H,
-    standby: &Name,
-    ship: &Name,
-) -> Result<Reply, Fault>
+fn merge<H: Host>(alloc: Global, host: &mut H, standby: &Name, ship: &Name) -> Result<Reply, Fault>
     requires { ship.now ≢ standby.now }
     ensures serves { IsTrue H.tells
         → Serves result (H.world host.old) (H.world host.new) (merging (H.world host.old).files standby.now ship.now) (merge_turn (H.world host.old).files standby.now ship.now) }
