@@ -1,12 +1,11 @@
 -- What a check has found in danger, by what it answered.
-use Rattle.std.proofs.Common.{◌≡◌, ℕ, List, refl, sym, ap, subst, ◌∙◌, Option, None, Some, Result, Ok, Err, IsErr, IsErrAnd, IfOk}
+use Rattle.std.proofs.Common.{◌≡◌, ℕ, List, sym, ap, subst, ◌∙◌, Option, None, Some, Result, Ok, Err, IsErr, IsErrAnd, IfOk}
 use Rattle.nb_session.proofs.Common.{Fault, Refused, Device, Memory, RunError, Statement, Image, Cause}
 use Rattle.nb_model.specs.declared.statement.Statement.TheVariants.{Check}
 use Rattle.nb_model.specs.Causes.{Tested}
 use Rattle.nb_model.specs.Danger.{in_danger}
 use Rattle.nb_state.specs.Does.{WhereEnded}
 use Rattle.nb_model.specs.Checks.{check_cause}
-use Rattle.nb_session.specs.Askers.{IsBackup, IsOnTables}
 use Rattle.nb_session.specs.Dangers.{danger_after}
 use Rattle.nb_session.specs.Replies.{HasEnded}
 
@@ -49,14 +48,6 @@ where_ended P (Err Memory) holds = tt
 pub found_nothing : {S : Type 0} (statement it : Statement) (image : Image) (before : Option (List ℕ)) (result : Result S Fault) → statement ≡ it → danger_after it image before ≡ before → WhereEnded result (before ≡ danger_after statement image before)
 found_nothing statement it image before result is none = where_ended (before ≡ danger_after statement image before) result (sym (ap (λ (s : Statement). danger_after s image before) is ∙ none))
 
--- nor does one on tables
-pub tables_find : {S : Type 0} (statement : Statement) (image : Image) (before : Option (List ℕ)) (result : Result S Fault) → IsOnTables statement → WhereEnded result (before ≡ danger_after statement image before)
-tables_find statement image before result on = where_ended (before ≡ danger_after statement image before) result (by statement on)
-  where
-    by : (s : Statement) → IsOnTables s → before ≡ danger_after s image before
-    by Check on = absurd on
-    by other on = refl
-
 -- what holds where it has ended
 pub ended_holds : {S : Type 0} (P : Type 0) (result : Result S Fault) → HasEnded result → WhereEnded result P → P
 ended_holds P (Ok value) ended holds = holds
@@ -68,12 +59,3 @@ ended_holds P (Err Memory) ended holds = absurd ended
 pub begun_nothing : {S : Type 0} (statement it : Statement) (image : Image) (before : Option (List ℕ)) (result : Result S RunError) → statement ≡ it → danger_after it image before ≡ before → IfOk result (λ value. before ≡ danger_after statement image before)
 begun_nothing statement it image before (Ok value) is none = sym (ap (λ (s : Statement). danger_after s image before) is ∙ none)
 begun_nothing statement it image before (Err error) is none = tt
-
--- nor does that of a backup
-pub backup_finds : {S : Type 0} (statement : Statement) (image : Image) (before : Option (List ℕ)) (result : Result S RunError) → IsBackup statement → IfOk result (λ value. before ≡ danger_after statement image before)
-backup_finds statement image before (Ok value) asks = by statement asks
-  where
-    by : (s : Statement) → IsBackup s → before ≡ danger_after s image before
-    by Check asks = absurd asks
-    by other asks = refl
-backup_finds statement image before (Err error) asks = tt

@@ -9,8 +9,10 @@ Begun told answer old new a b t now session more statement =
     slice_index_or now.todo (session - 1) [] ≡ Begins statement ∷ more → Turns told (λ taken. taken.refused) (λ taken. taken.task) answer old new a b t now session (Begins statement) [] more
 
 pub returns-in-EndBackup-clause-turn : goal.returns-in-EndBackup-clause-turn
-returns-in-EndBackup-clause-turn g c now t more tells ready makes =
-    subst (Begun c.args.told c.begin_merge.result (g.H.Host.world c.args.host.now) (g.H.Host.world c.begin_merge.new.host) c.args.engine.now c.begin_merge.new.engine t now c.args.session more) (sym c.in-EndBackup.is) (c.begin_merge.ensures.turn c.args.told now t more tells ready makes)
+returns-in-EndBackup-clause-turn g c now t more tells ready makes here = c.begin_merge.ensures.turn c.args.told now t more tells ready makes here
+
+pub returns-in-Activate-clause-turn : goal.returns-in-Activate-clause-turn
+returns-in-Activate-clause-turn g c now t more tells ready makes here = c.begin_activate.ensures.turn now t more tells ready makes here
 
 pub returns-in-Backup-clause-turn : goal.returns-in-Backup-clause-turn
 returns-in-Backup-clause-turn g c now t more tells ready makes here = c.begin_backup.ensures.turn c.args.told now t more tells ready makes here
@@ -30,3 +32,6 @@ returns-in-EndBackup-clause-danger g c t tells opened = begun_nothing c.args.sta
 
 pub returns-in-CopyTo-clause-danger : goal.returns-in-CopyTo-clause-danger
 returns-in-CopyTo-clause-danger g c t tells opened = begun_nothing c.args.statement.now _ t.base.image c.args.danger.now c.begin_copy.result c.in-CopyTo.is refl
+
+pub returns-in-Activate-clause-danger : goal.returns-in-Activate-clause-danger
+returns-in-Activate-clause-danger g c t tells opened = begun_nothing c.args.statement.now _ t.base.image c.args.danger.now c.begin_activate.result c.in-Activate.is refl
