@@ -1,5 +1,6 @@
-use Rattle.std.proofs.Common.{◌≡◌, ℕ, ◌-◌, List, [], ◌∷◌, sym, subst, Result}
+use Rattle.std.proofs.Common.{◌≡◌, ℕ, ◌-◌, List, [], ◌∷◌, refl, sym, subst, Result}
 use Rattle.nb_session.proofs.Common.{slice_index_or, World, RunError, Statement, Turn, Begins, Now, Trail, Held, Taken, Told, Turns}
+use Rattle.nb_session.proofs.FindLaws.{begun_nothing}
 use Rattle.nb_session.proofs.session.begin_statement.Goals as goal
 
 -- the first turn of a statement
@@ -25,3 +26,12 @@ returns-in_default-clause-turn g c now t more tells ready makes here = c.answer.
 
 pub returns-in_default-clause-others : goal.returns-in_default-clause-others
 returns-in_default-clause-others g c = c.answer.ensures.others c.args.session
+
+pub returns-in-EndBackup-clause-danger : goal.returns-in-EndBackup-clause-danger
+returns-in-EndBackup-clause-danger g c t tells opened = begun_nothing c.args.statement.now _ t.base.image c.args.danger.now c.begin_merge.result c.in-EndBackup.is refl
+
+pub returns-in-CopyTo-clause-danger : goal.returns-in-CopyTo-clause-danger
+returns-in-CopyTo-clause-danger g c t tells opened = begun_nothing c.args.statement.now _ t.base.image c.args.danger.now c.begin_copy.result c.in-CopyTo.is refl
+
+pub returns-in-Activate-clause-danger : goal.returns-in-Activate-clause-danger
+returns-in-Activate-clause-danger g c t tells opened = begun_nothing c.args.statement.now _ t.base.image c.args.danger.now c.begin_activate.result c.in-Activate.is refl
