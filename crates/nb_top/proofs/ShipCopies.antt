@@ -1,7 +1,7 @@
 -- The copy of a ship that was done: what its begin kept, what the ship file holds, and what was given.
-use Rattle.std.proofs.Common.{◌≡◌, ◌≢◌, ◌⊎◌, inl, inr, ⊎_elim, ℕ, zero, suc, ◌+◌, ◌<◌, ◌≤◌, List, [], ◌∷◌, ◌++◌, length, drop, map, replicate, get_or, max, true, false, refl, sym, ap, subst, ◌∙◌, arith, length-append, Bool, ◌&&◌, IsTrue, Option, Some, None, Result, Ok, Err, Contains}
+use Rattle.std.proofs.Common.{◌≡◌, ◌≢◌, ◌⊎◌, inl, inr, ⊎_elim, ℕ, zero, suc, ◌+◌, ◌<◌, ◌≤◌, List, [], ◌∷◌, ◌++◌, length, drop, take, map, replicate, get_or, max, true, false, refl, sym, ap, subst, ◌∙◌, arith, length-append, Bool, ◌&&◌, IsTrue, Option, Some, None, Result, Ok, Err, Contains}
 use Rattle.std.proofs.lemmas.List.{append_cancel_left}
-use Rattle.nb_top.proofs.Common.{AllByRecursion, and_parts, append-nil, true≢false, Files, World, Leaves, LeavesAll, IsTimely, Refusal, RunError, Account, Base, IsBase, Image, image_scn, Kept, Reply, Opened, IsRun, Opening, Now, Event, Played, base_now, begun, opening, play, rounds, AreFinished, IsRest, Foretells, Given, WasGiven, guids_in, strokes_of, strokes_in, strokes_in_steps, files_made, replies_of, output, status_of, status_after, steps_of, said_by_generated, last_or_refusal, MadeFile, AreNew, HasHeader, IsSoundImage, IsKeptAs, to_base, owner, delta_name, base_in, base_in_base, records_after, output-quiet, status_one, asks_of, BackupSince, Begins, IsAskable, Plan, plan_of, is_refusal, Status, Done, Sparingly, ToRun, Request, Runs, Asked, GoesTo, KnowsNames, Knows, MayBeGiven, Performs, PerformsRun, RunsTo, Finished, IsPerformed, IsScriptRun, IsSure, IsEnded, HasSmallScn, IsUndone, begins_refused, Target, EndsIn, target_of, target_named, pages_first, seen_after, kept_after, Stroke, HaveNames, StandsFor, is_database, IsReopened, reopened, same_name, number_of, AreKept, first_page, formed_header, has_main, Usage}
+use Rattle.nb_top.proofs.Common.{AllByRecursion, and_parts, append-nil, true≢false, Files, World, Leaves, LeavesAll, IsTimely, AtEachMoment, weaker, Refusal, RunError, Account, Base, IsBase, Image, image_scn, Kept, Reply, Opened, IsRun, Opening, Now, Event, Played, base_now, begun, opening, play, rounds, AreFinished, IsRest, Foretells, Given, WasGiven, guids_in, strokes_of, strokes_in, strokes_in_steps, files_made, replies_of, output, status_of, status_after, steps_of, said_by_generated, last_or_refusal, MadeFile, AreNew, HasHeader, IsSoundImage, IsKeptAs, to_base, owner, delta_name, base_in, base_in_base, records_after, output-quiet, status_one, asks_of, BackupSince, Begins, IsAskable, Plan, plan_of, is_refusal, Status, Done, Sparingly, ToRun, Request, Runs, Asked, GoesTo, KnowsNames, Knows, MayBeGiven, Performs, PerformsRun, RunsTo, Finished, IsPerformed, IsScriptRun, IsSure, IsEnded, HasSmallScn, IsUndone, begins_refused, Target, EndsIn, target_of, target_named, pages_first, seen_after, kept_after, Stroke, HaveNames, StandsFor, is_database, IsReopened, reopened, same_name, number_of, AreKept, first_page, formed_header, has_main, Usage}
 use Rattle.std.specs.Cmp.Lexicographic.{told_text}
 use Rattle.nb_ended.specs.declared.status.Status.TheVariants.{Device, Memory}
 use Rattle.nb_host.specs.declared.faults.RunError.TheVariants.{Device as DeviceError, Memory as MemoryError}
@@ -81,6 +81,11 @@ not_denied e es fine denied =
 files_after : (e : Event) (es : List Event) → e.made ≡ None → files_made (e ∷ es) ≡ files_made es
 unfolding files_made
 files_after e es none = ap (λ (made : Option MadeFile). elim made as (λ z. List MadeFile) [ Some file ↦ file ∷ files_made es | None ↦ files_made es ]) none
+
+-- a front of nothing is nothing
+part_of_none : (part : List ℕ) → part ≡ take (length part) [] → part ≡ []
+part_of_none [] is = refl
+part_of_none (x ∷ xs) is = is
 
 -- ---- the row from which it goes on
 
@@ -373,12 +378,19 @@ module _ {H : Type 0} (world : H → World) (tells : Bool) (told : IsTrue tells)
             ap (λ (ss : List Stroke). account.kept ++ records_after (base_in (account.entry primary)) ss) (strokes_in_steps events ∙ strokes_are)
             ∙ ap (λ (x : Base). account.kept ++ records_after x (strokes_of played.0)) (base_is ∙ sym again.base) ∙ ap (λ (rs : List Kept). account.kept ++ rs) its.did.keeps ∙ sym kept
 
+        untold : output events ≡ []
+        untold = ap output scripted.said ∙ ap (λ (es : List Event). output (said_by_generated es)) scripted.run.is
+            ∙ untold_first o.event scripted.run.rest (ap (λ (e : Event). last_or_refusal e.reply) again.event) (ap (λ (p : Played). output (said_by_generated p.0)) (sym played_is) ∙ its.did.untold)
+
+        nothing_more : (part : List ℕ) → part ≡ [] → (world old).said ++ part ≡ (world old).said
+        nothing_more part none = ap (λ (l : List ℕ). (world old).said ++ l) none ∙ append-nil (world old).said
+
         silent : (world mid).said ≡ (world old).said
-        silent =
-            done.said
-            ∙ ap (λ (l : List ℕ). (world old).said ++ l) (ap output scripted.said ∙ ap (λ (es : List Event). output (said_by_generated es)) scripted.run.is
-            ∙ untold_first o.event scripted.run.rest (ap (λ (e : Event). last_or_refusal e.reply) again.event) (ap (λ (p : Played). output (said_by_generated p.0)) (sym played_is) ∙ its.did.untold))
-            ∙ append-nil (world old).said
+        silent = done.said ∙ nothing_more (output events) untold
+
+        quiet : AtEachMoment (world old) (world mid) (λ files said. said ≡ (world old).said)
+        quiet = weaker (world old) (world mid) _ _ copy_performs.stops
+            (λ files said l. let part : List ℕ = l.left.out.part in l.left.out.is ∙ nothing_more part (part_of_none part (l.left.out.front ∙ ap (take (length part)) untold)))
 
         module _ (new : GivesNew (world old) (world mid) account.kept) where
           is_new : IsNewGuid (world old) account.kept copy_guid
@@ -402,6 +414,7 @@ module _ {H : Type 0} (world : H → World) (tells : Bool) (told : IsTrue tells)
             guid = copy_gave;
             time = (one_time.0, grows.gave.times ∙ ap (λ (l : List ℕ). (world old).times ++ l) one_time.1);
             silent = silent;
+            quiet = quiet;
           }
 
   -- The copy that was done.
