@@ -30,6 +30,22 @@ use Rattle.nb_top.proofs.SureFiles.{opens_in_use}
 bytes_there : (file : File) (c : Contents) → read_level (bytes_of file) ≡ Ok c → is_header (bytes_of file) ≡ false
 bytes_there file c read = level_unheaded (bytes_of file) c read
 
+-- A backup that the history of a database names is kept.
+pub history_kept : (files : Files) (account : Account) → Stands files account → (name : List ℕ) → is_delta name ≡ false → (b : Base) → ShowsIn name b files → (guid : List ℕ) → broken_at (pages_of History b.image) ≡ None
+    → names_backup b.image guid ≡ true → (r : Kept) × IsKeptAs account.kept guid r
+history_kept files account stands name plain b shows guid unbroken named = by (backup_spot (λ (slot : Slot). same_name (guid_in slot) guid) b.image) refl named
+  where
+    entry : account.entry name ≡ IsBase b
+    entry = stands.same_image name plain ∙ shown_entry files name b shows
+
+    by : (spot : Option Spot) → backup_spot (λ (slot : Slot). same_name (guid_in slot) guid) b.image ≡ spot → is_some spot ≡ true → (r : Kept) × IsKeptAs account.kept guid r
+    by None is some = absurd (true≢false (sym some))
+    by (Some row) is some =
+        let past : NamesPast account.kept (λ (r : Kept). GoesOn r b.image) b.image = stands.history.images b.image (to_base name b entry refl) in
+        let remembered : IsRemembered account.kept (λ (r : Kept). GoesOn r b.image) row.bytes =
+        backup_found (IsRemembered account.kept (λ (r : Kept). GoesOn r b.image)) (λ (slot : Slot). same_name (guid_in slot) guid) b.image row unbroken is (chain_rows account.kept (λ (r : Kept). GoesOn r b.image) b.image past) in
+        (remembered.backup, subst (λ (g : List ℕ). IsKeptAs account.kept g remembered.backup) (row_named b.image guid row is) remembered.kept_as)
+
 -- What a plan is made of.
 pub record IsPlanned (files : Files) (primary standby : List ℕ) (plan : ShipPlan) : Type 0 where
   pub base : Base
@@ -126,25 +142,9 @@ module _ (files : Files) (primary standby : List ℕ) (plan : ShipPlan) (its : I
 
   -- what is merged first
   module _ (account : Account) (stands : Stands files account) (primary_plain : is_delta primary ≡ false) (standing : HasStandby files account.kept standby) where
-    abbrev GoesOnHere : Kept → Type 0
-    GoesOnHere r = GoesOn r its.base.image
-
     -- a backup that the history of the primary names is kept
     named_kept : (guid : List ℕ) → broken_at (pages_of History its.base.image) ≡ None → names_backup its.base.image guid ≡ true → (r : Kept) × IsKeptAs account.kept guid r
-    named_kept guid unbroken named = by (backup_spot (λ (slot : Slot). same_name (guid_in slot) guid) its.base.image) refl named
-      where
-        entry : account.entry primary ≡ IsBase its.base
-        entry = stands.same_image primary primary_plain ∙ shown_entry files primary its.base its.shows
-
-        past : NamesPast account.kept GoesOnHere its.base.image
-        past = stands.history.images its.base.image (to_base primary its.base entry refl)
-
-        by : (spot : Option Spot) → backup_spot (λ (slot : Slot). same_name (guid_in slot) guid) its.base.image ≡ spot → is_some spot ≡ true → (r : Kept) × IsKeptAs account.kept guid r
-        by None is some = absurd (true≢false (sym some))
-        by (Some row) is some =
-            let remembered : IsRemembered account.kept GoesOnHere row.bytes =
-            backup_found (IsRemembered account.kept GoesOnHere) (λ (slot : Slot). same_name (guid_in slot) guid) its.base.image row unbroken is (chain_rows account.kept GoesOnHere its.base.image past) in
-            (remembered.backup, subst (λ (g : List ℕ). IsKeptAs account.kept g remembered.backup) (row_named its.base.image guid row is) remembered.kept_as)
+    named_kept guid unbroken named = history_kept files account stands primary primary_plain its.base its.shows guid unbroken named
 
     module _ (bytes : List ℕ) (c : Contents) (m : IsMergeable files standby ship bytes c) where
       abbrev accepts : IsAccepted files ship bytes c

@@ -1,6 +1,6 @@
 // Laws of the whole program: each is a public function with an empty body, whose contract is the law. They show that what a run is
 // promised on holds where a first run begins and where the next one begins after a crash, and that a job is what it asks for.
-ghost use Rattle.std.specs.Prelude.{◌≡◌, ◌⊎◌, ℕ, ◌+◌, ◌^◌, ◌<◌, List, [], ◌∷◌, ◌++◌, length, Option, Some, Result, Ok, Contains, IsTrue, false, ◌≢◌, true};
+ghost use Rattle.std.specs.Prelude.{◌≡◌, ◌⊎◌, ℕ, ◌+◌, ◌^◌, ◌<◌, List, [], ◌∷◌, ◌++◌, length, Option, None, Some, Result, Ok, Contains, IsTrue, false, ◌≢◌, true};
 ghost use Rattle.std.specs.List.{AllByRecursion};
 ghost use Rattle.nb_fields.specs.Fresh.{fresh};
 ghost use Rattle.nb_host.specs.Files.{Files, with_file};
@@ -12,7 +12,7 @@ ghost use Rattle.nb_mem.specs.declared.entry.Entry.{Entry};
 ghost use Rattle.nb_mem.specs.Histories.{files_of, guids_behind, world_of};
 ghost use Rattle.nb_mem.specs.Outcomes.{IsLeft, placed};
 ghost use Rattle.nb_model.specs.Account.{Account, Base, Kept};
-ghost use Rattle.nb_model.specs.Image.{page_at, is_forced};
+ghost use Rattle.nb_model.specs.Image.{Image, page_at, is_forced};
 ghost use Rattle.nb_model.specs.Steps.{AreForced, after_steps, steps_of};
 ghost use Rattle.nb_model.specs.Strokes.{Stroke, make};
 ghost use Rattle.nb_model.specs.Trail.{IsBehindFirst, Trail};
@@ -45,6 +45,13 @@ ghost use Rattle.nb_top.specs.Performed.{IsPerformed, IsSure, KnowsAsked, Perfor
 ghost use Rattle.nb_top.specs.Requests.{Does, Request, Runs, Ships, attached, request_asked, request_of, ToRun};
 ghost use Rattle.nb_top.specs.Rows.{IsNewPage};
 ghost use Rattle.nb_top.specs.ShipDone.{GivesNew, HasStandby, IsShipped};
+ghost use Rattle.nb_top.specs.ShipOnward.{BeginsWell, CanShip, RestsOn, WaitsForMore};
+ghost use Rattle.nb_top.specs.Shipping.{names_backup, not_normal};
+ghost use Rattle.nb_ship.specs.Looks.{look_at};
+ghost use Rattle.nb_ship.specs.Names.{ship_of};
+ghost use Rattle.nb_ship.specs.declared.found.Look.{Look};
+ghost use Rattle.nb_fields.specs.Header.{guid_of};
+ghost use Rattle.nb_inplace.specs.Half.{IsHalf};
 ghost use Rattle.nb_top.specs.ShipStops.{GivesFirstNew, IsStopped};
 ghost use Rattle.nb_top.specs.Standing.{HoldsKept, NextMayBegin, StandsFor};
 ghost use Rattle.nb_top.specs.Stopped.{FinishesMerge, IsOnWay, KeepsMerged};
@@ -261,3 +268,17 @@ pub fn a_stopped_ship_leaves_them_so<H: Host>(_before: &H, _behind: &H)
         → GivesFirstNew (H.world _before.now) (H.world _behind.now) account.kept further → IsRun H.world H.tells status _before.now _behind.now (Ships primary standby)
         → AtEachMoment (H.world _before.now) (H.world _behind.now) (λ files said. IsStopped H.world _before.now account primary standby files) }
 {}
+
+/// What a further ship begins with. Where the primary is read-write with forced writes on and neat, and the standby rests on a kept backup that the history
+/// of the primary names, and a look refuses nothing, or a merge of the ship file into the standby was begun and the history names its backup, then the plan of a
+/// ship refuses nothing once the primary is in the normal state. Its copy goes on from a backup that the history names, and a merge that comes first is
+/// accepted. So it is where such a merge was stopped half way.
+pub fn a_further_ship_begins_well()
+    ensures begins { (files : Files) (account : Account) (primary standby : List ℕ) → (can : CanShip files account primary standby) → is_database primary ≡ true → is_database standby ≡ true → not_normal can.base.image ≡ None
+        → BeginsWell files primary standby can.base.image }
+    ensures rests { (files : Files) (kept : List Kept) (image : Image) (standby bytes : List ℕ) (r : Kept) (look : Look) → RestsOn files kept standby bytes r → names_backup image (guid_of bytes) ≡ true → look_at files standby ≡ Ok look
+        → WaitsForMore files kept image standby }
+    ensures half { (old files : Files) (standby bytes half : List ℕ) (c : Contents) (kept : List Kept) (image : Image) → IsMergeable old standby (ship_of standby) bytes c → IsHalf bytes c half → files standby ≡ Some half
+        → files (ship_of standby) ≡ old (ship_of standby) → names_backup image c.head.guid ≡ true → WaitsForMore files kept image standby }
+{}
+
