@@ -2,7 +2,7 @@
 use Rattle.std.proofs.Common.{◌≡◌, ◌≢◌, ◌⊎◌, inl, inr, ⊎_elim, ℕ, ◌+◌, List, [], ◌∷◌, ◌++◌, length, refl, sym, ap, subst, ◌∙◌, arith, Bool, IsTrue, false, true, Option, Some, None, Result, Ok, Err, Contains}
 use Rattle.std.proofs.lemmas.List.{take_at}
 use Rattle.std.proofs.lemmas.List.Elements.{Contains-append_right}
-use Rattle.nb_top.proofs.Common.{append-nil, is_header, state_of, File, Files, bytes_of, is_delta, is_name, World, Leaves, LeavesAll, IsTimely, AtEachMoment, joined, Fault, Refused, Device, Memory, RunError, GaveNothing, Quiet, decide, left_before, Base, Account, Kept, Image, image_in, delta_name, entry_of_files, Reply, line_text, merged, Contents, Head, head_for, level_bytes, read_level, no_main, Stands, IsKeptAs, nil, IsMergeable, ShowsIn, StandsIn, Trail, TakesKept, SaysLine, Status, Done, HaveNames, StandsFor, IsEnded, is_database, is_file, seen_after, some_same, steps_of, level_told, base_of, as_standby, to_record, IsSoundImage, Missing, with_entry, with_kept, owner, Serves, merging, Contains-append_left, true≢false, Numbered}
+use Rattle.nb_top.proofs.Common.{is_header, state_of, File, Files, bytes_of, is_delta, World, Leaves, LeavesAll, IsTimely, AtEachMoment, joined, Fault, Refused, Device, Memory, RunError, GaveNothing, Quiet, left_before, Base, Account, Kept, Image, image_in, delta_name, Reply, line_text, merged, Contents, Head, head_for, level_bytes, read_level, no_main, Stands, IsKeptAs, nil, IsMergeable, ShowsIn, Trail, TakesKept, Status, Done, HaveNames, StandsFor, IsEnded, is_database, seen_after, some_same, steps_of, level_told, base_of, as_standby, to_record, IsSoundImage, Missing, with_entry, with_kept, owner, Serves, merging, Contains-append_left, Numbered}
 use Rattle.nb_ended.specs.declared.status.Status.TheVariants.{Refused as RefusedStatus, Usage as UsageStatus, Device as DeviceStatus, Memory as MemoryStatus}
 use Rattle.nb_host.specs.declared.faults.RunError.TheVariants.{Device as DeviceError, Memory as MemoryError}
 use Rattle.nb_fields.specs.Header.{guid_of}
@@ -29,9 +29,9 @@ use Rattle.nb_ship.specs.declared.steps.Step.TheVariants.{Apply, Copy, Discard}
 use Rattle.nb_top.specs.declared.ship_plan.ShipPlan.{ShipPlan}
 use Rattle.nb_top.specs.Done.{GoesOn}
 use Rattle.nb_top.specs.ShipDone.{BacksUp, GivesNew, HasStandby, IsShipped, IsStandbyOf}
-use Rattle.nb_top.specs.Shipped.{AfterCopy, AfterMerge, AfterPlan, Copies, Discards, IsGone, Merges, Refuses, Replies, ShipEnds, ShipsByPlan, Stops, TakesSteps, copying, merge_turn, status_of_end}
+use Rattle.nb_top.specs.Shipped.{AfterCopy, AfterMerge, AfterPlan, Discards, IsGone, Replies, ShipEnds, ShipsByPlan, Stops, TakesSteps, copying, merge_turn, status_of_end}
 use Rattle.nb_top.specs.Shipping.{ship_plan}
-use Rattle.nb_top.proofs.AsWas.{IsOff, as_was, was_has, was_off}
+use Rattle.nb_top.proofs.AsWas.{as_was, was_has, was_off}
 use Rattle.nb_top.proofs.LongNames.{ship_apart}
 use Rattle.nb_top.proofs.ShipCopies.{copied}
 use Rattle.nb_top.proofs.ShipFirsts.{IsPlanned, first_takes, planned, primary_apart, removed_unheaded}

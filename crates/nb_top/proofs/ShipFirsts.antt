@@ -1,22 +1,21 @@
 -- What a ship's plan says of the files before its first step: the primary is another file than the ship file, what is removed is no database, and what is
 -- merged is of a kept backup.
-use Rattle.std.proofs.Common.{◌≡◌, ◌≢◌, ◌⊎◌, inl, inr, ℕ, List, true, false, refl, sym, ap, subst, ◌∙◌, arith, Bool, ◌==◌, ◌||◌, not, is_some, Option, Some, None, Result, Ok, Err}
-use Rattle.nb_top.proofs.Common.{true≢false, is_header, state_of, applying_state, normal_state, File, Files, bytes_of, is_delta, Refusal, Base, IsBase, Account, Kept, Image, Cause, Contents, read_level, delta_name, owner, has_main, formed_header, Stands, IsKeptAs, to_base, IsMergeable, TakesKept, ShowsIn, has_delta, is_free_name, is_free_file, some_same, ok_same, same_name, and_parts, err_ok}
+use Rattle.std.proofs.Common.{◌≡◌, ◌≢◌, ◌⊎◌, inl, inr, ℕ, List, true, false, refl, sym, ap, subst, ◌∙◌, arith, Bool, ◌||◌, not, is_some, Option, Some, None, Result, Ok, Err}
+use Rattle.nb_top.proofs.Common.{true≢false, is_header, state_of, applying_state, File, Files, bytes_of, is_delta, Refusal, Base, IsBase, Account, Kept, Cause, Contents, read_level, delta_name, owner, has_main, formed_header, Stands, IsKeptAs, to_base, IsMergeable, TakesKept, ShowsIn, has_delta, is_free_name, is_free_file, some_same, ok_same, same_name, and_parts, err_ok}
 use Rattle.nb_fields.specs.Header.{guid_of, pending_of}
 use Rattle.nb_inplace.proofs.VerdictLaws.{IsAccepted, IsFor, accepted, as_it_stands, begun}
 use Rattle.nb_model.specs.Causes.{broken_at}
 use Rattle.nb_model.specs.Chains.{History, Slot, Spot, backup_spot, guid_in, pages_of}
-use Rattle.nb_model.specs.Stands.{GoesOn, IsRemembered, NamesPast, nil}
+use Rattle.nb_model.specs.Stands.{GoesOn, IsRemembered, NamesPast}
 use Rattle.nb_model.proofs.BackupWell.{backup_found, chain_rows}
-use Rattle.nb_ship.specs.Finds.{Finds, HoldsApplied, HoldsLevel, HoldsNext, HoldsNone, HoldsPending, IsIn, IsReady}
+use Rattle.nb_ship.specs.Finds.{Finds, HoldsNext}
 use Rattle.nb_ship.specs.Looks.{is_foreign, look_at, read_in}
 use Rattle.nb_ship.specs.Names.{ship_of}
-use Rattle.nb_ship.specs.Steps.{first_step, since}
+use Rattle.nb_ship.specs.Steps.{first_step}
 use Rattle.nb_ship.specs.declared.found.Found.{Found}
 use Rattle.nb_ship.specs.declared.found.Found.TheVariants.{Applied, Broken, Next, Nothing, Pending}
 use Rattle.nb_ship.specs.declared.found.Look.{Look}
-use Rattle.nb_ship.specs.declared.steps.Step.{Step}
-use Rattle.nb_ship.specs.declared.steps.Step.TheVariants.{Apply, Copy, Discard}
+use Rattle.nb_ship.specs.declared.steps.Step.TheVariants.{Apply, Discard}
 use Rattle.nb_ship.proofs.FindsLaws.{what_is_found}
 use Rattle.nb_top.specs.declared.ship_plan.ShipPlan.{ShipPlan}
 use Rattle.nb_top.specs.ShipDone.{HasStandby}

@@ -1,10 +1,13 @@
 -- From where a further ship can go on its plan refuses nothing, and neither does the merge that it may begin with.
-use Rattle.std.proofs.Common.{◌≡◌, ◌≢◌, inl, inr, ℕ, ◌+◌, ◌-◌, ◌≤◌, List, [], ◌∷◌, true, false, refl, sym, ap, subst, ◌∙◌, arith, Bool, ◌==◌, not, nat_lt, is_some, Option, Some, None, Result, Ok, Err}
-use Rattle.nb_top.proofs.Common.{AllByRecursion, true≢false, le-ltb, state_of, stamp_of, applying_state, normal_state, File, Files, bytes_of, is_delta, same_name, Refusal, ChainGuid, ChainSize, ChainScn, Base, Account, Kept, Image, image_size, image_in, Cause, when, first_cause, not_next, not_standby, written_since, other_pages, in_place, Contents, read_level, Stands, IsKeptAs, IsMergeable, ShowsIn, err_not_ok, some_same, nil}
-use Rattle.std.proofs.lemmas.Bool.{eq-eqb}
-use Rattle.nb_fields.specs.Header.{guid_of, pending_of, scn_of, size_of}
+use Rattle.std.proofs.Common.{◌≡◌, ◌≢◌, inl, inr, ℕ, ◌-◌, ◌<◌, ◌≤◌, List, [], ◌∷◌, length, length-append, IsTrue, true, false, refl, sym, ap, subst, ◌∙◌, arith, Bool, ◌==◌, not, Some, None, Result, Ok, Err}
+use Rattle.nb_top.proofs.Common.{AllByRecursion, true≢false, le-ltb, state_of, stamp_of, applying_state, normal_state, File, Files, bytes_of, is_delta, same_name, Refusal, ChainGuid, ChainSize, ChainScn, Base, Account, Kept, Image, image_size, image_in, Cause, when, first_cause, not_next, not_standby, written_since, other_pages, in_place, Contents, read_level, Stands, IsKeptAs, IsMergeable, ShowsIn, err_not_ok, some_same, nil, World, LeavesAll, IsTimely, image_scn, image_state, Reply, line_text, text_of, status_of, replies_of, IsBase, is_free_entry, is_free_name, FileExists, opening, HaveNames, StandsFor, Status, Done, is_database, IsReopened, plan_of, asks_of, BackupSince}
+use Rattle.std.proofs.lemmas.Bool.{eq-eqb, eqb-true}
+use Rattle.nb_ended.specs.declared.status.Status.TheVariants.{Refused as RefusedStatus, Usage as UsageStatus, Device, Memory}
+use Rattle.nb_ended.specs.Numbers.{number_of}
+use Rattle.nb_fields.specs.Places.{most_pages}
+use Rattle.nb_fields.specs.Header.{guid_of, scn_of, size_of}
 use Rattle.nb_host.proofs.NameLaws.{same_self}
-use Rattle.nb_host.specs.declared.refusals.Refusal.TheVariants.{Access}
+use Rattle.nb_host.specs.declared.refusals.Refusal.TheVariants.{Access, Full, ScnExhausted, WrongState}
 use Rattle.nb_inplace.specs.Half.{IsHalf}
 use Rattle.nb_inplace.proofs.AgainLaws.{half_goes_on}
 use Rattle.nb_inplace.proofs.HalfLaws.{half_state}
@@ -12,25 +15,37 @@ use Rattle.nb_inplace.proofs.KeptLaws.{IsOfRecord, of_record}
 use Rattle.nb_inplace.proofs.VerdictLaws.{IsAccepted, IsFor, accepted, answered, as_it_stands, begun, by_state, mergeable_by, verdict_by}
 use Rattle.nb_model.specs.Causes.{broken_at}
 use Rattle.nb_model.specs.Chains.{History, pages_of}
-use Rattle.nb_model.specs.Image.{Page, is_forced, is_read_only}
+use Rattle.nb_model.specs.Image.{Page, is_read_only}
 use Rattle.nb_model.specs.Rows.{IsNeat}
+use Rattle.nb_model.specs.Jobs.{usual_cache}
+use Rattle.nb_model.specs.Outcomes.{Seen}
+use Rattle.nb_model.specs.declared.statement.Statement.TheVariants.{OpenDb}
 use Rattle.nb_model.proofs.HeldChains.{ok_none}
+use Rattle.nb_model.proofs.OutputLaws.{line-some}
+use Rattle.nb_model.proofs.SoundTurns.{seen_now}
+use Rattle.nb_model.proofs.TurnCases.{is_so, start_cause}
 use Rattle.nb_model.proofs.NeatLaws.{chains_are}
-use Rattle.nb_ship.specs.Finds.{Finds, HoldsNext, IsReady}
+use Rattle.nb_ship.specs.Finds.{Finds}
 use Rattle.nb_ship.specs.Looks.{found_in, look_at, read_in, with_guid}
 use Rattle.nb_ship.specs.Names.{ship_of}
 use Rattle.nb_ship.specs.Steps.{first_step, since}
 use Rattle.nb_ship.specs.declared.found.Found.{Found}
 use Rattle.nb_ship.specs.declared.found.Found.TheVariants.{Applied, Broken, Next, Nothing, Pending}
 use Rattle.nb_ship.specs.declared.found.Look.{Look}
-use Rattle.nb_ship.specs.declared.steps.Step.TheVariants.{Apply, Copy, Discard}
+use Rattle.nb_ship.specs.declared.steps.Step.TheVariants.{Apply}
 use Rattle.nb_ship.proofs.FindsLaws.{what_is_found, what_stands_is_found}
 use Rattle.nb_ship.proofs.ReadLaws.{no_bytes}
-use Rattle.nb_top.specs.declared.ship_plan.ShipPlan.{ShipPlan}
-use Rattle.nb_top.specs.ShipOnward.{BeginsWell, CanShip, RestsOn, WaitsForMore, is_begun, rests}
+use Rattle.nb_top.specs.ShipOnward.{BeginsWell, CanShip, HasRoomFor, RestsOn, WaitsForMore, is_begun, rests}
 use Rattle.nb_top.specs.Shipping.{is_known, names_backup, not_asked, not_normal, plan_by, ship_plan}
+use Rattle.nb_top.specs.Done.{GoesOn}
+use Rattle.nb_top.specs.Shipped.{copying}
+use Rattle.nb_top.proofs.KnownLaws.{free_known}
+use Rattle.nb_top.proofs.LongNames.{ship_file}
+use Rattle.nb_top.proofs.OpenLaws.{shown_entry}
+use Rattle.nb_top.proofs.ShipCopies.{again, copy_allowed, copy_given, copy_opened, copy_performs, copy_untold}
 use Rattle.nb_top.proofs.ShipFirsts.{history_kept}
 use Rattle.nb_top.proofs.ShipPlans.{plan_made}
+use Rattle.nb_top.proofs.WordNames.{plain_database, plain_file}
 
 -- ---- no cause
 
@@ -225,3 +240,75 @@ rests_wait files kept image standby bytes r look on named looked =
     let found = what_is_found files standby look looked in
     let same : found.0 ≡ bytes = some_same found.0 bytes (sym (found_there files standby found.0 look.found found.2) ∙ on.ready.normal.there) in
     rests bytes r on named look.found (subst (λ (l : List ℕ). Finds files standby l look.found) same found.2)
+
+-- ---- the copy
+
+-- a database is no free name
+base_used : (b : Base) → is_free_entry (IsBase b) ≡ false
+unfolding is_free_entry
+base_used b = refl
+
+-- nothing said, no reply
+no_replies : (rs : List (ℕ × Reply)) → text_of rs ≡ [] → status_of rs ≡ 0
+unfolding text_of status_of
+no_replies [] none = refl
+no_replies (r ∷ rs) none = let long = ap length none in absurd (omega (arith, long, line-some r.0 r.1, length-append (line_text r.0 r.1) (text_of rs)))
+
+zero_done : (status : Status) → number_of status ≡ 0 → status ≡ Done
+zero_done Done is = refl
+zero_done RefusedStatus is = absurd (omega (arith, is))
+zero_done UsageStatus is = absurd (omega (arith, is))
+zero_done Device is = absurd (omega (arith, is))
+zero_done Memory is = absurd (omega (arith, is))
+
+module _ (s : Seen) (ship : List ℕ) (writable : is_read_only s.base.image ≡ false) (normal : image_state s.base.image ≡ normal_state) (free : is_free_entry (s.entry ship) ≡ true) (neat : IsNeat s.base.image) (room : HasRoomFor s.base.image) where
+  no_cause_at_all : start_cause s ship None ≡ None
+  no_cause_at_all =
+      no_cause _ _ (ap (λ (t : Bool). when t (Access 1)) writable)
+      (no_cause _ _ (passes (image_state s.base.image == normal_state) (WrongState (image_state s.base.image)) (eq-eqb (image_state s.base.image) normal_state normal))
+      (no_cause _ _ (passes (is_free_entry (s.entry ship)) (FileExists ship) free)
+      (no_cause _ _ (neat_unbroken s.base.image neat)
+      (no_cause _ _ refl
+      (no_cause _ _ room.long
+      (no_cause _ _ room.formed
+      (no_cause _ _ (ap (λ (t : Bool). when t (Full most_pages)) room.left)
+      (no_cause _ _ (ap (λ (t : Bool). when t (ScnExhausted (image_scn s.base.image))) (le-ltb 4294967293 (image_scn s.base.image) room.scn)) no_causes))))))))
+
+module _ {H : Type 0} (world : H → World) (tells : Bool) (told : IsTrue tells) (timely : (host : H) → IsTimely (world host)) (beside : (host : H) → LeavesAll (world host) (world host).files)
+    (primary standby : List ℕ) (fits : is_database primary ≡ true) (given : is_database standby ≡ true) (since : List ℕ) (old mid : H) (status : Status) (goes : GoesOn world tells (Ok status) old mid (copying primary since (ship_of standby)))
+    (account : Account) (stands : StandsFor (world old) account) (names : HaveNames (world old).files) (b : Base) (shows : ShowsIn primary b (world old).files) (normal : not_normal b.image ≡ None) (writable : is_read_only b.image ≡ false)
+    (neat : IsNeat b.image) (room : HasRoomFor b.image) (named : names_backup b.image since ≡ true) (free : is_free_name (world old).files (ship_of standby) ≡ true) (device : status ≢ Device) (memory : status ≢ Memory) where
+  in_normal : image_state b.image ≡ normal_state
+  in_normal = eqb-true (image_state b.image) 0 (is_so (image_state b.image == normal_state) (WrongState (image_state b.image)) normal)
+
+  ship_free : is_free_entry (account.entry (ship_of standby)) ≡ true
+  ship_free = sym (free_known (world old).files account names stands.now (ship_of standby) (plain_file (ship_of standby) (ship_file standby given))) ∙ free
+
+  here : account.entry primary ≡ IsBase b
+  here = stands.now.same_image primary (plain_database primary fits) ∙ shown_entry (world old).files primary b shows
+
+  ship_other : ship_of standby ≢ primary
+  ship_other same = true≢false (sym ship_free ∙ ap (λ (n : List ℕ). is_free_entry (account.entry n)) same ∙ ap is_free_entry here ∙ base_used b)
+
+  module _ (small : image_scn b.image < 4294967296) where
+    abbrev reopens : IsReopened account (copy_given world tells told timely beside primary standby fits given since old mid (Ok status) goes account stands names b shows nil refl) (plan_of primary (asks_of (BackupSince since (ship_of standby)))).sessions 1 primary usual_cache b
+        (opening account (copy_given world tells told timely beside primary standby fits given since old mid (Ok status) goes account stands names b shows nil refl) (plan_of primary (asks_of (BackupSince since (ship_of standby)))).sessions 1 (OpenDb primary usual_cache))
+    reopens = again world tells told timely beside primary standby fits given since old mid (Ok status) goes account stands names b shows nil refl
+
+    entry_now : reopens.now.account.entry (ship_of standby) ≡ account.entry (ship_of standby)
+    entry_now = ap (λ (a : Account). a.entry (ship_of standby)) reopens.account_is ∙ reopens.others (ship_of standby) ship_other
+
+    ends_done : status ≡ Done
+    ends_done =
+        let none = no_cause_at_all (seen_now reopens.now) (ship_of standby) (subst (λ (x : Base). is_read_only x.image ≡ false) (sym reopens.base) writable) (subst (λ (x : Base). image_state x.image ≡ normal_state) (sym reopens.base) in_normal)
+            (ap is_free_entry entry_now ∙ ship_free) (subst (λ (x : Base). IsNeat x.image) (sym reopens.base) neat) (subst (λ (x : Base). HasRoomFor x.image) (sym reopens.base) room) in
+        let backed = copy_allowed world tells told timely beside primary standby fits given since old mid (Ok status) goes account stands names b shows nil refl small named none in
+        let quiet = copy_untold world tells told timely beside primary standby fits given since old mid (Ok status) goes account stands names b shows nil refl small backed in
+        let performs = copy_performs world tells told timely beside primary standby fits given since old mid (Ok status) goes account stands names b shows nil refl in
+        zero_done status ((performs.finished device memory).ended ∙ no_replies (replies_of performs.events) quiet)
+
+  pub copy_is_done : status ≡ Done
+  copy_is_done = elim (copy_opened world tells told timely beside primary standby fits given since old mid (Ok status) goes account stands names b shows nil refl) [
+    | inl small ↦ ends_done small
+    | inr none ↦ absurd none
+  ]

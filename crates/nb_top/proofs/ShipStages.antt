@@ -1,6 +1,6 @@
 -- What stands between two steps of a ship, before its copy: all that stood as it began, but for the standby and the ship file.
-use Rattle.std.proofs.Common.{◌≡◌, ◌≢◌, inl, inr, ℕ, List, [], ◌∷◌, ◌++◌, true, false, refl, sym, ap, subst, ◌∙◌, Some, None, Result, Ok, Err}
-use Rattle.nb_top.proofs.Common.{File, Files, bytes_of, is_header, is_delta, is_name, World, Leaves, LeavesAll, IsTimely, AtEachMoment, Fault, GaveNothing, Quiet, joined, weaker, decide, left_before, Base, Account, Missing, with_entry, with_kept, Kept, delta_name, entry_of_files, owner, no_main, Stands, ShowsIn, IsMergeable, TakesKept, Contents, Reply, Serves, merging, HaveNames, StandsFor, is_database}
+use Rattle.std.proofs.Common.{◌≡◌, ◌≢◌, inl, inr, ℕ, List, true, false, refl, sym, ap, subst, ◌∙◌, Some, None, Result}
+use Rattle.nb_top.proofs.Common.{File, Files, bytes_of, is_header, is_delta, is_name, World, Leaves, LeavesAll, IsTimely, AtEachMoment, Fault, Quiet, joined, weaker, decide, left_before, Base, Account, Missing, with_entry, with_kept, delta_name, entry_of_files, owner, no_main, Stands, ShowsIn, IsMergeable, TakesKept, Contents, Reply, Serves, merging, HaveNames, StandsFor, is_database}
 use Rattle.nb_model.specs.NewGuids.{IsNewGuid}
 use Rattle.nb_ship.specs.Names.{ship_of}
 use Rattle.nb_top.specs.Shipped.{IsGone, Removes, merge_turn}

@@ -1,11 +1,9 @@
 -- A ship that is stopped: what a crash leaves of the primary and of the standby at each of its moments, part by part.
-use Rattle.std.proofs.Common.{◌≡◌, ◌≢◌, ◌⊎◌, inl, inr, ⊎_elim, ℕ, zero, suc, ◌<◌, ◌≤◌, List, [], ◌∷◌, ◌++◌, length, take, replicate, get_or, true, false, refl, sym, ap, subst, ◌∙◌, arith, Bool, IsTrue, Option, Some, None, Result, Ok, Err, Contains}
-use Rattle.nb_top.proofs.Common.{true≢false, append-nil, take_all, is_header, state_of, normal_state, File, Files, bytes_of, with_file, is_delta, World, Leaves, LeavesAll, IsTimely, AtEachMoment, Fault, Refused, Device, Memory, RunError, GaveNothing, Quiet, Other, OfFiles, joined, weaker, decide, left_before, left_with, with_file-same, with_file-other, Base, Account, Missing, with_entry, with_kept, Kept, delta_name, owner, no_main, delta_same, image_scn, Contents, Reply, Refusal, ShowsIn, StandsIn, Trail, IsMergeable, OneTurn, IsDoneFor, TakesKept, ServedAs, Serves, merging, HoldsKept, nil, StandsFor, HaveNames, SaysLine, is_database, Status, Done, PerformsRun, RunStands, RunLeft, StandsAsked, IsUnbegun, Target, IsSure, IsUndone, target_of, seen_after, kept_after, steps_of, MayTouch, TouchesOnly, AnySessionAsks, ToRun, Request, plan_of, asks_of, BackupSince, Sparingly, Event}
+use Rattle.std.proofs.Common.{◌≡◌, ◌≢◌, ◌⊎◌, inl, inr, ⊎_elim, ℕ, zero, suc, ◌<◌, List, [], ◌∷◌, ◌++◌, length, take, replicate, get_or, true, false, refl, sym, ap, subst, ◌∙◌, arith, Bool, IsTrue, Option, Some, None, Result, Ok, Err}
+use Rattle.nb_top.proofs.Common.{true≢false, take_all, is_header, File, Files, bytes_of, with_file, is_delta, World, Leaves, LeavesAll, IsTimely, AtEachMoment, Fault, Refused, Device, Memory, RunError, Quiet, Other, joined, weaker, decide, left_before, left_with, with_file-same, with_file-other, Base, Account, Missing, with_entry, with_kept, Kept, delta_name, owner, no_main, delta_same, image_scn, Contents, Reply, Refusal, ShowsIn, StandsIn, Trail, IsMergeable, OneTurn, TakesKept, ServedAs, Serves, merging, HoldsKept, nil, StandsFor, HaveNames, SaysLine, is_database, Status, Done, PerformsRun, RunLeft, StandsAsked, IsUnbegun, Target, IsSure, IsUndone, target_of, seen_after, kept_after, steps_of, MayTouch, TouchesOnly, AnySessionAsks, ToRun, Request, plan_of, asks_of, BackupSince, Sparingly, Event}
 use Rattle.nb_ended.specs.declared.status.Status.TheVariants.{Refused as RefusedStatus, Usage as UsageStatus, Device as DeviceStatus, Memory as MemoryStatus}
 use Rattle.nb_host.specs.declared.faults.RunError.TheVariants.{Device as DeviceError, Memory as MemoryError}
-use Rattle.nb_change.proofs.MomentLaws.{started}
 use Rattle.nb_inplace.specs.Apply.{base_with}
-use Rattle.nb_inplace.proofs.VerdictLaws.{accepted}
 use Rattle.nb_model.specs.NewGuids.{IsNewGuid}
 use Rattle.nb_model.specs.Trail.{StandsOn}
 use Rattle.nb_ship.specs.Answers.{Says}
@@ -16,10 +14,9 @@ use Rattle.nb_ship.specs.declared.steps.Step.TheVariants.{Apply, Copy, Discard}
 use Rattle.nb_top.specs.declared.ship_plan.ShipPlan.{ShipPlan}
 use Rattle.nb_top.specs.Done.{GoesOn}
 use Rattle.nb_top.specs.ShipDone.{BacksUp, GivesNew, HasStandby}
-use Rattle.nb_top.specs.Shipped.{AfterCopy, AfterMerge, AfterPlan, Copies, Discards, IsGone, Merges, Refuses, Removes, Replies, ShipsByPlan, Stops, TakesSteps, copying, merge_turn, status_of_end}
-use Rattle.nb_top.specs.ShipStops.{GivesFirstNew, IsInItsRun, IsShipsOwn, IsStopped, PrimaryLeft, StandbyLeft, as_it_was, in_its_run, is_unbegun, is_half, is_merged, is_own, opened_target, was_begun, was_named}
+use Rattle.nb_top.specs.Shipped.{AfterCopy, AfterMerge, AfterPlan, Copies, IsGone, Merges, Removes, ShipsByPlan, Stops, TakesSteps, copying, merge_turn, status_of_end}
+use Rattle.nb_top.specs.ShipStops.{GivesFirstNew, IsShipsOwn, IsStopped, PrimaryLeft, StandbyLeft, as_it_was, in_its_run, is_unbegun, is_half, is_merged, is_own, opened_target, was_begun, was_named}
 use Rattle.nb_top.specs.Shipping.{ship_plan}
-use Rattle.nb_top.proofs.AsWas.{as_was, was_has, was_off}
 use Rattle.nb_top.proofs.GoesLaws.{ended_so}
 use Rattle.nb_top.proofs.KnownLaws.{told_opened}
 use Rattle.nb_top.proofs.LongNames.{ship_apart, ship_file}

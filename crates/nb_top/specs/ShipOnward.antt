@@ -1,5 +1,5 @@
 -- Where a further ship goes on: what the primary, the standby and the ship file have to be.
-use Rattle.std.specs.Prelude.{◌≡◌, ℕ, ◌+◌, ◌≤◌, List, Bool, true, false, Ok}
+use Rattle.std.specs.Prelude.{◌≡◌, ℕ, ◌+◌, ◌≤◌, List, true, false, None, Ok}
 use Rattle.std.specs.List.{AllByRecursion}
 use Rattle.nb_fields.specs.Header.{guid_of, scn_of, size_of, state_of}
 use Rattle.nb_fields.specs.Page.{stamp_of}
@@ -7,7 +7,10 @@ use Rattle.nb_fields.specs.States.{applying_state}
 use Rattle.nb_host.specs.Files.{Files}
 use Rattle.nb_inplace.specs.Verdict.{IsMergeable}
 use Rattle.nb_model.specs.Account.{Account, Base, Kept}
-use Rattle.nb_model.specs.Image.{Image, image_in, image_size, is_forced, is_read_only}
+use Rattle.nb_model.specs.Backups.{room_in}
+use Rattle.nb_model.specs.Causes.{not_of_form, short_for}
+use Rattle.nb_model.specs.Chains.{History, free_spot, spots}
+use Rattle.nb_model.specs.Image.{Image, image_scn, image_in, image_size, is_forced, is_read_only}
 use Rattle.nb_model.specs.InPlace.{in_place, other_pages}
 use Rattle.nb_model.specs.Levels.{Contents}
 use Rattle.nb_model.specs.Rows.{IsNeat}
@@ -54,3 +57,10 @@ pub record BeginsWell (files : Files) (primary standby : List ℕ) (image : Imag
   pub is : ship_plan files primary standby ≡ Ok plan
   pub named : names_backup image plan.since ≡ true
   pub accepts : plan.first ≡ Apply → (c : Contents) × (in_place files standby (ship_of standby) ≡ Ok c)
+
+-- SCNs and pages aren't used up for one backup more: there are two SCNs, and a place for its row in the history, or a page for one.
+pub record HasRoomFor (image : Image) : Type 0 where
+  pub scn : image_scn image ≤ 4294967293
+  pub long : short_for (free_spot (spots History image)) image ≡ None
+  pub formed : not_of_form (room_in image).draft ≡ None
+  pub left : (room_in image).draft.full ≡ false

@@ -12,7 +12,7 @@ ghost use Rattle.nb_mem.specs.declared.entry.Entry.{Entry};
 ghost use Rattle.nb_mem.specs.Histories.{files_of, guids_behind, world_of};
 ghost use Rattle.nb_mem.specs.Outcomes.{IsLeft, placed};
 ghost use Rattle.nb_model.specs.Account.{Account, Base, Kept};
-ghost use Rattle.nb_model.specs.Image.{Image, page_at, is_forced};
+ghost use Rattle.nb_model.specs.Image.{Image, page_at, is_forced, is_read_only};
 ghost use Rattle.nb_model.specs.Steps.{AreForced, after_steps, steps_of};
 ghost use Rattle.nb_model.specs.Strokes.{Stroke, make};
 ghost use Rattle.nb_model.specs.Trail.{IsBehindFirst, Trail};
@@ -45,7 +45,10 @@ ghost use Rattle.nb_top.specs.Performed.{IsPerformed, IsSure, KnowsAsked, Perfor
 ghost use Rattle.nb_top.specs.Requests.{Does, Request, Runs, Ships, attached, request_asked, request_of, ToRun};
 ghost use Rattle.nb_top.specs.Rows.{IsNewPage};
 ghost use Rattle.nb_top.specs.ShipDone.{GivesNew, HasStandby, IsShipped};
-ghost use Rattle.nb_top.specs.ShipOnward.{BeginsWell, CanShip, RestsOn, WaitsForMore};
+ghost use Rattle.nb_top.specs.Done.{GoesOn};
+ghost use Rattle.nb_top.specs.ShipOnward.{BeginsWell, CanShip, HasRoomFor, RestsOn, WaitsForMore};
+ghost use Rattle.nb_top.specs.Shipped.{copying};
+ghost use Rattle.nb_model.specs.Rows.{IsNeat};
 ghost use Rattle.nb_top.specs.Shipping.{names_backup, not_normal};
 ghost use Rattle.nb_ship.specs.Looks.{look_at};
 ghost use Rattle.nb_ship.specs.Names.{ship_of};
@@ -267,6 +270,15 @@ pub fn a_stopped_ship_leaves_them_so<H: Host>(_before: &H, _behind: &H)
         → HaveNames (H.world _before.now).files → StandsFor (H.world _before.now) account → HasStandby (H.world _before.now).files account.kept standby
         → GivesFirstNew (H.world _before.now) (H.world _behind.now) account.kept further → IsRun H.world H.tells status _before.now _behind.now (Ships primary standby)
         → AtEachMoment (H.world _before.now) (H.world _behind.now) (λ files said. IsStopped H.world _before.now account primary standby files) }
+{}
+
+/// The copy of a ship is refused nothing: where the primary is in the normal state, read-write and neat, its history names the backup, the ship file's name is
+/// free, and SCNs and pages aren't used up, it is done, or it ends early.
+pub fn a_copy_is_refused_nothing<H: Host>(_before: &H, _behind: &H)
+    ensures { IsTrue H.tells → (primary standby since : List ℕ) (status : Status) (account : Account) (b : Base) → is_database primary ≡ true → is_database standby ≡ true
+        → HaveNames (H.world _before.now).files → StandsFor (H.world _before.now) account → ShowsIn primary b (H.world _before.now).files → not_normal b.image ≡ None → is_read_only b.image ≡ false → IsNeat b.image → HasRoomFor b.image
+        → names_backup b.image since ≡ true → is_free_name (H.world _before.now).files (ship_of standby) ≡ true → GoesOn H.world H.tells (Ok status) _before.now _behind.now (copying primary since (ship_of standby))
+        → status ≢ Status.Device → status ≢ Status.Memory → status ≡ Status.Done }
 {}
 
 /// What a further ship begins with. Where the primary is read-write with forced writes on and neat, and the standby rests on a kept backup that the history
