@@ -224,7 +224,7 @@ module _ {H : Type 0} (world : H → World) (tells : Bool) (told : IsTrue tells)
           let was : Files = (world later).files in
           let held : Files = as_was was (ship ∷ []) files in
           let all : LeavesAll (world later) held = λ m. was_has was (Leaves (world later) m) (ship ∷ []) files m (beside later m)
-              (λ other. left_before (world later) (world end) _ discards.removes.left.others m (files m) other.0 (leaves m)) in
+          (λ other. left_before (world later) (world end) _ discards.removes.left.others m (files m) other.0 (leaves m)) in
           shows_same held files (sym (was_off was (ship ∷ []) files standby ((λ e. ship_off (sym e)), tt))) (sym (was_off was (ship ∷ []) files (delta_name standby) (beside_off, tt))) (did.left held all)
 
       standby_left : (files : Files) → LeavesAll (world new) files → IsStandbyOf standby backup files
@@ -251,7 +251,7 @@ module _ {H : Type 0} (world : H → World) (tells : Bool) (told : IsTrue tells)
             let was : Files = (world mid).files in
             let held : Files = as_was was (standby ∷ (ship ∷ [])) files in
             let all : LeavesAll (world mid) held = λ m. was_has was (Leaves (world mid) m) (standby ∷ (ship ∷ [])) files m (beside mid m)
-                (λ other. left_later m (files m) other.0 (left_then m (files m) other.1.0 (leaves m))) in
+            (λ other. left_later m (files m) other.0 (left_then m (files m) other.1.0 (leaves m))) in
             subst (λ (f : File). StandsOn primary t f (files (delta_name primary))) (was_off was (standby ∷ (ship ∷ [])) files primary (apart, (off, tt)))
             (subst (λ (f : File). StandsOn primary t (held primary) f) (was_off was (standby ∷ (ship ∷ [])) files (delta_name primary) (beside_apart, (beside_ship, tt))) (copy.database.left held all));
       }
@@ -323,8 +323,8 @@ module _ {H : Type 0} (world : H → World) (tells : Bool) (told : IsTrue tells)
         by (Ok Done) goes after =
             let gave : GaveNothing (world copies.mid) (world new) = merge_gave since copies.mid new after in
             let its : GivesNew (world h) (world copies.mid) stage.now.kept = λ guid is.
-                subst (λ (ks : List Kept). IsNewGuid (world h) ks guid) (sym stage.kept)
-                (stage.new guid (fresh guid (gave.guids ∙ is ∙ ap (λ (l : List (List ℕ)). l ++ guid ∷ []) stage.guids))) in
+            subst (λ (ks : List Kept). IsNewGuid (world h) ks guid) (sym stage.kept)
+            (stage.new guid (fresh guid (gave.guids ∙ is ∙ ap (λ (l : List (List ℕ)). l ++ guid ∷ []) stage.guids))) in
             let copy : BacksUp (world h) (world copies.mid) stage.now primary since ship =
             copied world tells told timely beside primary standby fits given since h copies.mid goes stage.now stage.stands (names_then primary standby fits given apart (world first) (world h) account stage names) b (shows_then primary standby fits given apart (world first) (world h) account stage off b shows) its in
             from_merge since h copies.mid new stage.now copy off first account (same_primary primary standby fits given apart (world first) (world h) account stage off stands.now) stage.kept stage.guids stage.times stage.said stage.quiet after

@@ -184,9 +184,11 @@ module _ (files : Files) (account : Account) (primary standby : List ℕ) (prima
         accepted_by : (what : Found) (known : Bool) → known ≡ is_known image what → first_step what known ≡ Apply → Finds files standby bytes what → look_at files standby ≡ Ok (look_of what) → (c : Contents) × (in_place files standby (ship_of standby) ≡ Ok c)
         accepted_by (Next guid) true is first finds looked =
             let c : Contents = finds.1.contents in
-            let kept : (q : Kept) × IsKeptAs account.kept guid q = history_kept files account can.stands primary primary_plain can.base can.shows guid unbroken (sym is) in
-            (c, rests_accepts files account can.stands standby bytes r on ship_plain (looked_standby files standby (look_of (Next guid)) looked) c finds.1.level.read finds.1.goes_on kept.0
-            (subst (λ (g : List ℕ). IsKeptAs account.kept g kept.0) (sym finds.1.named) kept.1))
+            let kept : (q : Kept) × IsKeptAs account.kept guid q = history_kept files account can.stands primary primary_plain can.base can.shows guid unbroken (sym is) in (
+              c,
+              rests_accepts files account can.stands standby bytes r on ship_plain (looked_standby files standby (look_of (Next guid)) looked) c finds.1.level.read finds.1.goes_on kept.0
+                  (subst (λ (g : List ℕ). IsKeptAs account.kept g kept.0) (sym finds.1.named) kept.1),
+            )
         accepted_by (Next guid) false is first finds looked = cc
         accepted_by (Pending guid) known is first finds looked = absurd (let three = finds.0.is in let zero = on.ready.normal.is in omega (arith, three, zero))
         accepted_by Nothing known is first finds looked = cc
@@ -205,8 +207,8 @@ module _ (files : Files) (account : Account) (primary standby : List ℕ) (prima
       by (begun is same) =
           let look : Look = record { guid = guid_of half; found = Pending c.head.guid } in
           let looked : look_at files standby ≡ Ok look = what_stands_is_found files standby half (Pending c.head.guid) (
-          record { there = m.there; formed = its.formed; is = three },
-          record { contents = c; read = ap (λ (f : File). read_level (bytes_of f)) its.there ∙ its.read; named = refl; goes_on = sym same.previous; pending = same.pending },
+            record { there = m.there; formed = its.formed; is = three },
+            record { contents = c; read = ap (λ (f : File). read_level (bytes_of f)) its.there ∙ its.read; named = refl; goes_on = sym same.previous; pending = same.pending },
           ) in
           record { plan = plan_by look (is_known image look.found); is = planned_by look looked; named = named; accepts = λ first. (c, m.accepted) }
 
@@ -301,7 +303,7 @@ module _ {H : Type 0} (world : H → World) (tells : Bool) (told : IsTrue tells)
     ends_done : status ≡ Done
     ends_done =
         let none = no_cause_at_all (seen_now reopens.now) (ship_of standby) (subst (λ (x : Base). is_read_only x.image ≡ false) (sym reopens.base) writable) (subst (λ (x : Base). image_state x.image ≡ normal_state) (sym reopens.base) in_normal)
-            (ap is_free_entry entry_now ∙ ship_free) (subst (λ (x : Base). IsNeat x.image) (sym reopens.base) neat) (subst (λ (x : Base). HasRoomFor x.image) (sym reopens.base) room) in
+        (ap is_free_entry entry_now ∙ ship_free) (subst (λ (x : Base). IsNeat x.image) (sym reopens.base) neat) (subst (λ (x : Base). HasRoomFor x.image) (sym reopens.base) room) in
         let backed = copy_allowed world tells told timely beside primary standby fits given since old mid (Ok status) goes account stands names b shows nil refl small named none in
         let quiet = copy_untold world tells told timely beside primary standby fits given since old mid (Ok status) goes account stands names b shows nil refl small backed in
         let performs = copy_performs world tells told timely beside primary standby fits given since old mid (Ok status) goes account stands names b shows nil refl in

@@ -430,7 +430,7 @@ module _ {H : Type 0} (world : H → World) (tells : Bool) (told : IsTrue tells)
           by (Ok Done) goes after =
               let later : (world new).guids ≡ (world mid).guids = rest_guids since result mid new after in
               let its : GivesNew (world h) (world mid) stage.now.kept = λ guid is.
-                  subst (λ (ks : List Kept). IsNewGuid (world h) ks guid) (sym stage.kept) (stage.new guid (fresh.first (guid ∷ []) (later ∙ is ∙ ap (λ (l : List (List ℕ)). l ++ guid ∷ []) stage.guids))) in
+              subst (λ (ks : List Kept). IsNewGuid (world h) ks guid) (sym stage.kept) (stage.new guid (fresh.first (guid ∷ []) (later ∙ is ∙ ap (λ (l : List (List ℕ)). l ++ guid ∷ []) stage.guids))) in
               let copy : BacksUp (world h) (world mid) stage.now primary since ship = copied world tells told timely beside primary standby fits given since h mid goes stage.now stage.stands names_h b shows_h its in
               then_moments h mid new (copy_here (Ok Done) goes later)
               (copied_moments since result h mid new stage.now copy (copy_moment since h mid stage m (Ok Done) goes before_stands names b shows copy) after)

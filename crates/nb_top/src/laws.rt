@@ -293,4 +293,3 @@ pub fn a_further_ship_begins_well()
     ensures half { (old files : Files) (standby bytes half : List ℕ) (c : Contents) (kept : List Kept) (image : Image) → IsMergeable old standby (ship_of standby) bytes c → IsHalf bytes c half → files standby ≡ Some half
         → files (ship_of standby) ≡ old (ship_of standby) → names_backup image c.head.guid ≡ true → WaitsForMore files kept image standby }
 {}
-
