@@ -108,6 +108,10 @@ unfolding backup_spot
 row_named image since row found =
     told_text (guid_in row.bytes) since true (sym (and_parts (is_used row.bytes) (same_name (guid_in row.bytes) since) (last_passes (λ (s : Spot). is_used s.bytes && same_name (guid_in s.bytes) since) (spots History image) row found)).1)
 
+ask_level : (row : Spot) → (1 ≤ (ask_of (level_behind (Some row)) (Some row)).level) × ((ask_of (level_behind (Some row)) (Some row)).level ≤ 9)
+unfolding ask_of level_behind
+ask_level row = (omega arith, omega arith)
+
 ask_previous : (level : ℕ) (row : Spot) → (ask_of level (Some row)).previous ≡ guid_in row.bytes
 unfolding ask_of
 ask_previous level row = refl
@@ -424,6 +428,7 @@ module _ {H : Type 0} (world : H → World) (tells : Bool) (told : IsTrue tells)
             kept = kept;
             begun = begun_are;
             goes_on = (ask_of (level_behind (Some its.row)) (Some its.row), its.asks, ask_previous (level_behind (Some its.row)) its.row ∙ row_is);
+            level = ask_level its.row;
             parent = parent;
             file = file;
             guid = copy_gave;

@@ -45,9 +45,9 @@ unfolding level_bytes head_in head_then spelled
 level_guid h rs sixteen = take_at h.guid _ 16 sixteen
 
 -- what the file of a record says, where that goes on from a backup of that GUID
-record IsHeadOf (r : Kept) (previous : List ℕ) (c : Contents) : Type 0 where
-  guid : c.head.guid ≡ r.guid
-  goes_on : c.head.previous ≡ previous
+pub record IsHeadOf (r : Kept) (previous : List ℕ) (c : Contents) : Type 0 where
+  pub guid : c.head.guid ≡ r.guid
+  pub goes_on : c.head.previous ≡ previous
 
 module _ (files : Files) (account : Account) (stands : Stands files account) (r : Kept) (kept : Contains account.kept r) (parent : Kept) (parent_kept : Contains account.kept parent) (ask : Ask) (asks : r.ask ≡ Some ask) (previous : ask.previous ≡ parent.guid)
     (level : List ℕ) (is : level ≡ file_of 102 r) (c : Contents) (read : read_level level ≡ Ok c) where
@@ -57,7 +57,7 @@ module _ (files : Files) (account : Account) (stands : Stands files account) (r 
   its_sound : IsSoundImage r.image
   its_sound = stands.sound_images.images r.image (to_record r kept refl)
 
-  head_is : IsHeadOf r ask.previous c
+  pub head_is : IsHeadOf r ask.previous c
   head_is =
       let spelt = file_level 102 r r.ask level c its_begun its_sound read (is ∙ own_file 102 r) in
       let same : spelt.0 ≡ ask = some_same spelt.0 ask (sym spelt.1 ∙ asks) in

@@ -1,6 +1,6 @@
 -- From where a further ship can go on its plan refuses nothing, and neither does the merge that it may begin with.
-use Rattle.std.proofs.Common.{◌≡◌, ◌≢◌, inl, inr, ℕ, ◌-◌, ◌<◌, ◌≤◌, List, [], ◌∷◌, length, length-append, IsTrue, true, false, refl, sym, ap, subst, ◌∙◌, arith, Bool, ◌==◌, not, Some, None, Result, Ok, Err}
-use Rattle.nb_top.proofs.Common.{AllByRecursion, true≢false, le-ltb, state_of, stamp_of, applying_state, normal_state, File, Files, bytes_of, is_delta, same_name, Refusal, ChainGuid, ChainSize, ChainScn, Base, Account, Kept, Image, image_size, image_in, Cause, when, first_cause, not_next, not_standby, written_since, other_pages, in_place, Contents, read_level, Stands, IsKeptAs, IsMergeable, ShowsIn, err_not_ok, some_same, nil, World, LeavesAll, IsTimely, image_scn, image_state, Reply, line_text, text_of, status_of, replies_of, IsBase, is_free_entry, is_free_name, FileExists, opening, HaveNames, StandsFor, Status, Done, is_database, IsReopened, plan_of, asks_of, BackupSince}
+use Rattle.std.proofs.Common.{◌≡◌, ◌≢◌, inl, inr, ℕ, ◌-◌, ◌<◌, ◌≤◌, List, [], ◌∷◌, length, length-append, IsTrue, true, false, refl, sym, ap, subst, ◌∙◌, arith, Bool, ◌==◌, not, Some, None, Result, Ok, Err, Contains, nat_le}
+use Rattle.nb_top.proofs.Common.{AllByRecursion, BadLevel, ChainLevel, and_from, le-leb, first_page, true≢false, le-ltb, state_of, stamp_of, applying_state, normal_state, File, Files, bytes_of, is_delta, same_name, Refusal, ChainGuid, ChainSize, ChainScn, Base, Account, Kept, Image, image_size, image_in, Cause, when, first_cause, not_next, not_standby, written_since, other_pages, in_place, Contents, read_level, Stands, IsKeptAs, IsMergeable, ShowsIn, err_not_ok, some_same, nil, World, LeavesAll, IsTimely, image_scn, image_state, Reply, line_text, text_of, status_of, replies_of, IsBase, is_free_entry, is_free_name, FileExists, opening, HaveNames, StandsFor, Status, Done, is_database, IsReopened, plan_of, asks_of, BackupSince}
 use Rattle.std.proofs.lemmas.Bool.{eq-eqb, eqb-true}
 use Rattle.nb_ended.specs.declared.status.Status.TheVariants.{Refused as RefusedStatus, Usage as UsageStatus, Device, Memory}
 use Rattle.nb_ended.specs.Numbers.{number_of}
@@ -37,6 +37,20 @@ use Rattle.nb_ship.proofs.FindsLaws.{what_is_found, what_stands_is_found}
 use Rattle.nb_ship.proofs.ReadLaws.{no_bytes}
 use Rattle.nb_top.specs.ShipOnward.{BeginsWell, CanShip, HasRoomFor, RestsOn, WaitsForMore, is_begun, rests}
 use Rattle.nb_top.specs.Shipping.{is_known, names_backup, not_asked, not_normal, plan_by, ship_plan}
+use Rattle.nb_fields.specs.Bytes.{number_in}
+use Rattle.nb_fields.specs.Header.{signature}
+use Rattle.nb_model.specs.Account.{Ask}
+use Rattle.nb_model.specs.Levels.{IsHead, begins_level, file_of, head_for}
+use Rattle.nb_model.specs.Line.{IsKeptNext}
+use Rattle.nb_model.specs.Restoring.{Link, level_link, next_link, not_behind}
+use Rattle.nb_model.specs.Sound.{IsSoundImage}
+use Rattle.nb_model.specs.Stands.{GoesOnFrom, IsBegun, to_record}
+use Rattle.nb_model.proofs.ChainLaws.{kept_accepted}
+use Rattle.nb_model.proofs.HeaderLaws.{header-room, header-size}
+use Rattle.nb_restore.proofs.AskLaws.{guid_long}
+use Rattle.std.proofs.lemmas.List.Elements.{Contains-append_right}
+use Rattle.nb_top.specs.ShipDone.{BacksUp}
+use Rattle.nb_top.proofs.ShipDone.{head_is}
 use Rattle.nb_top.specs.Done.{GoesOn}
 use Rattle.nb_top.specs.Shipped.{copying}
 use Rattle.nb_top.proofs.KnownLaws.{free_known}
@@ -314,3 +328,98 @@ module _ {H : Type 0} (world : H → World) (tells : Bool) (told : IsTrue tells)
     | inl small ↦ ends_done small
     | inr none ↦ absurd none
   ]
+
+-- ---- the level file that was copied
+
+-- a level file that is accepted in a chain is read
+link_read : (k : ℕ) (last : Link) (name bytes : List ℕ) (link : Link) → next_link k last name bytes ≡ Ok link → (c : Contents) × (read_level bytes ≡ Ok c)
+unfolding next_link
+link_read k last name bytes link ok = of_begin (begins_level bytes) ok
+  where
+    of_read : (read : Result Contents ℕ) → read_level bytes ≡ read
+        → elim read as (λ z. Result Link Refusal) [
+          | Err at ↦ Err (BadLevel name at)
+          | Ok c ↦ elim (not_behind k last name c) as (λ z. Result Link Refusal) [ Some refusal ↦ Err refusal | None ↦ Ok (level_link c) ]
+        ] ≡ Ok link → (c : Contents) × (read_level bytes ≡ Ok c)
+    of_read (Err at) is e = cc
+    of_read (Ok c) is e = (c, is)
+
+    none_begins : (t : Bool) → elim t as (λ z. Result Link Refusal) [ true ↦ Err (ChainLevel name 0 k) | false ↦ Err (BadLevel name 0) ] ≡ Ok link → (c : Contents) × (read_level bytes ≡ Ok c)
+    none_begins true e = cc
+    none_begins false e = cc
+
+    of_begin : (t : Bool) → elim t as (λ z. Result Link Refusal) [
+      | false ↦ elim (number_in 16 4 bytes == signature) as (λ z. Result Link Refusal) [ true ↦ Err (ChainLevel name 0 k) | false ↦ Err (BadLevel name 0) ]
+      | true ↦ elim (read_level bytes) as (λ z. Result Link Refusal) [
+        | Err at ↦ Err (BadLevel name at)
+        | Ok c ↦ elim (not_behind k last name c) as (λ z. Result Link Refusal) [ Some refusal ↦ Err refusal | None ↦ Ok (level_link c) ]
+      ]
+    ] ≡ Ok link → (c : Contents) × (read_level bytes ≡ Ok c)
+    of_begin true e = of_read (read_level bytes) refl e
+    of_begin false e = none_begins (number_in 16 4 bytes == signature) e
+
+module _ (old new : World) (account : Account) (primary standby since bytes : List ℕ) (copy : BacksUp old new account primary since (ship_of standby)) (ship_plain : is_delta (ship_of standby) ≡ false)
+    (r : Kept) (on : RestsOn new.files copy.after.kept standby bytes r) (same : guid_of bytes ≡ since) (looked : not_standby standby (new.files standby) ≡ None) where
+  abbrev q : Kept
+  q = copy.backup
+
+  abbrev asked : Ask
+  asked = copy.goes_on.0
+
+  q_kept : Contains copy.after.kept q
+  q_kept = subst (λ (ks : List Kept). Contains ks q) (sym copy.kept) (Contains-append_right account.kept (q ∷ []) q (0, omega arith, refl))
+
+  q_begun : IsBegun q
+  q_begun = copy.stands.now.sound_images.records q q_kept
+
+  q_sound : IsSoundImage q.image
+  q_sound = copy.stands.now.sound_images.images q.image (to_record q q_kept refl)
+
+  previous_is : asked.previous ≡ guid_of bytes
+  previous_is = copy.goes_on.2 ∙ sym same
+
+  from : GoesOnFrom copy.after.kept q asked
+  from = copy.stands.now.history.records q asked q_kept copy.goes_on.1 (λ none. copy.stands.now.kept_records.not_nil r on.kept_as.there (on.kept_as.named ∙ sym previous_is ∙ none))
+
+  long : length asked.previous ≡ 16
+  long = ap length (sym from.kept_as.named) ∙ guid_long from.parent (copy.stands.now.sound_images.records from.parent from.kept_as.there)
+
+  head : IsHead (head_for q asked)
+  head = record {
+    level = and_from (nat_le 1 asked.level) (nat_le asked.level 9) (le-leb 1 asked.level copy.level.0) (le-leb asked.level 9 copy.level.1);
+    guid = guid_long q q_begun;
+    previous = long;
+    size = header-size (first_page q.image) q_begun.header;
+    scn = let room = header-room (first_page q.image) q_begun.header q_begun.state in let begun_scn = q_begun.scn in omega (arith, room, begun_scn);
+    later = let scn = from.scn in let earlier = from.earlier in omega (arith, scn, earlier);
+  }
+
+  next_is : IsKeptNext asked.level 102 from.parent q asked
+  next_is = record {
+    known = refl;
+    asked = copy.goes_on.1;
+    level = refl;
+    some = copy.level.0;
+    guid = sym from.kept_as.named;
+    scn = sym from.scn;
+    later = from.earlier;
+    head = head;
+    whole = q_sound;
+    begun = q_begun;
+    follows = from.follows;
+  }
+
+  abbrev link : Link
+  link = record { guid = from.parent.guid; scn = from.parent.scn; size = image_size from.parent.image; pages = [] }
+
+  its_read : (c : Contents) × (read_level (file_of 102 q) ≡ Ok c)
+  its_read = link_read asked.level link (ship_of standby) (file_of 102 q) _ (kept_accepted asked.level 102 from.parent link (ship_of standby) q asked refl refl refl next_is)
+
+  pub copied_accepts : (c : Contents) × (in_place new.files standby (ship_of standby) ≡ Ok c)
+  copied_accepts =
+      let c : Contents = its_read.0 in
+      let head_of = head_is new.files copy.after copy.stands.now q q_kept from.parent from.kept_as.there asked copy.goes_on.1 (sym from.kept_as.named) (file_of 102 q) refl c its_read.1 in (
+        c,
+        rests_accepts new.files copy.after copy.stands.now standby bytes r on ship_plain looked c (ap (λ (f : File). read_level (bytes_of f)) copy.file.reads ∙ its_read.1) (head_of.goes_on ∙ previous_is) q
+            (record { there = q_kept; named = sym head_of.guid }),
+      )

@@ -1,5 +1,5 @@
 -- What a ship leaves that was done, where the files stood for an account as it began.
-use Rattle.std.specs.Prelude.{◌≡◌, ◌≢◌, ◌⊎◌, ℕ, List, [], ◌∷◌, ◌++◌, length, false, Some, Ok}
+use Rattle.std.specs.Prelude.{◌≡◌, ◌≢◌, ◌⊎◌, ℕ, ◌≤◌, List, [], ◌∷◌, ◌++◌, length, false, Some, Ok}
 use Rattle.nb_fields.specs.Header.{guid_of, pending_of, state_of}
 use Rattle.nb_fields.specs.States.{applying_state, normal_state}
 use Rattle.nb_host.specs.Files.{Files}
@@ -58,6 +58,7 @@ pub record BacksUp (old new : World) (account : Account) (primary since ship : L
   pub kept : after.kept ≡ account.kept ++ backup ∷ []
   pub begun : kept_after account (Some (record { name = primary; creates = false })) (steps_of events) ≡ after.kept
   pub goes_on : (ask : Ask) × (backup.ask ≡ Some ask) × (ask.previous ≡ since)
+  pub level : (1 ≤ goes_on.0.level) × (goes_on.0.level ≤ 9)
   pub parent : (r : Kept) × IsKeptAs account.kept since r
   pub file : IsKept new ship (file_of 102 backup)
   pub guid : new.guids ≡ old.guids ++ backup.guid ∷ []

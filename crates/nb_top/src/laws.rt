@@ -17,6 +17,7 @@ ghost use Rattle.nb_model.specs.Steps.{AreForced, after_steps, steps_of};
 ghost use Rattle.nb_model.specs.Strokes.{Stroke, make};
 ghost use Rattle.nb_model.specs.Trail.{IsBehindFirst, Trail};
 ghost use Rattle.nb_model.specs.Jobs.{IsAttaching, turn_of};
+ghost use Rattle.nb_model.specs.InPlace.{in_place, not_standby};
 ghost use Rattle.nb_model.specs.Levels.{Contents};
 ghost use Rattle.nb_model.specs.NewGuids.{AreNew, guids_in};
 ghost use Rattle.nb_model.specs.Outcomes.{Given};
@@ -44,7 +45,7 @@ ghost use Rattle.nb_top.specs.OneTurn.{DoesTurn, leaves_all, one_turn};
 ghost use Rattle.nb_top.specs.Performed.{IsPerformed, IsSure, KnowsAsked, PerformsRun, RunLeft, StandsWithin, Target, Finished, HasSmallScn, MayBeGiven, target_of};
 ghost use Rattle.nb_top.specs.Requests.{Does, Request, Runs, Ships, attached, request_asked, request_of, ToRun};
 ghost use Rattle.nb_top.specs.Rows.{IsNewPage};
-ghost use Rattle.nb_top.specs.ShipDone.{GivesNew, HasStandby, IsShipped};
+ghost use Rattle.nb_top.specs.ShipDone.{BacksUp, GivesNew, HasStandby, IsShipped};
 ghost use Rattle.nb_top.specs.Done.{GoesOn};
 ghost use Rattle.nb_top.specs.ShipOnward.{BeginsWell, CanShip, HasRoomFor, RestsOn, WaitsForMore};
 ghost use Rattle.nb_top.specs.Shipped.{copying};
@@ -279,6 +280,13 @@ pub fn a_copy_is_refused_nothing<H: Host>(_before: &H, _behind: &H)
         → HaveNames (H.world _before.now).files → StandsFor (H.world _before.now) account → ShowsIn primary b (H.world _before.now).files → not_normal b.image ≡ None → is_read_only b.image ≡ false → IsNeat b.image → HasRoomFor b.image
         → names_backup b.image since ≡ true → is_free_name (H.world _before.now).files (ship_of standby) ≡ true → GoesOn H.world H.tells (Ok status) _before.now _behind.now (copying primary since (ship_of standby))
         → status ≢ Status.Device → status ≢ Status.Memory → status ≡ Status.Done }
+{}
+
+/// What the copy of a ship has made is accepted: where the standby rests on the backup since which it was made, the ship file is merged into it.
+pub fn a_copied_file_is_accepted<H: Host>(_before: &H, _behind: &H)
+    ensures { (account : Account) (primary standby since bytes : List ℕ) (r : Kept) → is_database standby ≡ true → (copy : BacksUp (H.world _before.now) (H.world _behind.now) account primary since (ship_of standby))
+        → RestsOn (H.world _behind.now).files copy.after.kept standby bytes r → guid_of bytes ≡ since → not_standby standby ((H.world _behind.now).files standby) ≡ None
+        → (c : Contents) × (in_place (H.world _behind.now).files standby (ship_of standby) ≡ Ok c) }
 {}
 
 /// What a further ship begins with. Where the primary is read-write with forced writes on and neat, and the standby rests on a kept backup that the history
