@@ -154,7 +154,7 @@ pub use Rattle.nb_state.specs.Beginnings.{Attaches, CreateAnswers, Creates, IsAt
 pub use Rattle.nb_state.specs.Open.{Held, IsOpen, NoPageWaits, name_of}
 pub use Rattle.nb_top.specs.ByTurns.{AskedByTurns, EndsEarly, ending_by, ReadByTurns, RunByTurns, RunsOpened, ScriptByTurns, StillWhereOpened, TakesTold, TurnsFrom, WrittenByTurns}
 pub use Rattle.nb_top.specs.Ends.{EndsAs}
-pub use Rattle.nb_top.specs.Done.{EndsSo, GoesOn, IsDone}
+pub use Rattle.nb_top.specs.Done.{EndsSo, IsDone}
 pub use Rattle.nb_top.specs.Goes.{Goes}
 pub use Rattle.nb_top.specs.OneTurn.{AreOfKept, DoesTurn, FileLeft, FitsDeed, HoldsSpan, IsAsWas, IsDoneFor, IsOnItsWay, OfName, OneTurn, Read, TakesFiles, TakesKept, TurnEnded, TurnLeft, TurnStands, Was, behind, fixing, folding, leaves_all, merging, one_turn, planning, restoring}
 pub use Rattle.nb_top.specs.Performed.{EndsIn, Finished, GoesTo, HasSmallScn, HoldsUnder, IsEnded, IsFileRead, IsPerformed, IsReadRun, IsScriptRun, IsSure, IsUnasked, IsUnbegun, IsUndone, IsWrittenRun, Knows, KnowsAsked, KnowsNames, KnowsOpened, MayBeGiven, Performs, PerformsRun, PlaysOpened, PlaysTold, ReadsAsked, RunLeft, RunReads, RunStands, RunsTo, StandsAfter, StandsAsked, StandsWithin, Target, begins_refused, cache_asked, first_event, is_all, kept_after, only_opens, opened_reply, pages_first, played_behind, refused_at, refused_job, run_in, script_made, seen_after, target_asked, target_named, target_of, told, told_first, told_later, told_turns}

@@ -1,7 +1,8 @@
 use Rattle.std.proofs.Common.{[], ◌∷◌, sym, ap, subst, ◌∙◌, None, Ok, Err}
-use Rattle.nb_top.proofs.Common.{GoesOn, Status, is_file}
+use Rattle.nb_top.proofs.Common.{Status, is_file}
 use Rattle.nb_ship.specs.Names.{ship_of}
 use Rattle.nb_ship.specs.declared.steps.Step.TheVariants.{Apply, Discard}
+use Rattle.nb_top.specs.Done.{GoesOn}
 use Rattle.nb_top.specs.Shipped.{copying}
 use Rattle.nb_top.proofs.LongNames.{database_short, ship_file}
 use Rattle.nb_top.proofs.ShipSteps.{copied_ship, copy_goes, copy_refused, copy_stops, stopped_by}
