@@ -68,6 +68,7 @@ pub mod ShipFirsts
 pub mod ShipStages
 pub mod ShipDone
 pub mod ShipStops
+pub mod ShipOnward
 pub mod AllStay
 pub mod GeneratedGoes
 pub mod ShownLaws

@@ -1,17 +1,17 @@
 -- One backup since another, in a session that is alone: the file that it makes, the record that its begin keeps, the GUID and the time that it takes, and
 -- that nothing of it is told. Or it is refused.
-use Rattle.std.proofs.Common.{◌≡◌, ◌⊎◌, inl, inr, ℕ, zero, suc, ◌≤◌, List, [], ◌∷◌, ◌++◌, length, replicate, drop, get_or, true, false, refl, sym, ap, subst, ◌∙◌, arith, append_assoc, length-append, Bool, ◌==◌, nat_lt, Option, None, Some, is_none}
-use Rattle.nb_top.proofs.Common.{AllByRecursion, true≢false, append-nil, Refusal, Reply, Kept, Base, said_by_generated, last_or_refusal, Image, image_scn, image_state, stalled_state, guids_in, MadeFile, Now, Event, Played, base_now, play, files_made, strokes_of, replies_of, output, output-quiet, output_no_event, AreFinished, HasHeader, IsSoundImage, base_after, records_after, records_of, on_base, Stroke, play_is, guids_append, Begins, Given}
+use Rattle.std.proofs.Common.{◌≡◌, ◌⊎◌, inl, inr, ℕ, zero, suc, List, [], ◌∷◌, ◌++◌, length, replicate, get_or, true, false, refl, sym, ap, subst, ◌∙◌, arith, length-append, Bool, ◌==◌, nat_lt, Option, None, Some, is_none}
+use Rattle.nb_top.proofs.Common.{AllByRecursion, none_some, true≢false, append-nil, Refusal, Reply, Kept, Base, said_by_generated, last_or_refusal, Image, image_scn, image_state, stalled_state, guids_in, MadeFile, Now, Event, Played, base_now, play, files_made, strokes_of, output, output-quiet, output_no_event, AreFinished, HasHeader, IsSoundImage, base_after, records_after, records_of, on_base, Stroke, guids_append, Begins, Given}
 use Rattle.nb_host.specs.Names.{same_name}
 use Rattle.nb_host.specs.declared.refusals.Refusal.TheVariants.{NoGuid}
 use Rattle.nb_model.specs.Account.{Ask}
-use Rattle.nb_model.specs.Backups.{room_in, ask_of, level_behind, since_turn, close_backup}
-use Rattle.nb_model.specs.Causes.{broken_at, when}
+use Rattle.nb_model.specs.Backups.{room_in, ask_of, level_behind, since_turn, starts, close_backup}
+use Rattle.nb_model.specs.Causes.{Cause, broken_at, when}
 use Rattle.nb_model.specs.Chains.{History, Slot, Spot, backup_spot, guid_in, pages_of, put_slot}
 use Rattle.nb_model.specs.Forms.{Draft, drafted, has_entry, scn_entry, needs, is_kind, entry_raised, entry_written, raised, put, written, wrote, scn_page_of}
 use Rattle.nb_model.specs.Levels.{file_of}
 use Rattle.nb_model.specs.Making.{kept_of}
-use Rattle.nb_model.specs.Outcomes.{Backing, Outcome, Seen, Turn, next_guid, next_time, without_guid, without_time}
+use Rattle.nb_model.specs.Outcomes.{Backing, Outcome, Seen, Turn, unless, next_guid, without_guid, without_time}
 use Rattle.nb_model.specs.Outcomes.{Copies, ClosesBackup, ClosesCopy, Ends, Merges, Finishes}
 use Rattle.nb_model.specs.Pages.{ends_by, end_strokes}
 use Rattle.nb_model.specs.Run.{event_of, one_turn, outcome, stands_then, take_turn}
@@ -20,7 +20,7 @@ use Rattle.nb_model.specs.Turns.{first_turn, turn}
 use Rattle.nb_model.specs.declared.reply.Reply.TheVariants.{Refused}
 use Rattle.nb_model.specs.declared.statement.Statement.TheVariants.{BackupSince}
 use Rattle.nb_model.proofs.FitLaws.{AreFitting, Fits, Stays, fitting_stays}
-use Rattle.nb_model.proofs.GoingLaws.{one_cases, own_todo}
+use Rattle.nb_model.proofs.GoingLaws.{own_todo}
 use Rattle.nb_model.proofs.MakingLaws.{event_makes, made_append, of_made}
 use Rattle.nb_model.proofs.OutputLaws.{strokes_one}
 use Rattle.nb_model.proofs.PutSound.{header_whole, not_when}
@@ -28,7 +28,7 @@ use Rattle.nb_model.proofs.RoomLaws.{AnyPage, any_history, room_fits}
 use Rattle.nb_model.proofs.RunLaws.{one_is, strokes_of-append}
 use Rattle.nb_model.proofs.SoundTurns.{seen_now}
 use Rattle.nb_model.proofs.StrokeLaws.{records_after-append, base_after-append}
-use Rattle.nb_model.proofs.TurnCases.{MayStart, refused, started, starts_either}
+use Rattle.nb_model.proofs.TurnCases.{MayStart, refused, start_cause, started, starts_either}
 
 -- ---- strokes that only write pages keep no record and take no GUID
 
@@ -346,6 +346,17 @@ first_is s since ship =
     by (Some row) is none may = is_started row is may refl
     by None is none may = absurd (true≢false (not_when true (NoGuid since) none))
 
+-- it is started where no cause speaks against it
+since_starts : (s : Seen) (since ship : List ℕ) (row : Spot) → backup_spot (λ (slot : Slot). same_name (guid_in slot) since) s.base.image ≡ Some row → start_cause s ship None ≡ None → since_turn s 1 since ship ≡ started s 1 ship (ask_of (level_behind (Some row)) (Some row))
+unfolding since_turn starts unless
+since_starts s since ship row found none =
+    ap (λ (spot : Option Spot). unless s (start_cause s ship (when (is_none spot) (NoGuid since))) (started s 1 ship (ask_of (level_behind spot) spot))) found
+    ∙ ap (λ (c : Cause). unless s c (started s 1 ship (ask_of (level_behind (Some row)) (Some row)))) none
+
+-- lists that are the same begin with the same
+first_same : (x y : Event) (xs ys : List Event) → x ∷ xs ≡ y ∷ ys → x ≡ y
+first_same x y xs ys e = ap (λ (es : List Event). elim es as (λ z. Event) [ [] ↦ x | z ∷ zs ↦ z ]) e
+
 begin_outcome : (now : Now) (since ship : List ℕ) → outcome 1 (Begins (BackupSince since ship)) now ≡ since_turn (seen_now now) 1 since ship
 unfolding outcome turn first_turn
 begin_outcome now since ship = refl
@@ -504,6 +515,16 @@ module _ (now : Now) (since ship : List ℕ) (header : HasHeader (base_now now).
         by : FirstTurn (seen_now now) since ship did_o → IsDenied all.0 ⊎ IsBackedUp now since ship all
         by (is_refused r e) = inl (denied r e)
         by (is_started row found may e) = inr (backed_up row found may e)
+
+  -- Where no cause speaks against it, it isn't refused.
+  pub allowed_backup : (n : ℕ) → (row : Spot) → backup_spot (λ (slot : Slot). same_name (guid_in slot) since) (base_now now).image ≡ Some row → start_cause (seen_now now) ship None ≡ None → get_or (play (replicate n 1) now).1.todo 0 [] ≡ []
+      → IsDenied (play (replicate n 1) now).0 → ⊥
+  allowed_backup zero row found none done denied = let long = ap length (sym is ∙ sym (ap (λ (p : Played). get_or p.1.todo 0 []) (no_turns now)) ∙ done) in absurd (omega (arith, long))
+  allowed_backup (suc n) row found none done denied =
+      let same : event_of 1 first did_o ≡ denied.first = first_same (event_of 1 first did_o) denied.first (play (replicate n 1) (next n done)).0 denied.rest (sym (events_are n done) ∙ denied.is) in
+      let silent : did_o.reply ≡ None = ap (λ (x : Outcome). x.reply) (begin_outcome now since ship ∙ since_starts (seen_now now) since ship row found none) in
+      let says : None ≡ Some (Refused denied.refusal) = sym silent ∙ ap (λ (e : Event). e.reply) same ∙ denied.says in
+      absurd (none_some (Refused denied.refusal) says)
 
   -- Once the session has nothing left to do, it was refused, or the backup was made.
   pub lone_backup : (n : ℕ) → get_or (play (replicate n 1) now).1.todo 0 [] ≡ [] → IsDenied (play (replicate n 1) now).0 ⊎ IsBackedUp now since ship (play (replicate n 1) now)

@@ -1,7 +1,7 @@
 -- The copy of a ship that was done: what its begin kept, what the ship file holds, and what was given.
-use Rattle.std.proofs.Common.{◌≡◌, ◌≢◌, ◌⊎◌, inl, inr, ⊎_elim, ℕ, zero, suc, ◌+◌, ◌<◌, ◌≤◌, List, [], ◌∷◌, ◌++◌, length, drop, map, replicate, get_or, max, true, false, refl, sym, ap, subst, ◌∙◌, arith, length-append, Bool, ◌&&◌, IsTrue, Option, Some, None, Result, Ok, Err, Contains}
+use Rattle.std.proofs.Common.{◌≡◌, ◌≢◌, ◌⊎◌, inl, inr, ⊎_elim, ℕ, zero, suc, ◌+◌, ◌<◌, ◌≤◌, List, [], ◌∷◌, ◌++◌, length, drop, take, map, replicate, get_or, true, false, refl, sym, ap, subst, ◌∙◌, arith, length-append, Bool, ◌&&◌, is_some, IsTrue, Option, Some, None, Result, Ok, Err, Contains}
 use Rattle.std.proofs.lemmas.List.{append_cancel_left}
-use Rattle.nb_top.proofs.Common.{AllByRecursion, and_parts, append-nil, true≢false, Files, World, Leaves, LeavesAll, IsTimely, Refusal, RunError, Account, Base, IsBase, Image, image_scn, Kept, Reply, Opened, IsRun, Opening, Now, Event, Played, base_now, begun, opening, play, rounds, AreFinished, IsRest, Foretells, Given, WasGiven, guids_in, strokes_of, strokes_in, strokes_in_steps, files_made, replies_of, output, status_of, status_after, steps_of, said_by_generated, last_or_refusal, MadeFile, AreNew, HasHeader, IsSoundImage, IsKeptAs, to_base, owner, delta_name, base_in, base_in_base, records_after, output-quiet, status_one, asks_of, BackupSince, Begins, IsAskable, Plan, plan_of, is_refusal, Status, Done, Sparingly, ToRun, Request, Runs, Asked, GoesTo, KnowsNames, Knows, MayBeGiven, Performs, PerformsRun, RunsTo, Finished, IsPerformed, IsScriptRun, IsSure, IsEnded, HasSmallScn, IsUndone, begins_refused, Target, EndsIn, target_of, target_named, pages_first, seen_after, kept_after, Stroke, HaveNames, StandsFor, is_database, IsReopened, reopened, same_name, number_of, AreKept, first_page, formed_header, has_main, Usage}
+use Rattle.nb_top.proofs.Common.{AllByRecursion, and_parts, append-nil, true≢false, World, LeavesAll, IsTimely, AtEachMoment, weaker, Refusal, RunError, Account, Base, IsBase, Image, image_scn, Kept, Reply, Opening, Now, Event, Played, base_now, begun, opening, play, AreFinished, IsRest, Foretells, Given, guids_in, strokes_of, strokes_in, strokes_in_steps, files_made, replies_of, output, status_of, status_after, steps_of, said_by_generated, last_or_refusal, MadeFile, AreNew, HasHeader, IsSoundImage, IsKeptAs, to_base, owner, delta_name, base_in, base_in_base, records_after, status_one, asks_of, BackupSince, Begins, IsAskable, Plan, plan_of, is_refusal, Status, Done, Sparingly, ToRun, Request, Asked, Knows, MayBeGiven, PerformsRun, RunsTo, Finished, IsScriptRun, IsSure, HasSmallScn, IsUndone, begins_refused, Target, EndsIn, target_of, target_named, pages_first, kept_after, Stroke, HaveNames, StandsFor, is_database, IsReopened, reopened, same_name, number_of, AreKept, first_page, formed_header, has_main, Usage}
 use Rattle.std.specs.Cmp.Lexicographic.{told_text}
 use Rattle.nb_ended.specs.declared.status.Status.TheVariants.{Device, Memory}
 use Rattle.nb_host.specs.declared.faults.RunError.TheVariants.{Device as DeviceError, Memory as MemoryError}
@@ -9,7 +9,6 @@ use Rattle.nb_gather.specs.Making.{IsKept}
 use Rattle.nb_model.specs.declared.reply.Reply.TheVariants.{Refused}
 use Rattle.nb_model.specs.declared.statement.Statement.{Statement}
 use Rattle.nb_model.specs.declared.statement.Statement.TheVariants.{OpenDb, BackupSince as BackupOf}
-use Rattle.nb_model.specs.Account.{Ask}
 use Rattle.nb_model.specs.Backups.{ask_of, level_behind}
 use Rattle.nb_model.specs.Causes.{broken_at}
 use Rattle.nb_model.specs.Chains.{History, Slot, Spot, backup_spot, guid_in, is_used, last_such, pages_of, spots}
@@ -25,6 +24,8 @@ use Rattle.nb_model.proofs.GoingLaws.{begun_at}
 use Rattle.nb_model.proofs.HeaderLaws.{same-header}
 use Rattle.nb_model.proofs.OutputLaws.{status_events}
 use Rattle.nb_model.proofs.SessionLaws.{alone_rounds}
+use Rattle.nb_model.proofs.SoundTurns.{seen_now}
+use Rattle.nb_model.proofs.TurnCases.{start_cause}
 use Rattle.nb_session.specs.Acts.{Grows}
 use Rattle.nb_ship.specs.Names.{ship_of}
 use Rattle.nb_top.specs.Done.{GoesOn as GoesOnIn}
@@ -32,7 +33,7 @@ use Rattle.nb_top.specs.ShipDone.{BacksUp, GivesNew}
 use Rattle.nb_top.specs.Shipped.{copying, status_of_end}
 use Rattle.nb_top.proofs.JobRuns.{performs_device, performs_ended, performs_memory}
 use Rattle.nb_top.proofs.KnownLaws.{free_known}
-use Rattle.nb_top.proofs.LoneBackups.{Did, IsBackedUp, IsDenied, first_finished, lone_backup, untold_first}
+use Rattle.nb_top.proofs.LoneBackups.{IsBackedUp, IsDenied, allowed_backup, first_finished, lone_backup, untold_first}
 use Rattle.nb_top.proofs.LongNames.{ship_file}
 use Rattle.nb_top.proofs.OpenLaws.{shown_entry}
 use Rattle.nb_top.proofs.RequestLaws.{attach_askable}
@@ -82,6 +83,11 @@ files_after : (e : Event) (es : List Event) → e.made ≡ None → files_made (
 unfolding files_made
 files_after e es none = ap (λ (made : Option MadeFile). elim made as (λ z. List MadeFile) [ Some file ↦ file ∷ files_made es | None ↦ files_made es ]) none
 
+-- a front of nothing is nothing
+part_of_none : (part : List ℕ) → part ≡ take (length part) [] → part ≡ []
+part_of_none [] is = refl
+part_of_none (x ∷ xs) is = is
+
 -- ---- the row from which it goes on
 
 last_passes : {X : Type 0} (test : X → Bool) (xs : List X) (x : X) → last_such test xs ≡ Some x → test x ≡ true
@@ -101,6 +107,10 @@ pub row_named : (image : Image) (since : List ℕ) (row : Spot) → backup_spot 
 unfolding backup_spot
 row_named image since row found =
     told_text (guid_in row.bytes) since true (sym (and_parts (is_used row.bytes) (same_name (guid_in row.bytes) since) (last_passes (λ (s : Spot). is_used s.bytes && same_name (guid_in s.bytes) since) (spots History image) row found)).1)
+
+ask_level : (row : Spot) → (1 ≤ (ask_of (level_behind (Some row)) (Some row)).level) × ((ask_of (level_behind (Some row)) (Some row)).level ≤ 9)
+unfolding ask_of level_behind
+ask_level row = (omega arith, omega arith)
 
 ask_previous : (level : ℕ) (row : Spot) → (ask_of level (Some row)).previous ≡ guid_in row.bytes
 unfolding ask_of
@@ -190,17 +200,17 @@ module _ {H : Type 0} (world : H → World) (tells : Bool) (told : IsTrue tells)
         by (Err DeviceError) r = performs_device (world old) (world mid) account copy_given may (beside old) (timely mid) (beside mid) asked can DeviceError r
         by (Err MemoryError) r = performs_memory (world old) (world mid) account copy_given may (beside old) (timely mid) (beside mid) asked can MemoryError r
 
-    abbrev events : List Event
+    abbrev pub events : List Event
     events = copy_performs.events
 
     -- what stands there is opened
     here : account.entry primary ≡ IsBase b
     here = stands.now.same_image primary (plain_database primary fits) ∙ shown_entry (world old).files primary b shows
 
-    abbrev o : Opening
+    abbrev pub o : Opening
     o = opening account copy_given plan.sessions 1 (OpenDb primary usual_cache)
 
-    again : IsReopened account copy_given plan.sessions 1 primary usual_cache b o
+    pub again : IsReopened account copy_given plan.sessions 1 primary usual_cache b o
     again = reopened account copy_given plan.sessions 1 primary usual_cache b here
 
     opens_fine : (es : List Event) (last : Account) (left : Given) → IsScriptRun plan Sparingly account copy_given es last left → begins_refused es ≡ false
@@ -214,7 +224,7 @@ module _ {H : Type 0} (world : H → World) (tells : Bool) (told : IsTrue tells)
         by true is = absurd (true≢false is)
         by false is = refl
 
-    abbrev scripted : IsScriptRun plan Sparingly account copy_given events copy_performs.last copy_performs.left
+    abbrev pub scripted : IsScriptRun plan Sparingly account copy_given events copy_performs.last copy_performs.left
     scripted = copy_performs.performed
 
     pub its_target : target_of (Ok request) events ≡ Some (record { name = primary; creates = false })
@@ -238,16 +248,16 @@ module _ {H : Type 0} (world : H → World) (tells : Bool) (told : IsTrue tells)
           let main = has_main primary b ((world old).files primary) ((world old).files (delta_name primary)) shows in
           record { header = same-header (first_page b.image) main.bytes main.front ∙ formed_header main.bytes main.formed; scn = small }
 
-      abbrev now : Now
+      abbrev pub now : Now
       now = again.now
 
-      on : (end : Now) × IsPlayed [] now scripted.run.rest end × (copy_performs.last ≡ end.account) × (copy_performs.left ≡ end.given)
+      pub on : (end : Now) × IsPlayed [] now scripted.run.rest end × (copy_performs.last ≡ end.account) × (copy_performs.left ≡ end.given)
       on = subst (λ (n : Option Now). IsRest [] (record { event = o.event; account = o.account; now = n }) copy_given scripted.run.rest copy_performs.last copy_performs.left) again.goes_on scripted.run.goes_on
 
-      abbrev n : ℕ
+      abbrev pub n : ℕ
       n = on.1.how_often
 
-      abbrev played : Played
+      abbrev pub played : Played
       played = play (replicate n 1) now
 
       first_todo : get_or now.todo 0 [] ≡ Begins (BackupOf since ship) ∷ []
@@ -270,6 +280,21 @@ module _ {H : Type 0} (world : H → World) (tells : Bool) (told : IsTrue tells)
 
       either : IsDenied played.0 ⊎ IsBackedUp now since ship played
       either = lone_backup now since ship (subst (λ (x : Base). HasHeader x.image) (sym again.base) header) (subst (λ (x : Base). IsSoundImage x.image) (sym again.base) sound) first_todo n over
+
+      -- It isn't refused where the history names the backup and no cause speaks against it.
+      pub copy_allowed : is_some (backup_spot (λ (slot : Slot). same_name (guid_in slot) since) b.image) ≡ true → start_cause (seen_now now) ship None ≡ None → IsBackedUp now since ship played
+      copy_allowed named none = ⊎_elim (λ denied. absurd (by (backup_spot (λ (slot : Slot). same_name (guid_in slot) since) b.image) refl named denied)) (λ backed. backed) either
+        where
+          by : (spot : Option Spot) → backup_spot (λ (slot : Slot). same_name (guid_in slot) since) b.image ≡ spot → is_some spot ≡ true → IsDenied played.0 → ⊥
+          by None is some denied = true≢false (sym some)
+          by (Some row) is some denied =
+              allowed_backup now since ship (subst (λ (x : Base). HasHeader x.image) (sym again.base) header) (subst (λ (x : Base). IsSoundImage x.image) (sym again.base) sound) first_todo n row
+              (subst (λ (x : Base). backup_spot (λ (slot : Slot). same_name (guid_in slot) since) x.image ≡ Some row) (sym again.base) is) none over denied
+
+      -- and nothing of it is told
+      pub copy_untold : IsBackedUp now since ship played → output events ≡ []
+      copy_untold backed = ap output scripted.said ∙ ap (λ (es : List Event). output (said_by_generated es)) scripted.run.is
+          ∙ untold_first o.event scripted.run.rest (ap (λ (e : Event). last_or_refusal e.reply) again.event) (ap (λ (p : Played). output (said_by_generated p.0)) (sym played_is) ∙ backed.did.untold)
 
       strokes_are : strokes_of events ≡ strokes_of played.0
       unfolding strokes_of
@@ -373,12 +398,18 @@ module _ {H : Type 0} (world : H → World) (tells : Bool) (told : IsTrue tells)
             ap (λ (ss : List Stroke). account.kept ++ records_after (base_in (account.entry primary)) ss) (strokes_in_steps events ∙ strokes_are)
             ∙ ap (λ (x : Base). account.kept ++ records_after x (strokes_of played.0)) (base_is ∙ sym again.base) ∙ ap (λ (rs : List Kept). account.kept ++ rs) its.did.keeps ∙ sym kept
 
+        untold : output events ≡ []
+        untold = copy_untold its
+
+        nothing_more : (part : List ℕ) → part ≡ [] → (world old).said ++ part ≡ (world old).said
+        nothing_more part none = ap (λ (l : List ℕ). (world old).said ++ l) none ∙ append-nil (world old).said
+
         silent : (world mid).said ≡ (world old).said
-        silent =
-            done.said
-            ∙ ap (λ (l : List ℕ). (world old).said ++ l) (ap output scripted.said ∙ ap (λ (es : List Event). output (said_by_generated es)) scripted.run.is
-            ∙ untold_first o.event scripted.run.rest (ap (λ (e : Event). last_or_refusal e.reply) again.event) (ap (λ (p : Played). output (said_by_generated p.0)) (sym played_is) ∙ its.did.untold))
-            ∙ append-nil (world old).said
+        silent = done.said ∙ nothing_more (output events) untold
+
+        quiet : AtEachMoment (world old) (world mid) (λ files said. said ≡ (world old).said)
+        quiet = weaker (world old) (world mid) _ _ copy_performs.stops
+            (λ files said l. let part : List ℕ = l.left.out.part in l.left.out.is ∙ nothing_more part (part_of_none part (l.left.out.front ∙ ap (take (length part)) untold)))
 
         module _ (new : GivesNew (world old) (world mid) account.kept) where
           is_new : IsNewGuid (world old) account.kept copy_guid
@@ -397,11 +428,13 @@ module _ {H : Type 0} (world : H → World) (tells : Bool) (told : IsTrue tells)
             kept = kept;
             begun = begun_are;
             goes_on = (ask_of (level_behind (Some its.row)) (Some its.row), its.asks, ask_previous (level_behind (Some its.row)) its.row ∙ row_is);
+            level = ask_level its.row;
             parent = parent;
             file = file;
             guid = copy_gave;
             time = (one_time.0, grows.gave.times ∙ ap (λ (l : List ℕ). (world old).times ++ l) one_time.1);
             silent = silent;
+            quiet = quiet;
           }
 
   -- The copy that was done.

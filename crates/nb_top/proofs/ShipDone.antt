@@ -2,7 +2,7 @@
 use Rattle.std.proofs.Common.{◌≡◌, ◌≢◌, ◌⊎◌, inl, inr, ⊎_elim, ℕ, ◌+◌, List, [], ◌∷◌, ◌++◌, length, refl, sym, ap, subst, ◌∙◌, arith, Bool, IsTrue, false, true, Option, Some, None, Result, Ok, Err, Contains}
 use Rattle.std.proofs.lemmas.List.{take_at}
 use Rattle.std.proofs.lemmas.List.Elements.{Contains-append_right}
-use Rattle.nb_top.proofs.Common.{append-nil, is_header, state_of, File, Files, bytes_of, is_delta, is_name, World, Leaves, LeavesAll, IsTimely, Fault, Refused, Device, Memory, RunError, GaveNothing, Quiet, decide, left_before, Base, Account, Kept, Image, image_in, delta_name, entry_of_files, Reply, line_text, merged, Contents, Head, head_for, level_bytes, read_level, no_main, Stands, IsKeptAs, nil, IsMergeable, ShowsIn, StandsIn, Trail, TakesKept, SaysLine, Status, Done, HaveNames, StandsFor, IsEnded, is_database, is_file, seen_after, some_same, steps_of, level_told, base_of, as_standby, to_record, IsSoundImage, Missing, with_entry, with_kept, owner, Serves, merging, Contains-append_left, true≢false, Numbered}
+use Rattle.nb_top.proofs.Common.{is_header, state_of, File, Files, bytes_of, is_delta, World, Leaves, LeavesAll, IsTimely, AtEachMoment, joined, Fault, Refused, Device, Memory, RunError, GaveNothing, Quiet, left_before, Base, Account, Kept, Image, image_in, delta_name, Reply, line_text, merged, Contents, Head, head_for, level_bytes, read_level, no_main, Stands, IsKeptAs, nil, IsMergeable, ShowsIn, Trail, TakesKept, Status, Done, HaveNames, StandsFor, IsEnded, is_database, seen_after, some_same, steps_of, level_told, base_of, as_standby, to_record, IsSoundImage, Missing, with_entry, with_kept, owner, Serves, merging, Contains-append_left, Numbered}
 use Rattle.nb_ended.specs.declared.status.Status.TheVariants.{Refused as RefusedStatus, Usage as UsageStatus, Device as DeviceStatus, Memory as MemoryStatus}
 use Rattle.nb_host.specs.declared.faults.RunError.TheVariants.{Device as DeviceError, Memory as MemoryError}
 use Rattle.nb_fields.specs.Header.{guid_of}
@@ -29,9 +29,9 @@ use Rattle.nb_ship.specs.declared.steps.Step.TheVariants.{Apply, Copy, Discard}
 use Rattle.nb_top.specs.declared.ship_plan.ShipPlan.{ShipPlan}
 use Rattle.nb_top.specs.Done.{GoesOn}
 use Rattle.nb_top.specs.ShipDone.{BacksUp, GivesNew, HasStandby, IsShipped, IsStandbyOf}
-use Rattle.nb_top.specs.Shipped.{AfterCopy, AfterMerge, AfterPlan, Copies, Discards, IsGone, Merges, Refuses, Replies, ShipEnds, ShipsByPlan, Stops, TakesSteps, copying, merge_turn, status_of_end}
+use Rattle.nb_top.specs.Shipped.{AfterCopy, AfterMerge, AfterPlan, Discards, IsGone, Replies, ShipEnds, ShipsByPlan, Stops, TakesSteps, copying, merge_turn, status_of_end}
 use Rattle.nb_top.specs.Shipping.{ship_plan}
-use Rattle.nb_top.proofs.AsWas.{IsOff, as_was, was_has, was_off}
+use Rattle.nb_top.proofs.AsWas.{as_was, was_has, was_off}
 use Rattle.nb_top.proofs.LongNames.{ship_apart}
 use Rattle.nb_top.proofs.ShipCopies.{copied}
 use Rattle.nb_top.proofs.ShipFirsts.{IsPlanned, first_takes, planned, primary_apart, removed_unheaded}
@@ -45,9 +45,9 @@ unfolding level_bytes head_in head_then spelled
 level_guid h rs sixteen = take_at h.guid _ 16 sixteen
 
 -- what the file of a record says, where that goes on from a backup of that GUID
-record IsHeadOf (r : Kept) (previous : List ℕ) (c : Contents) : Type 0 where
-  guid : c.head.guid ≡ r.guid
-  goes_on : c.head.previous ≡ previous
+pub record IsHeadOf (r : Kept) (previous : List ℕ) (c : Contents) : Type 0 where
+  pub guid : c.head.guid ≡ r.guid
+  pub goes_on : c.head.previous ≡ previous
 
 module _ (files : Files) (account : Account) (stands : Stands files account) (r : Kept) (kept : Contains account.kept r) (parent : Kept) (parent_kept : Contains account.kept parent) (ask : Ask) (asks : r.ask ≡ Some ask) (previous : ask.previous ≡ parent.guid)
     (level : List ℕ) (is : level ≡ file_of 102 r) (c : Contents) (read : read_level level ≡ Ok c) where
@@ -57,7 +57,7 @@ module _ (files : Files) (account : Account) (stands : Stands files account) (r 
   its_sound : IsSoundImage r.image
   its_sound = stands.sound_images.images r.image (to_record r kept refl)
 
-  head_is : IsHeadOf r ask.previous c
+  pub head_is : IsHeadOf r ask.previous c
   head_is =
       let spelt = file_level 102 r r.ask level c its_begun its_sound read (is ∙ own_file 102 r) in
       let same : spelt.0 ≡ ask = some_same spelt.0 ask (sym spelt.1 ∙ asks) in
@@ -219,12 +219,16 @@ module _ {H : Type 0} (world : H → World) (tells : Bool) (told : IsTrue tells)
           subst (λ (x : Image). ShowsIn standby (base_of x) same) image
           (ap (λ (f : File). owner standby f (same (delta_name standby))) own ∙ ap (owner standby (files standby)) near ∙ shows)
 
-      standby_left : (files : Files) → LeavesAll (world new) files → IsStandbyOf standby backup files
-      standby_left files leaves =
+      standby_at_end : (files : Files) → LeavesAll (world end) files → IsStandbyOf standby backup files
+      standby_at_end files leaves =
           let was : Files = (world later).files in
           let held : Files = as_was was (ship ∷ []) files in
-          let all : LeavesAll (world later) held = λ m. was_has was (Leaves (world later) m) (ship ∷ []) files m (beside later m) (λ other. left_then m (files m) other.0 (leaves m)) in
+          let all : LeavesAll (world later) held = λ m. was_has was (Leaves (world later) m) (ship ∷ []) files m (beside later m)
+          (λ other. left_before (world later) (world end) _ discards.removes.left.others m (files m) other.0 (leaves m)) in
           shows_same held files (sym (was_off was (ship ∷ []) files standby ((λ e. ship_off (sym e)), tt))) (sym (was_off was (ship ∷ []) files (delta_name standby) (beside_off, tt))) (did.left held all)
+
+      standby_left : (files : Files) → LeavesAll (world new) files → IsStandbyOf standby backup files
+      standby_left files leaves = standby_at_end files (λ m. left_end m (files m) (leaves m))
 
       -- the primary
       beside_apart : delta_name primary ≢ standby
@@ -247,14 +251,14 @@ module _ {H : Type 0} (world : H → World) (tells : Bool) (told : IsTrue tells)
             let was : Files = (world mid).files in
             let held : Files = as_was was (standby ∷ (ship ∷ [])) files in
             let all : LeavesAll (world mid) held = λ m. was_has was (Leaves (world mid) m) (standby ∷ (ship ∷ [])) files m (beside mid m)
-                (λ other. left_later m (files m) other.0 (left_then m (files m) other.1.0 (leaves m))) in
+            (λ other. left_later m (files m) other.0 (left_then m (files m) other.1.0 (leaves m))) in
             subst (λ (f : File). StandsOn primary t f (files (delta_name primary))) (was_off was (standby ∷ (ship ∷ [])) files primary (apart, (off, tt)))
             (subst (λ (f : File). StandsOn primary t (held primary) f) (was_off was (standby ∷ (ship ∷ [])) files (delta_name primary) (beside_apart, (beside_ship, tt))) (copy.database.left held all));
       }
 
       pub last_ships : (first : H) (account : Account) → before.entry primary ≡ account.entry primary → before.kept ≡ account.kept → (world from).guids ≡ (world first).guids → (world from).times ≡ (world first).times → (world from).said ≡ (world first).said
-          → IsShipped world first new account primary standby
-      last_ships first account same kept guids times said =
+          → AtEachMoment (world first) (world from) (λ files said. said ≡ (world first).said) → IsShipped world first new account primary standby
+      last_ships first account same kept guids times said quiet =
           let gave : GaveNothing (world mid) (world new) = record {
             guids = replies.line.gave.guids ∙ discards.removes.gave.guids ∙ serves.gave.guids;
             times = replies.line.gave.times ∙ discards.removes.gave.times ∙ serves.gave.times;
@@ -278,6 +282,12 @@ module _ {H : Type 0} (world : H → World) (tells : Bool) (told : IsTrue tells)
             time = (copy.time.0, gave.times ∙ copy.time.1 ∙ ap (λ (l : List ℕ). l ++ copy.time.0 ∷ []) times);
             said = replies.line.said ∙ ap (λ (r : Reply). (world end).said ++ line_text 1 r) reply_is
                 ∙ ap (λ (l : List ℕ). l ++ line_text 1 (ScnPages backup.scn (length (as_standby backup.image)))) (discards.removes.left.said ∙ serves.left.said ∙ copy.silent ∙ said);
+            acknowledged = joined (world first) (world end) (world new) _ _ _
+                (joined (world first) (world later) (world end) _ _ _
+                (joined (world first) (world mid) (world later) _ _ _
+                (joined (world first) (world from) (world mid) _ _ _ quiet copy.quiet (λ files now is. is) (λ files now is. is ∙ said)) serves.left.moments (λ files now is. is) (λ files now l. l.output ∙ copy.silent ∙ said))
+                discards.removes.left.moments (λ files now is. is) (λ files now l. l.output ∙ serves.left.said ∙ copy.silent ∙ said))
+                replies.line.moments (λ files now is. inl is) (λ files now front. inr (standby_at_end files front.left));
             later = with_entry ship (Missing None) stood.0;
             stands = still_for (world end) (world new) (with_entry ship (Missing None) stood.0) removed (beside new) same_end left_end;
             records = with_kept ship (Missing None) stood.0 ∙ stood.2 ∙ copy.kept ∙ ap (λ (ks : List Kept). ks ++ backup ∷ []) kept;
@@ -287,12 +297,12 @@ module _ {H : Type 0} (world : H → World) (tells : Bool) (told : IsTrue tells)
           own_gone file leaves = ⊎_elim (gone.durable.none_back file) (gone.durable.only file) (left_end ship file leaves)
 
     pub from_merge : (first : H) (account : Account) → before.entry primary ≡ account.entry primary → before.kept ≡ account.kept → (world from).guids ≡ (world first).guids → (world from).times ≡ (world first).times → (world from).said ≡ (world first).said
-        → TakesSteps world tells primary standby since (Apply ∷ (Discard ∷ [])) None (Ok Done) mid new → IsShipped world first new account primary standby
-    from_merge first account same kept guids times said merges = by merges.taken refl merges.after
+        → AtEachMoment (world first) (world from) (λ files said. said ≡ (world first).said) → TakesSteps world tells primary standby since (Apply ∷ (Discard ∷ [])) None (Ok Done) mid new → IsShipped world first new account primary standby
+    from_merge first account same kept guids times said quiet merges = by merges.taken refl merges.after
       where
         by : (taken : Result Reply Fault) → merges.taken ≡ taken → AfterMerge world (λ reply m. TakesSteps world tells primary standby since (Discard ∷ []) (Some reply) (Ok Done) m new) taken (Ok Done) merges.mid new → IsShipped world first new account primary standby
         by (Ok reply) is discards = elim discards.after [
-          | inl after ↦ last_ships merges.taken merges.mid merges.serves reply is discards after.0 after.1 first account same kept guids times said
+          | inl after ↦ last_ships merges.taken merges.mid merges.serves reply is discards after.0 after.1 first account same kept guids times said quiet
           | inr stops ↦ stops_never (Err DeviceError) discards.mid new (λ e. cc) stops
         ]
         by (Err (Refused refusal)) is after = absurd (let no : Done ≡ RefusedStatus = after.ended in cc)
@@ -313,11 +323,11 @@ module _ {H : Type 0} (world : H → World) (tells : Bool) (told : IsTrue tells)
         by (Ok Done) goes after =
             let gave : GaveNothing (world copies.mid) (world new) = merge_gave since copies.mid new after in
             let its : GivesNew (world h) (world copies.mid) stage.now.kept = λ guid is.
-                subst (λ (ks : List Kept). IsNewGuid (world h) ks guid) (sym stage.kept)
-                (stage.new guid (fresh guid (gave.guids ∙ is ∙ ap (λ (l : List (List ℕ)). l ++ guid ∷ []) stage.guids))) in
+            subst (λ (ks : List Kept). IsNewGuid (world h) ks guid) (sym stage.kept)
+            (stage.new guid (fresh guid (gave.guids ∙ is ∙ ap (λ (l : List (List ℕ)). l ++ guid ∷ []) stage.guids))) in
             let copy : BacksUp (world h) (world copies.mid) stage.now primary since ship =
             copied world tells told timely beside primary standby fits given since h copies.mid goes stage.now stage.stands (names_then primary standby fits given apart (world first) (world h) account stage names) b (shows_then primary standby fits given apart (world first) (world h) account stage off b shows) its in
-            from_merge since h copies.mid new stage.now copy off first account (same_primary primary standby fits given apart (world first) (world h) account stage off stands.now) stage.kept stage.guids stage.times stage.said after
+            from_merge since h copies.mid new stage.now copy off first account (same_primary primary standby fits given apart (world first) (world h) account stage off stands.now) stage.kept stage.guids stage.times stage.said stage.quiet after
         by (Ok RefusedStatus) goes after = stops_never (Ok RefusedStatus) copies.mid new (λ e. cc) after
         by (Ok UsageStatus) goes after = stops_never (Ok UsageStatus) copies.mid new (λ e. cc) after
         by (Ok DeviceStatus) goes after = stops_never (Ok DeviceStatus) copies.mid new (λ e. cc) after

@@ -1,22 +1,21 @@
 -- What a ship's plan says of the files before its first step: the primary is another file than the ship file, what is removed is no database, and what is
 -- merged is of a kept backup.
-use Rattle.std.proofs.Common.{◌≡◌, ◌≢◌, ◌⊎◌, inl, inr, ℕ, List, true, false, refl, sym, ap, subst, ◌∙◌, arith, Bool, ◌==◌, ◌||◌, not, is_some, Option, Some, None, Result, Ok, Err}
-use Rattle.nb_top.proofs.Common.{true≢false, is_header, state_of, applying_state, normal_state, File, Files, bytes_of, is_delta, Refusal, Base, IsBase, Account, Kept, Image, Cause, Contents, read_level, delta_name, owner, has_main, formed_header, Stands, IsKeptAs, to_base, IsMergeable, TakesKept, ShowsIn, has_delta, is_free_name, is_free_file, some_same, ok_same, same_name, and_parts, err_ok}
+use Rattle.std.proofs.Common.{◌≡◌, ◌≢◌, ◌⊎◌, inl, inr, ℕ, List, true, false, refl, sym, ap, subst, ◌∙◌, arith, Bool, ◌||◌, not, is_some, Option, Some, None, Result, Ok, Err}
+use Rattle.nb_top.proofs.Common.{true≢false, is_header, state_of, applying_state, File, Files, bytes_of, is_delta, Refusal, Base, IsBase, Account, Kept, Cause, Contents, read_level, delta_name, owner, has_main, formed_header, Stands, IsKeptAs, to_base, IsMergeable, TakesKept, ShowsIn, has_delta, is_free_name, is_free_file, some_same, ok_same, same_name, and_parts, err_ok}
 use Rattle.nb_fields.specs.Header.{guid_of, pending_of}
 use Rattle.nb_inplace.proofs.VerdictLaws.{IsAccepted, IsFor, accepted, as_it_stands, begun}
 use Rattle.nb_model.specs.Causes.{broken_at}
 use Rattle.nb_model.specs.Chains.{History, Slot, Spot, backup_spot, guid_in, pages_of}
-use Rattle.nb_model.specs.Stands.{GoesOn, IsRemembered, NamesPast, nil}
+use Rattle.nb_model.specs.Stands.{GoesOn, IsRemembered, NamesPast}
 use Rattle.nb_model.proofs.BackupWell.{backup_found, chain_rows}
-use Rattle.nb_ship.specs.Finds.{Finds, HoldsApplied, HoldsLevel, HoldsNext, HoldsNone, HoldsPending, IsIn, IsReady}
+use Rattle.nb_ship.specs.Finds.{Finds, HoldsNext}
 use Rattle.nb_ship.specs.Looks.{is_foreign, look_at, read_in}
 use Rattle.nb_ship.specs.Names.{ship_of}
-use Rattle.nb_ship.specs.Steps.{first_step, since}
+use Rattle.nb_ship.specs.Steps.{first_step}
 use Rattle.nb_ship.specs.declared.found.Found.{Found}
 use Rattle.nb_ship.specs.declared.found.Found.TheVariants.{Applied, Broken, Next, Nothing, Pending}
 use Rattle.nb_ship.specs.declared.found.Look.{Look}
-use Rattle.nb_ship.specs.declared.steps.Step.{Step}
-use Rattle.nb_ship.specs.declared.steps.Step.TheVariants.{Apply, Copy, Discard}
+use Rattle.nb_ship.specs.declared.steps.Step.TheVariants.{Apply, Discard}
 use Rattle.nb_ship.proofs.FindsLaws.{what_is_found}
 use Rattle.nb_top.specs.declared.ship_plan.ShipPlan.{ShipPlan}
 use Rattle.nb_top.specs.ShipDone.{HasStandby}
@@ -29,6 +28,22 @@ use Rattle.nb_top.proofs.SureFiles.{opens_in_use}
 -- the bytes of a file that isn't there are none
 bytes_there : (file : File) (c : Contents) → read_level (bytes_of file) ≡ Ok c → is_header (bytes_of file) ≡ false
 bytes_there file c read = level_unheaded (bytes_of file) c read
+
+-- A backup that the history of a database names is kept.
+pub history_kept : (files : Files) (account : Account) → Stands files account → (name : List ℕ) → is_delta name ≡ false → (b : Base) → ShowsIn name b files → (guid : List ℕ) → broken_at (pages_of History b.image) ≡ None
+    → names_backup b.image guid ≡ true → (r : Kept) × IsKeptAs account.kept guid r
+history_kept files account stands name plain b shows guid unbroken named = by (backup_spot (λ (slot : Slot). same_name (guid_in slot) guid) b.image) refl named
+  where
+    entry : account.entry name ≡ IsBase b
+    entry = stands.same_image name plain ∙ shown_entry files name b shows
+
+    by : (spot : Option Spot) → backup_spot (λ (slot : Slot). same_name (guid_in slot) guid) b.image ≡ spot → is_some spot ≡ true → (r : Kept) × IsKeptAs account.kept guid r
+    by None is some = absurd (true≢false (sym some))
+    by (Some row) is some =
+        let past : NamesPast account.kept (λ (r : Kept). GoesOn r b.image) b.image = stands.history.images b.image (to_base name b entry refl) in
+        let remembered : IsRemembered account.kept (λ (r : Kept). GoesOn r b.image) row.bytes =
+        backup_found (IsRemembered account.kept (λ (r : Kept). GoesOn r b.image)) (λ (slot : Slot). same_name (guid_in slot) guid) b.image row unbroken is (chain_rows account.kept (λ (r : Kept). GoesOn r b.image) b.image past) in
+        (remembered.backup, subst (λ (g : List ℕ). IsKeptAs account.kept g remembered.backup) (row_named b.image guid row is) remembered.kept_as)
 
 -- What a plan is made of.
 pub record IsPlanned (files : Files) (primary standby : List ℕ) (plan : ShipPlan) : Type 0 where
@@ -126,25 +141,9 @@ module _ (files : Files) (primary standby : List ℕ) (plan : ShipPlan) (its : I
 
   -- what is merged first
   module _ (account : Account) (stands : Stands files account) (primary_plain : is_delta primary ≡ false) (standing : HasStandby files account.kept standby) where
-    abbrev GoesOnHere : Kept → Type 0
-    GoesOnHere r = GoesOn r its.base.image
-
     -- a backup that the history of the primary names is kept
     named_kept : (guid : List ℕ) → broken_at (pages_of History its.base.image) ≡ None → names_backup its.base.image guid ≡ true → (r : Kept) × IsKeptAs account.kept guid r
-    named_kept guid unbroken named = by (backup_spot (λ (slot : Slot). same_name (guid_in slot) guid) its.base.image) refl named
-      where
-        entry : account.entry primary ≡ IsBase its.base
-        entry = stands.same_image primary primary_plain ∙ shown_entry files primary its.base its.shows
-
-        past : NamesPast account.kept GoesOnHere its.base.image
-        past = stands.history.images its.base.image (to_base primary its.base entry refl)
-
-        by : (spot : Option Spot) → backup_spot (λ (slot : Slot). same_name (guid_in slot) guid) its.base.image ≡ spot → is_some spot ≡ true → (r : Kept) × IsKeptAs account.kept guid r
-        by None is some = absurd (true≢false (sym some))
-        by (Some row) is some =
-            let remembered : IsRemembered account.kept GoesOnHere row.bytes =
-            backup_found (IsRemembered account.kept GoesOnHere) (λ (slot : Slot). same_name (guid_in slot) guid) its.base.image row unbroken is (chain_rows account.kept GoesOnHere its.base.image past) in
-            (remembered.backup, subst (λ (g : List ℕ). IsKeptAs account.kept g remembered.backup) (row_named its.base.image guid row is) remembered.kept_as)
+    named_kept guid unbroken named = history_kept files account stands primary primary_plain its.base its.shows guid unbroken named
 
     module _ (bytes : List ℕ) (c : Contents) (m : IsMergeable files standby ship bytes c) where
       abbrev accepts : IsAccepted files ship bytes c

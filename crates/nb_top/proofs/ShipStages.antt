@@ -1,6 +1,6 @@
 -- What stands between two steps of a ship, before its copy: all that stood as it began, but for the standby and the ship file.
-use Rattle.std.proofs.Common.{◌≡◌, ◌≢◌, inl, inr, ℕ, List, [], ◌∷◌, ◌++◌, true, false, refl, sym, ap, subst, ◌∙◌, Some, None, Result, Ok, Err}
-use Rattle.nb_top.proofs.Common.{File, Files, bytes_of, is_header, is_delta, is_name, World, Leaves, LeavesAll, IsTimely, Fault, GaveNothing, Quiet, decide, left_before, Base, Account, Missing, with_entry, with_kept, Kept, delta_name, entry_of_files, owner, no_main, Stands, ShowsIn, IsMergeable, TakesKept, Contents, Reply, Serves, merging, HaveNames, StandsFor, is_database}
+use Rattle.std.proofs.Common.{◌≡◌, ◌≢◌, inl, inr, ℕ, List, true, false, refl, sym, ap, subst, ◌∙◌, Some, None, Result}
+use Rattle.nb_top.proofs.Common.{File, Files, bytes_of, is_header, is_delta, is_name, World, Leaves, LeavesAll, IsTimely, AtEachMoment, Fault, Quiet, joined, weaker, decide, left_before, Base, Account, Missing, with_entry, with_kept, delta_name, entry_of_files, owner, no_main, Stands, ShowsIn, IsMergeable, TakesKept, Contents, Reply, Serves, merging, HaveNames, StandsFor, is_database}
 use Rattle.nb_model.specs.NewGuids.{IsNewGuid}
 use Rattle.nb_ship.specs.Names.{ship_of}
 use Rattle.nb_top.specs.Shipped.{IsGone, Removes, merge_turn}
@@ -20,6 +20,7 @@ pub record IsStage (standby : List ℕ) (first w : World) (account : Account) : 
   pub guids : w.guids ≡ first.guids
   pub times : w.times ≡ first.times
   pub said : w.said ≡ first.said
+  pub quiet : AtEachMoment first w (λ files said. said ≡ first.said)
 
 -- Nothing but what was said changes: the files stand for the account still.
 module _ (old new : World) (account : Account) (stands : StandsFor old account) (beside : LeavesAll new new.files) (same : new.files ≡ old.files) (left : (m : List ℕ) (file : File) → Leaves new m file → Leaves old m file) where
@@ -80,6 +81,7 @@ module _ (primary standby : List ℕ) (fits : is_database primary ≡ true) (giv
       guids = removes.gave.guids ∙ stage.guids;
       times = removes.gave.times ∙ stage.times;
       said = removes.left.said ∙ stage.said;
+      quiet = joined first w mid _ _ _ stage.quiet removes.left.moments (λ files said is. is) (λ files said l. l.output ∙ stage.said);
     }
 
     -- and so does a merge of a kept backup
@@ -97,6 +99,7 @@ module _ (primary standby : List ℕ) (fits : is_database primary ≡ true) (giv
           guids = serves.gave.guids ∙ stage.guids;
           times = serves.gave.times ∙ stage.times;
           said = serves.left.said ∙ stage.said;
+          quiet = joined first w mid _ _ _ stage.quiet serves.left.moments (λ files said is. is) (λ files said l. l.output ∙ stage.said);
         }
 
   -- It begins with what changes nothing.
@@ -110,6 +113,7 @@ module _ (primary standby : List ℕ) (fits : is_database primary ≡ true) (giv
     guids = quiet.guids;
     times = quiet.times;
     said = quiet.said;
+    quiet = weaker old mid _ _ quiet.moments (λ files said is. is.output);
   }
     where
       left : (m : List ℕ) (file : File) → Leaves mid m file → Leaves old m file

@@ -1,7 +1,6 @@
 -- A merge and a removal of a ship keep what stands, and name no new GUID.
-use Rattle.std.proofs.Common.{◌≡◌, ◌≢◌, ◌⊎◌, inl, inr, ⊎_elim, ℕ, suc, ◌+◌, ◌≤◌, List, [], ◌∷◌, length, true, false, refl, sym, ap, subst, ◌∙◌, arith, length-append, Bool, ◌==◌, ◌&&◌, IsTrue, is_some, nat_le, Option, Some, None, Result, Ok, Err, Contains}
-use Rattle.nb_top.proofs.Common.{and_parts, true≢false, is_free_file, is_header, state_of, stalled_state, applying_state, normal_state, File, Files, bytes_of, with_file, is_delta, is_name, World, Leaves, LeavesAll, IsTimely, AtEachMoment, Fault, Refused, Device, Memory, Refusal, RunError, Other, Only, decide, left_before, left_with, with_file-same, with_file-other, Base, IsBase, Missing, Account, with_entry, Kept, delta_name, Reply, Image, image_in, in_place, Contents, read_level, Event, only_refusal, only_turn, merge, merged, owner_of_entry, has_main, formed_header, delta_named, no_main, with_kept, Stands, IsKeptAs, nil, IsMergeable, ShowsIn, OneTurn, IsDoneFor, TakesKept, leaves_all, merging, IsServed, ServedAs, Serves, TurnsTo, HoldsKept, StandsFor, HaveNames, some_same, ok_same, some_none, none_some, apply_turn, status_after, has_delta}
-use Rattle.nb_host.specs.Crash.{IsDurable}
+use Rattle.std.proofs.Common.{◌≡◌, ◌≢◌, ◌⊎◌, inl, inr, ⊎_elim, ℕ, List, [], ◌∷◌, length, true, false, refl, sym, ap, subst, ◌∙◌, arith, Bool, ◌==◌, ◌&&◌, IsTrue, is_some, nat_le, Some, None, Result, Ok, Err}
+use Rattle.nb_top.proofs.Common.{and_parts, true≢false, is_free_file, is_header, state_of, applying_state, File, Files, bytes_of, with_file, is_delta, World, Leaves, LeavesAll, IsTimely, AtEachMoment, Fault, Device, Refusal, Other, Only, decide, left_before, left_with, with_file-same, with_file-other, Base, IsBase, Missing, Account, with_entry, Kept, delta_name, Reply, image_in, in_place, Contents, read_level, Event, only_refusal, only_turn, merge, merged, owner_of_entry, has_main, formed_header, no_main, with_kept, Stands, IsMergeable, ShowsIn, OneTurn, IsDoneFor, TakesKept, leaves_all, merging, IsServed, ServedAs, Serves, TurnsTo, HoldsKept, StandsFor, some_same, ok_same, some_none, apply_turn, status_after, has_delta}
 use Rattle.nb_host.specs.declared.faults.RunError.TheVariants.{Device as DeviceError}
 use Rattle.nb_inplace.specs.Apply.{base_with}
 use Rattle.nb_inplace.proofs.VerdictLaws.{IsAccepted, accepted}
@@ -12,7 +11,6 @@ use Rattle.nb_model.proofs.RemovedLaws.{removed_stands}
 use Rattle.nb_model.proofs.StandsLaws.{header_no_level, state_of_applying}
 use Rattle.nb_ship.specs.Finds.{IsReady}
 use Rattle.nb_ship.specs.Names.{ship_of}
-use Rattle.nb_ship.specs.declared.found.Look.{Look}
 use Rattle.nb_ship.specs.declared.found.Found.TheVariants.{Applied}
 use Rattle.nb_ship.proofs.FindsLaws.{what_is_found}
 use Rattle.nb_ship.proofs.MergedLaws.{applied_found}

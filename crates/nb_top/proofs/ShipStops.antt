@@ -1,11 +1,9 @@
 -- A ship that is stopped: what a crash leaves of the primary and of the standby at each of its moments, part by part.
-use Rattle.std.proofs.Common.{◌≡◌, ◌≢◌, ◌⊎◌, inl, inr, ⊎_elim, ℕ, zero, suc, ◌≤◌, List, [], ◌∷◌, ◌++◌, length, take, replicate, get_or, true, false, refl, sym, ap, subst, ◌∙◌, arith, Bool, IsTrue, Option, Some, None, Result, Ok, Err, Contains}
-use Rattle.nb_top.proofs.Common.{true≢false, append-nil, take_all, is_header, state_of, normal_state, File, Files, bytes_of, with_file, is_delta, World, Leaves, LeavesAll, IsTimely, AtEachMoment, Fault, Refused, Device, Memory, RunError, GaveNothing, Quiet, Other, OfFiles, joined, weaker, decide, left_before, left_with, with_file-same, with_file-other, Base, Account, Missing, with_entry, with_kept, Kept, delta_name, owner, no_main, delta_same, Contents, Reply, Refusal, ShowsIn, StandsIn, Trail, IsMergeable, OneTurn, IsDoneFor, TakesKept, ServedAs, Serves, merging, HoldsKept, nil, StandsFor, HaveNames, SaysLine, is_database, Status, Done, PerformsRun, RunStands, RunLeft, StandsAsked, IsUnbegun, Target, IsSure, IsUndone, target_of, seen_after, kept_after, steps_of, MayTouch, TouchesOnly, AnySessionAsks, ToRun, Request, plan_of, asks_of, BackupSince, Sparingly, Event}
+use Rattle.std.proofs.Common.{◌≡◌, ◌≢◌, ◌⊎◌, inl, inr, ⊎_elim, ℕ, zero, suc, ◌<◌, List, [], ◌∷◌, ◌++◌, length, take, replicate, get_or, true, false, refl, sym, ap, subst, ◌∙◌, arith, Bool, IsTrue, Option, Some, None, Result, Ok, Err}
+use Rattle.nb_top.proofs.Common.{true≢false, take_all, is_header, File, Files, bytes_of, with_file, is_delta, World, Leaves, LeavesAll, IsTimely, AtEachMoment, Fault, Refused, Device, Memory, RunError, Quiet, Other, joined, weaker, decide, left_before, left_with, with_file-same, with_file-other, Base, Account, Missing, with_entry, with_kept, Kept, delta_name, owner, no_main, delta_same, image_scn, Contents, Reply, Refusal, ShowsIn, StandsIn, Trail, IsMergeable, OneTurn, TakesKept, ServedAs, Serves, merging, HoldsKept, nil, StandsFor, HaveNames, SaysLine, is_database, Status, Done, PerformsRun, RunLeft, StandsAsked, IsUnbegun, Target, IsSure, IsUndone, target_of, seen_after, kept_after, steps_of, MayTouch, TouchesOnly, AnySessionAsks, ToRun, Request, plan_of, asks_of, BackupSince, Sparingly, Event}
 use Rattle.nb_ended.specs.declared.status.Status.TheVariants.{Refused as RefusedStatus, Usage as UsageStatus, Device as DeviceStatus, Memory as MemoryStatus}
 use Rattle.nb_host.specs.declared.faults.RunError.TheVariants.{Device as DeviceError, Memory as MemoryError}
-use Rattle.nb_change.proofs.MomentLaws.{started}
 use Rattle.nb_inplace.specs.Apply.{base_with}
-use Rattle.nb_inplace.proofs.VerdictLaws.{accepted}
 use Rattle.nb_model.specs.NewGuids.{IsNewGuid}
 use Rattle.nb_model.specs.Trail.{StandsOn}
 use Rattle.nb_ship.specs.Answers.{Says}
@@ -16,10 +14,9 @@ use Rattle.nb_ship.specs.declared.steps.Step.TheVariants.{Apply, Copy, Discard}
 use Rattle.nb_top.specs.declared.ship_plan.ShipPlan.{ShipPlan}
 use Rattle.nb_top.specs.Done.{GoesOn}
 use Rattle.nb_top.specs.ShipDone.{BacksUp, GivesNew, HasStandby}
-use Rattle.nb_top.specs.Shipped.{AfterCopy, AfterMerge, AfterPlan, Copies, Discards, IsGone, Merges, Refuses, Removes, Replies, ShipsByPlan, Stops, TakesSteps, copying, merge_turn, status_of_end}
-use Rattle.nb_top.specs.ShipStops.{GivesFirstNew, IsInItsRun, IsShipsOwn, IsStopped, PrimaryLeft, StandbyLeft, as_it_was, in_its_run, is_unbegun, is_half, is_merged, is_own, opened_target, was_begun, was_named}
+use Rattle.nb_top.specs.Shipped.{AfterCopy, AfterMerge, AfterPlan, Copies, IsGone, Merges, Removes, ShipsByPlan, Stops, TakesSteps, copying, merge_turn, status_of_end}
+use Rattle.nb_top.specs.ShipStops.{GivesFirstNew, IsShipsOwn, IsStopped, PrimaryLeft, StandbyLeft, as_it_was, in_its_run, is_unbegun, is_half, is_merged, is_own, opened_target, was_begun, was_named}
 use Rattle.nb_top.specs.Shipping.{ship_plan}
-use Rattle.nb_top.proofs.AsWas.{as_was, was_has, was_off}
 use Rattle.nb_top.proofs.GoesLaws.{ended_so}
 use Rattle.nb_top.proofs.KnownLaws.{told_opened}
 use Rattle.nb_top.proofs.LongNames.{ship_apart, ship_file}
@@ -89,6 +86,10 @@ module _ {H : Type 0} (world : H → World) (tells : Bool) (told : IsTrue tells)
     stands : StandsFor (world h) now
     primary_left : (files : Files) → Leaves (world h) primary (files primary) → Leaves (world h) (delta_name primary) (files (delta_name primary)) → HoldsKept files now.kept → PrimaryLeft (world old) account primary ship files
     standby_left : (files : Files) → Leaves (world h) standby (files standby) → Leaves (world h) (delta_name standby) (files (delta_name standby)) → StandbyLeft world old primary standby files
+
+  -- so it is of any account with the same records
+  retold : (h : H) (now other : Account) → IsMoment h now → StandsFor (world h) other → other.kept ≡ now.kept → IsMoment h other
+  retold h now other m stands same = record { stands = stands; primary_left = λ files a b holds. m.primary_left files a b (subst (HoldsKept files) same holds); standby_left = m.standby_left }
 
   at_now : (h : H) (now : Account) → IsMoment h now → (files : Files) → LeavesAll (world h) files → IsStopped world old account primary standby files
   at_now h now m files leaves = record {
@@ -215,17 +216,17 @@ module _ {H : Type 0} (world : H → World) (tells : Bool) (told : IsTrue tells)
     beside_off : Other (MayTouch (Ok request)) (delta_name standby)
     beside_off = untouched (delta_name standby) (no_main standby primary own_plain) (λ e. apart (sym (delta_same standby primary e))) standby_beside_ship
 
-    names_now : HaveNames (world h).files
+    abbrev names_now : HaveNames (world h).files
     names_now = names_then primary standby fits given apart (world old) (world h) account stage names
 
-    shows_now : ShowsIn primary b (world h).files
+    abbrev shows_now : ShowsIn primary b (world h).files
     shows_now = shows_then primary standby fits given apart (world old) (world h) account stage off b shows
 
     same_now : stage.now.entry primary ≡ account.entry primary
     same_now = same_primary primary standby fits given apart (world old) (world h) account stage off before_stands.now
 
     module _ (further : List ℕ) (long : length further ≡ 16) where
-      performs : PerformsRun (status_of_end ended) (world h) (world mid) (Ok request) stage.now (copy_given world tells told timely beside primary standby fits given since h mid ended goes stage.now stage.stands names_now b shows_now further long)
+      abbrev performs : PerformsRun (status_of_end ended) (world h) (world mid) (Ok request) stage.now (copy_given world tells told timely beside primary standby fits given since h mid ended goes stage.now stage.stands names_now b shows_now further long)
       performs = copy_performs world tells told timely beside primary standby fits given since h mid ended goes stage.now stage.stands names_now b shows_now further long
 
       abbrev events : List Event
@@ -386,10 +387,10 @@ module _ {H : Type 0} (world : H → World) (tells : Bool) (told : IsTrue tells)
       abbrev mid : H
       mid = copies.mid
 
-      names_h : HaveNames (world h).files
+      abbrev names_h : HaveNames (world h).files
       names_h = names_then primary standby fits given apart (world old) (world h) account stage names
 
-      shows_h : ShowsIn primary b (world h).files
+      abbrev shows_h : ShowsIn primary b (world h).files
       shows_h = shows_then primary standby fits given apart (world old) (world h) account stage off b shows
 
       -- nothing is given after it
@@ -404,16 +405,19 @@ module _ {H : Type 0} (world : H → World) (tells : Bool) (told : IsTrue tells)
       copy_here : (ended : Result Status RunError) (goes : GoesOn world tells ended h mid (copying primary since ship)) → (world new).guids ≡ (world mid).guids → Moments h mid
       copy_here ended goes later = elim (copy_opened world tells told timely beside primary standby fits given since h mid ended goes stage.now stage.stands names_h b shows_h further fresh.sixteen) [
         | inl small ↦ copy_moments since h mid stage m ended goes before_stands names b shows further fresh.sixteen
-            (copy_sure world tells told timely beside primary standby fits given since h mid ended goes stage.now stage.stands names_h b shows_h further fresh.sixteen small is_new)
+            (copy_sure world tells told timely beside primary standby fits given since h mid ended goes stage.now stage.stands names_h b shows_h further fresh.sixteen small (is_new small))
         | inr undone ↦ nothing ended undone
       ]
         where
+          ids : (given_ids : List (List ℕ)) × ((world mid).guids ≡ (world h).guids ++ given_ids) × ((copy_given world tells told timely beside primary standby fits given since h mid ended goes stage.now stage.stands names_h b shows_h further fresh.sixteen).guids ≡ given_ids ++ further ∷ [])
           ids = copy_ids world tells told timely beside primary standby fits given since h mid ended goes stage.now stage.stands names_h b shows_h further fresh.sixteen
 
-          is_new : IsNewGuid (world h) stage.now.kept (copy_guid world tells told timely beside primary standby fits given since h mid ended goes stage.now stage.stands names_h b shows_h further fresh.sixteen)
-          is_new = subst (λ (ks : List Kept). IsNewGuid (world h) ks _) (sym stage.kept)
-              (stage.new _ (subst (IsNewGuid (world old) account.kept) (ap (λ (gs : List (List ℕ)). get_or gs 0 nil) (sym ids.2))
-              (fresh.first ids.0 (later ∙ ids.1 ∙ ap (λ (l : List (List ℕ)). l ++ ids.0) stage.guids))))
+          moved : (g : List ℕ) → IsNewGuid (world old) account.kept g → IsNewGuid (world h) stage.now.kept g
+          moved g new_then = subst (λ (ks : List Kept). IsNewGuid (world h) ks g) (sym stage.kept) (stage.new g new_then)
+
+          is_new : (small : image_scn b.image < 4294967296) → IsNewGuid (world h) stage.now.kept (copy_guid world tells told timely beside primary standby fits given since h mid ended goes stage.now stage.stands names_h b shows_h further fresh.sixteen small)
+          is_new small = moved (copy_guid world tells told timely beside primary standby fits given since h mid ended goes stage.now stage.stands names_h b shows_h further fresh.sixteen small)
+              (subst (IsNewGuid (world old) account.kept) (ap (λ (gs : List (List ℕ)). get_or gs 0 nil) (sym ids.2)) (fresh.first ids.0 (later ∙ ids.1 ∙ ap (λ (l : List (List ℕ)). l ++ ids.0) stage.guids)))
 
           nothing : (e : Result Status RunError) → IsUndone e (world h) (world mid) → Moments h mid
           nothing (Ok status) none = absurd none
@@ -426,7 +430,7 @@ module _ {H : Type 0} (world : H → World) (tells : Bool) (told : IsTrue tells)
           by (Ok Done) goes after =
               let later : (world new).guids ≡ (world mid).guids = rest_guids since result mid new after in
               let its : GivesNew (world h) (world mid) stage.now.kept = λ guid is.
-                  subst (λ (ks : List Kept). IsNewGuid (world h) ks guid) (sym stage.kept) (stage.new guid (fresh.first (guid ∷ []) (later ∙ is ∙ ap (λ (l : List (List ℕ)). l ++ guid ∷ []) stage.guids))) in
+              subst (λ (ks : List Kept). IsNewGuid (world h) ks guid) (sym stage.kept) (stage.new guid (fresh.first (guid ∷ []) (later ∙ is ∙ ap (λ (l : List (List ℕ)). l ++ guid ∷ []) stage.guids))) in
               let copy : BacksUp (world h) (world mid) stage.now primary since ship = copied world tells told timely beside primary standby fits given since h mid goes stage.now stage.stands names_h b shows_h its in
               then_moments h mid new (copy_here (Ok Done) goes later)
               (copied_moments since result h mid new stage.now copy (copy_moment since h mid stage m (Ok Done) goes before_stands names b shows copy) after)
@@ -440,9 +444,11 @@ module _ {H : Type 0} (world : H → World) (tells : Bool) (told : IsTrue tells)
     from_discard : (merged : Option Reply) (h : H) (stage : Stage h) → IsMoment h stage.now → is_header (bytes_of ((world h).files ship)) ≡ false
         → TakesSteps world tells primary standby since (Discard ∷ (Copy ∷ (Apply ∷ (Discard ∷ [])))) merged result h new → Moments h new
     from_discard merged h stage m unheaded discards = elim discards.after [
-      | inl after ↦ then_moments h discards.mid new here
-          (from_copy discards.mid (stage_removed primary standby fits given apart (world old) (world h) account stage (world discards.mid) (beside h) unheaded discards.removes after.0)
-          (removal_moment h discards.mid stage.now m unheaded discards.removes after.0) after.1)
+      | inl after ↦
+          let then : Stage discards.mid = stage_removed primary standby fits given apart (world old) (world h) account stage (world discards.mid) (beside h) unheaded discards.removes after.0 in
+          then_moments h discards.mid new here
+          (from_copy discards.mid then
+          (retold discards.mid (with_entry ship (Missing None) stage.now) then.now (removal_moment h discards.mid stage.now m unheaded discards.removes after.0) then.stands (then.kept ∙ sym (with_kept ship (Missing None) stage.now ∙ stage.kept))) after.1)
       | inr stops ↦ stops_there (Err DeviceError) result h discards.mid new here stops
     ]
       where
@@ -455,52 +461,54 @@ module _ {H : Type 0} (world : H → World) (tells : Bool) (told : IsTrue tells)
         → TakesSteps world tells primary standby since (Apply ∷ (Discard ∷ (Copy ∷ (Apply ∷ (Discard ∷ []))))) None result h new → Moments h new
     from_apply h stage m takes owns merges = merge_then h new stage.now m result _ merges takes owns (λ reply is after.
         let did : IsMergedFor (world h) (world merges.mid) standby ship reply = its_merge h merges.mid stage.now m merges.taken merges.serves reply is in
-        from_discard (Some reply) merges.mid
-        (stage_merged primary standby fits given apart (world old) (world h) account stage (world merges.mid) (beside h) (timely merges.mid) (beside merges.mid) merges.taken merges.serves takes reply did)
-        (merge_moment h merges.mid stage.now m merges.taken merges.serves takes owns reply did) (unheaded_then h merges.mid stage.now m merges.taken merges.serves reply is) after)
+        let then : Stage merges.mid = stage_merged primary standby fits given apart (world old) (world h) account stage (world merges.mid) (beside h) (timely merges.mid) (beside merges.mid) merges.taken merges.serves takes reply did in
+        let stood_then = stood h merges.mid stage.now m merges.taken merges.serves takes owns in
+        from_discard (Some reply) merges.mid then
+        (retold merges.mid stood_then.0 then.now (merge_moment h merges.mid stage.now m merges.taken merges.serves takes owns reply did) then.stands (then.kept ∙ sym (stood_then.2 ∙ stage.kept)))
+        (unheaded_then h merges.mid stage.now m merges.taken merges.serves reply is) after)
 
 -- ---- from the plan on
 
 module _ {H : Type 0} (world : H → World) (tells : Bool) (told : IsTrue tells) (timely : (host : H) → IsTimely (world host)) (beside : (host : H) → LeavesAll (world host) (world host).files)
     (primary standby : List ℕ) (fits : is_database primary ≡ true) (given : is_database standby ≡ true) (apart : primary ≢ standby) (old new : H) (account : Account) (stands : StandsFor (world old) account) (names : HaveNames (world old).files)
     (standing : HasStandby (world old).files account.kept standby) (further : List ℕ) (fresh : GivesFirstNew (world old) (world new) account.kept further) (result : Result Status RunError) (ships : ShipsByPlan world tells result old new primary standby) where
-  abbrev mid : H
-  mid = ships.mid
+  abbrev planned_at : H
+  planned_at = ships.mid
 
-  abbrev quiet : Quiet (world old) (world mid)
-  quiet = ships.quiet
+  abbrev before_plan : Quiet (world old) (world planned_at)
+  before_plan = ships.quiet
 
   abbrev Here : (from to : H) → Type 0
   Here from to = AtEachMoment (world from) (world to) (λ files said. IsStopped world old account primary standby files)
 
-  stage : IsStage standby (world old) (world mid) account
-  stage = stage_begins primary standby fits given apart (world old) (world mid) account stands (beside mid) quiet
+  stage : IsStage standby (world old) (world planned_at) account
+  stage = stage_begins primary standby fits given apart (world old) (world planned_at) account stands (beside planned_at) before_plan
 
-  left : (n : List ℕ) (file : File) → Leaves (world mid) n file → Leaves (world old) n file
-  left n file leaves = left_before (world old) (world mid) _ quiet.still.left n file tt leaves
+  left : (n : List ℕ) (file : File) → Leaves (world planned_at) n file → Leaves (world old) n file
+  left n file leaves = left_before (world old) (world planned_at) _ before_plan.still.left n file tt leaves
 
   -- nothing has happened
   as_before : (files : Files) → LeavesAll (world old) files → IsStopped world old account primary standby files
   as_before files leaves = record { primary_left = is_unbegun (leaves primary) (leaves (delta_name primary)) (stands.left files leaves); standby_left = as_it_was (leaves standby) }
 
-  planning_moments : Here old mid
-  planning_moments = weaker (world old) (world mid) _ _ quiet.moments (λ files said is. as_before files is.left)
+  planning_moments : Here old planned_at
+  planning_moments = weaker (world old) (world planned_at) _ _ before_plan.moments (λ files said is. as_before files is.left)
 
-  mid_left : (files : Files) → LeavesAll (world mid) files → LeavesAll (world old) files
-  mid_left files leaves n = left n (files n) (leaves n)
+  planned_left : (files : Files) → LeavesAll (world planned_at) files → LeavesAll (world old) files
+  planned_left files leaves n = left n (files n) (leaves n)
 
-  joined_on : Here mid new → Here old new
-  joined_on later = joined (world old) (world mid) (world new) _ _ _ planning_moments later (λ files said is. is) (λ files said is. is)
+  joined_on : Here planned_at new → Here old new
+  joined_on later = joined (world old) (world planned_at) (world new) _ _ _ planning_moments later (λ files said is. is) (λ files said is. is)
 
   module _ (off : primary ≢ ship_of standby) where
-    moment : IsMoment world tells told timely beside primary standby fits given apart off old account mid stage.now
+    moment : IsMoment world tells told timely beside primary standby fits given apart off old account planned_at stage.now
     moment = record {
       stands = stage.stands;
       primary_left = λ files a b holds. is_unbegun (left primary (files primary) a) (left (delta_name primary) (files (delta_name primary)) b) (subst (HoldsKept files) stage.kept holds);
       standby_left = λ files a b. as_it_was (left standby (files standby) a);
     }
 
-  of_plan : (plan : ShipPlan) → ship_plan (world old).files primary standby ≡ Ok plan → TakesSteps world tells primary standby plan.since (steps_from plan.first) None result mid new → Here mid new
+  of_plan : (plan : ShipPlan) → ship_plan (world old).files primary standby ≡ Ok plan → TakesSteps world tells primary standby plan.since (steps_from plan.first) None result planned_at new → Here planned_at new
   of_plan plan ok takes = by plan.first refl takes
     where
       its : IsPlanned (world old).files primary standby plan
@@ -509,17 +517,17 @@ module _ {H : Type 0} (world : H → World) (tells : Bool) (told : IsTrue tells)
       off : primary ≢ ship_of standby
       off = primary_apart (world old).files primary standby plan its
 
-      m : IsMoment world tells told timely beside primary standby fits given apart off old account mid stage.now
+      m : IsMoment world tells told timely beside primary standby fits given apart off old account planned_at stage.now
       m = moment off
 
-      before : (bytes : List ℕ) (c : Contents) → IsMergeable (world mid).files standby (ship_of standby) bytes c → IsMergeable (world old).files standby (ship_of standby) bytes c
-      before bytes c mergeable = subst (λ (f : Files). IsMergeable f standby (ship_of standby) bytes c) quiet.still.files mergeable
+      before : (bytes : List ℕ) (c : Contents) → IsMergeable (world planned_at).files standby (ship_of standby) bytes c → IsMergeable (world old).files standby (ship_of standby) bytes c
+      before bytes c mergeable = subst (λ (f : Files). IsMergeable f standby (ship_of standby) bytes c) before_plan.still.files mergeable
 
-      by : (step : Step) → plan.first ≡ step → TakesSteps world tells primary standby plan.since (steps_from step) None result mid new → Here mid new
-      by Copy is steps = from_copy world tells told timely beside primary standby fits given apart off old account plan.since result new stands names its.base its.shows further fresh mid stage m steps
-      by Discard is steps = from_discard world tells told timely beside primary standby fits given apart off old account plan.since result new stands names its.base its.shows further fresh None mid stage m
-          (ap (λ (f : Files). is_header (bytes_of (f (ship_of standby)))) quiet.still.files ∙ removed_unheaded (world old).files primary standby plan its is) steps
-      by Apply is steps = from_apply world tells told timely beside primary standby fits given apart off old account plan.since result new stands names its.base its.shows further fresh mid stage m
+      by : (step : Step) → plan.first ≡ step → TakesSteps world tells primary standby plan.since (steps_from step) None result planned_at new → Here planned_at new
+      by Copy is steps = from_copy world tells told timely beside primary standby fits given apart off old account plan.since result new stands names its.base its.shows further fresh planned_at stage m steps
+      by Discard is steps = from_discard world tells told timely beside primary standby fits given apart off old account plan.since result new stands names its.base its.shows further fresh None planned_at stage m
+          (ap (λ (f : Files). is_header (bytes_of (f (ship_of standby)))) before_plan.still.files ∙ removed_unheaded (world old).files primary standby plan its is) steps
+      by Apply is steps = from_apply world tells told timely beside primary standby fits given apart off old account plan.since result new stands names its.base its.shows further fresh planned_at stage m
           (λ bytes c mergeable. subst (λ (ks : List Kept). TakesKept ks bytes c) (sym stage.kept)
           (first_takes (world old).files primary standby plan its account stands.now (primary_plain primary standby fits given apart) standing bytes c (before bytes c mergeable) is))
           (λ bytes c mergeable. own bytes c (before bytes c mergeable) is) steps
@@ -535,10 +543,10 @@ module _ {H : Type 0} (world : H → World) (tells : Bool) (told : IsTrue tells)
   ship_moments = by ships.planned ships.plan ships.after
     where
       -- where the plan is a refusal nothing but its line comes
-      refused : {T E : Type 0} (r : Result T E) (line : List ℕ) → SaysLine r (world mid) (world new) line → Here old new
-      refused r line says = joined_on (weaker (world mid) (world new) _ _ says.moments (λ files said front. as_before files (mid_left files front.left)))
+      refused : {T E : Type 0} (r : Result T E) (line : List ℕ) → SaysLine r (world planned_at) (world new) line → Here old new
+      refused r line says = joined_on (weaker (world planned_at) (world new) _ _ says.moments (λ files said front. as_before files (planned_left files front.left)))
 
-      by : (answer : Result ShipPlan Fault) → Says (ship_plan (world old).files primary standby) answer → AfterPlan world tells primary standby answer result mid new → Here old new
+      by : (answer : Result ShipPlan Fault) → Says (ship_plan (world old).files primary standby) answer → AfterPlan world tells primary standby answer result planned_at new → Here old new
       by (Ok plan) says takes = joined_on (of_plan plan says takes)
       by (Err (Refused refusal)) says after = refused result _ after.line
       by (Err Device) says after = subst (λ (k : H). Here old k) (sym after.1) planning_moments

@@ -12,6 +12,7 @@ pub mod Shipping
 pub mod Shipped
 pub mod ShipDone
 pub mod ShipStops
+pub mod ShipOnward
 pub mod Goes
 pub mod Shown
 pub mod ByTurns

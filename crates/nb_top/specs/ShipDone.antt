@@ -1,10 +1,11 @@
 -- What a ship leaves that was done, where the files stood for an account as it began.
-use Rattle.std.specs.Prelude.{◌≡◌, ◌≢◌, ℕ, List, [], ◌∷◌, ◌++◌, length, false, Some, Ok}
+use Rattle.std.specs.Prelude.{◌≡◌, ◌≢◌, ◌⊎◌, ℕ, ◌≤◌, List, [], ◌∷◌, ◌++◌, length, false, Some, Ok}
 use Rattle.nb_fields.specs.Header.{guid_of, pending_of, state_of}
 use Rattle.nb_fields.specs.States.{applying_state, normal_state}
 use Rattle.nb_host.specs.Files.{Files}
 use Rattle.nb_host.specs.World.{World}
 use Rattle.nb_host.specs.Crash.{LeavesAll}
+use Rattle.nb_host.specs.Moments.{AtEachMoment}
 use Rattle.nb_gather.specs.Making.{IsKept}
 use Rattle.nb_model.specs.declared.job.Ask.TheVariants.{BackupSince}
 use Rattle.nb_model.specs.declared.reply.Reply.TheVariants.{ScnPages}
@@ -57,11 +58,13 @@ pub record BacksUp (old new : World) (account : Account) (primary since ship : L
   pub kept : after.kept ≡ account.kept ++ backup ∷ []
   pub begun : kept_after account (Some (record { name = primary; creates = false })) (steps_of events) ≡ after.kept
   pub goes_on : (ask : Ask) × (backup.ask ≡ Some ask) × (ask.previous ≡ since)
+  pub level : (1 ≤ goes_on.0.level) × (goes_on.0.level ≤ 9)
   pub parent : (r : Kept) × IsKeptAs account.kept since r
   pub file : IsKept new ship (file_of 102 backup)
   pub guid : new.guids ≡ old.guids ++ backup.guid ∷ []
   pub time : (time : ℕ) × (new.times ≡ old.times ++ time ∷ [])
   pub silent : new.said ≡ old.said
+  pub quiet : AtEachMoment old new (λ files said. said ≡ old.said)
 
 -- ---- all of it
 
@@ -71,7 +74,8 @@ IsStandbyOf standby backup files = ShowsIn standby (base_of (as_standby backup.i
 
 -- A ship that was done. Its own copy backed the primary up, from a world in which the primary and the records were those of before; the primary is as
 -- that run left it, for good. The standby is what the begin of that backup kept, for good. One GUID and one time were given. The ship file is gone for good.
--- The reply tells the SCN of that backup and the pages of the standby. The files stand for an account with the records of before and that of this backup.
+-- The reply tells the SCN of that backup and the pages of the standby, and once a byte of it was said a crash leaves the standby so. The files stand for an
+-- account with the records of before and that of this backup.
 pub record IsShipped {H : Type 0} (world : H → World) (old new : H) (account : Account) (primary standby : List ℕ) : Type 0 where
   pub since : List ℕ
   pub from : H
@@ -87,6 +91,7 @@ pub record IsShipped {H : Type 0} (world : H → World) (old new : H) (account :
   pub guid : (world new).guids ≡ (world old).guids ++ copy.backup.guid ∷ []
   pub time : (time : ℕ) × ((world new).times ≡ (world old).times ++ time ∷ [])
   pub said : (world new).said ≡ (world old).said ++ line_text 1 (ScnPages copy.backup.scn (length (as_standby copy.backup.image)))
+  pub acknowledged : AtEachMoment (world old) (world new) (λ files said. (said ≡ (world old).said) ⊎ IsStandbyOf standby copy.backup files)
   pub later : Account
   pub stands : StandsFor (world new) later
   pub records : later.kept ≡ account.kept ++ copy.backup ∷ []

@@ -1,5 +1,5 @@
 -- What a stop of a ship leaves, at each moment of it.
-use Rattle.std.specs.Prelude.{◌≡◌, ◌⊎◌, ℕ, List, [], ◌∷◌, ◌++◌, length, take, true, false, Some, Ok}
+use Rattle.std.specs.Prelude.{◌≡◌, ℕ, List, [], ◌∷◌, ◌++◌, length, take, true, false, Some, Ok}
 use Rattle.std.specs.List.{slice_index_or}
 use Rattle.nb_fields.specs.Header.{pending_of, state_of}
 use Rattle.nb_fields.specs.States.{applying_state}
