@@ -1,4 +1,2 @@
 pub mod Advised
-
-pub mod Advised
 pub mod Dangers

@@ -2,7 +2,8 @@
 //! failed, and what is to be known of a job that was done.
 //!
 //! Texts alone: each is made of a job, of the reply that refused it and of what a look at the files told, and no file is asked here. It
-//! rests on `nb_model` for jobs, on `nb_page` for headers, on `jiff_core` for the calendar, on `uuid` for GUIDs and on `itoa` for numbers. The layer above looks, and says the texts.
+//! rests on `nb_model` for jobs, on `nb_page` for headers, on `jiff_core` for the calendar, on `uuid` for GUIDs and on `itoa` for numbers. The layer
+//! above looks, and says the texts.
 #![tactic(auto)]
 
 mod backup;

@@ -1,10 +1,14 @@
 // A ship that was refused, or that ended early.
-use crate::backup::backup;
+ghost use Rattle.std.specs.Prelude.{IfOk};
+ghost use Rattle.nb_advice.specs.Advised.{SaysOf, of_ship};
+
+use crate::backup::{full, no_scn, read_only};
+use crate::chain::broken_file;
 use crate::done::locked;
-use crate::opening::{no_file, opening};
+use crate::opening::{broken_page, opening};
 use crate::refused::Refused;
 use crate::seen::Seen;
-use crate::standby::{merge, unfinished, wrong_state};
+use crate::standby::{can_be_written, not_whole, other_pages, other_scn, unfinished, wrong_state};
 use nb_host::Name;
 use std::alloc::{AllocError, Global};
 
@@ -15,10 +19,10 @@ fn not_normal(
     standby: &Name,
     state: &str,
     seen: &Seen,
-) -> Result<Option<String>, AllocError> {
+) -> Result<String, AllocError> {
     match locked(alloc, primary, seen)? {
-        Some(text) => Ok(Some(format!(in alloc; "{text}, and give the same words again")?)),
-        None => Ok(Some(wrong_state(alloc, standby, state)?)),
+        Some(text) => format!(in alloc; "{text}, and give the same words again"),
+        None => wrong_state(alloc, standby, state),
     }
 }
 
@@ -27,18 +31,14 @@ fn wrong_access(
     alloc: Global,
     primary: &Name,
     standby: &Name,
-    refused: &Refused<'_>,
-    seen: &Seen,
-) -> Result<Option<String>, AllocError> {
+    access: &str,
+) -> Result<String, AllocError> {
     if primary == standby {
-        return Ok(Some(format!(in alloc;
-            "{primary} is named twice: a ship goes from one database to another"
-        )?));
-    }
-    if refused.values[0] == "0" {
-        merge(alloc, standby, refused, seen)
+        format!(in alloc; "{primary} is named twice: a ship goes from one database to another")
+    } else if access == "0" {
+        can_be_written(alloc, standby)
     } else {
-        backup(alloc, primary, refused, seen)
+        read_only(alloc, primary)
     }
 }
 
@@ -47,19 +47,18 @@ fn broken(
     alloc: Global,
     primary: &Name,
     standby: &Name,
-    refused: &Refused<'_>,
+    page: &str,
     seen: &Seen,
-) -> Result<Option<String>, AllocError> {
-    let page = refused.values[0];
+) -> Result<String, AllocError> {
     if seen.state.is_none() {
-        return opening(alloc, primary, refused, seen);
+        broken_page(alloc, primary, page)
+    } else if seen.standby.is_none() {
+        not_whole(alloc, standby, page)
+    } else {
+        format!(in alloc;
+            "page {page} of {primary} or of {standby} isn't what it has to be: nehumiro check {primary} says whether it is that one's; else make the standby anew by a restore"
+        )
     }
-    if seen.standby.is_none() {
-        return merge(alloc, standby, refused, seen);
-    }
-    Ok(Some(format!(in alloc;
-        "page {page} of {primary} or of {standby} isn't what it has to be: nehumiro check {primary} says whether it is that one's; else make the standby anew by a restore"
-    )?))
 }
 
 /// A restore, a creation or a merge wasn't finished, of the primary or of the standby.
@@ -68,14 +67,11 @@ fn not_finished(
     primary: &Name,
     standby: &Name,
     seen: &Seen,
-) -> Result<Option<String>, AllocError> {
-    let text = match seen.standby {
-        Some(header) if seen.state != Some(3) => {
-            unfinished(alloc, standby, Some(header.pending))?
-        }
-        _ => unfinished(alloc, primary, seen.pending)?,
-    };
-    Ok(Some(text))
+) -> Result<String, AllocError> {
+    match seen.standby {
+        Some(header) if seen.state != Some(3) => unfinished(alloc, standby, Some(header.pending)),
+        _ => unfinished(alloc, primary, seen.pending),
+    }
 }
 
 /// The ship file is none of the job's own.
@@ -91,6 +87,38 @@ fn foreign(alloc: Global, ship: &str, seen: &Seen) -> Result<String, AllocError>
     }
 }
 
+/// The ship file goes on from another backup than that of the standby.
+fn of_another(
+    alloc: Global,
+    standby: &Name,
+    ship: &str,
+    found: &str,
+    wanted: &str,
+) -> Result<String, AllocError> {
+    format!(in alloc;
+        "{ship} goes on from the backup {found}, and {standby} is of the backup {wanted}: it is another standby's; move it away, and give the same words again"
+    )
+}
+
+/// The history of the primary hasn't the backup of the standby.
+fn no_guid(
+    alloc: Global,
+    primary: &Name,
+    standby: &Name,
+    guid: &str,
+) -> Result<String, AllocError> {
+    format!(in alloc;
+        "the history of {primary} hasn't the backup {guid}, which {standby} is of (a restore loses the last one): make the standby anew: nehumiro -B 0 {primary} FILE, and restore that"
+    )
+}
+
+/// There is no standby.
+fn no_standby(alloc: Global, primary: &Name, standby: &Name) -> Result<String, AllocError> {
+    format!(in alloc;
+        "there is no standby {standby}: make one from a backup of {primary}, by a restore and a script with the line '1: access read_only'"
+    )
+}
+
 /// What is to be said where nothing is shipped, or not all.
 pub(crate) fn ship(
     alloc: Global,
@@ -98,28 +126,26 @@ pub(crate) fn ship(
     standby: &Name,
     refused: &Refused<'_>,
     seen: &Seen,
-) -> Result<Option<String>, AllocError> {
+) -> Result<Option<String>, AllocError>
+    ensures says { IfOk result (λ text. SaysOf of_ship refused.now.name.now text) }
+{
     let [value, found, wanted] = refused.values;
     let text = match refused.name {
-        "WrongState" => return not_normal(alloc, primary, standby, value, seen),
-        "Access" => return wrong_access(alloc, primary, standby, refused, seen),
-        "NotDatabase" => return broken(alloc, primary, standby, refused, seen),
-        "Unfinished" => return not_finished(alloc, primary, standby, seen),
-        "NoFile" if value == standby.as_str() => format!(in alloc;
-            "there is no standby {standby}: make one from a backup of {primary}, by a restore and a script with the line '1: access read_only'"
-        )?,
-        "NoFile" if value != primary.as_str() && !value.ends_with(".delta") => {
-            return no_file(alloc, value);
+        "WrongState" => not_normal(alloc, primary, standby, value, seen)?,
+        "Access" => wrong_access(alloc, primary, standby, value)?,
+        "NotDatabase" => broken(alloc, primary, standby, value, seen)?,
+        "Unfinished" => not_finished(alloc, primary, standby, seen)?,
+        "NoFile" if value == standby.as_str() && primary != standby => {
+            no_standby(alloc, primary, standby)?
         }
         "FileExists" => foreign(alloc, value, seen)?,
-        "ChainGuid" => format!(in alloc;
-            "{value} goes on from the backup {found}, and {standby} is of the backup {wanted}: it is another standby's; move it away, and give the same words again"
-        )?,
-        "NoGuid" => format!(in alloc;
-            "the history of {primary} hasn't the backup {value}, which {standby} is of (a restore loses the last one): make the standby anew: nehumiro -B 0 {primary} FILE, and restore that"
-        )?,
-        "ChainSize" | "ChainScn" | "BadLevel" => return merge(alloc, standby, refused, seen),
-        "Full" | "ScnExhausted" => return backup(alloc, primary, refused, seen),
+        "ChainGuid" => of_another(alloc, standby, value, found, wanted)?,
+        "NoGuid" => no_guid(alloc, primary, standby, value)?,
+        "BadLevel" => broken_file(alloc, value, found, seen)?,
+        "ChainSize" => other_pages(alloc, standby, value, found, wanted)?,
+        "ChainScn" => other_scn(alloc, standby, value, found, wanted)?,
+        "Full" => full(alloc, primary)?,
+        "ScnExhausted" => no_scn(alloc, primary)?,
         _ => return opening(alloc, primary, refused, seen),
     };
     Ok(Some(text))

@@ -45,7 +45,7 @@ fn copy<H: Host>(
         file: ship.copied(),
     };
     match settled(script_asking(alloc, primary, &ask))? {
-        Ok(script) => run_script(alloc, host, &script, Telling::Sparingly),
+        Ok(script) => run_script(alloc, host, &script, Telling::Sparingly, &mut None),
         Err(_) => unreachable!(),
     }
 }
