@@ -6,7 +6,7 @@ use crate::backup::{backup, lock, not_free, unlock};
 use crate::chain::plan;
 use crate::check::{check, reclaim};
 use crate::deeds;
-use crate::opening::{looking, opening};
+use crate::opening::looking;
 use crate::refused::Refused;
 use crate::seen::Seen;
 use crate::ship::ship;
@@ -30,7 +30,6 @@ fn of_ask(
         Ask::Reclaim => reclaim(alloc, db, refused, seen),
         Ask::Lock | Ask::LockWithSize => lock(alloc, db, refused, seen),
         Ask::Unlock => unlock(alloc, db, refused, seen),
-        Ask::Activate => opening(alloc, db, refused, seen),
         Ask::Backup { .. } | Ask::BackupSince { .. } => backup(alloc, db, refused, seen),
     }
 }
