@@ -707,6 +707,8 @@ USAGE = [
     (["ship", "a.db", LONG[:95]], f'"{LONG[:60]}".. is no name of a database: it has 95 bytes, and 94 at most are allowed'),
     (["check"], "there are too few words for: nehumiro check DB"),
     (["reclaim", "a.db", "b.db"], "there are too many words for: nehumiro reclaim DB"),
+    (["activate"], "there are too few words for: nehumiro activate DB"),
+    (["activate", "a.db.delta"], '"a.db.delta" is no name of a database: names that end in .delta are those of difference files'),
     (["check", "a.db.delta"], '"a.db.delta" is no name of a database: names that end in .delta are those of difference files'),
     (["gen", "007", "s"], '"007" is no number of 0 to 18446744073709551615'),
     ([b"stat", b"\xff"], "a word is no text"),

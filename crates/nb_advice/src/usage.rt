@@ -202,6 +202,8 @@ fn wrong_plain(alloc: Global, plain: &[&str]) -> Result<Option<String>, AllocErr
         ["check", ..] => wrong_count(alloc, "check DB", plain.len() < 2),
         ["reclaim", db] => wrong_name(alloc, db, Kind::Database),
         ["reclaim", ..] => wrong_count(alloc, "reclaim DB", plain.len() < 2),
+        ["activate", db] => wrong_name(alloc, db, Kind::Database),
+        ["activate", ..] => wrong_count(alloc, "activate DB", plain.len() < 2),
         ["gen", number, script] => {
             let wrong = wrong_number(alloc, number)?;
             if wrong.is_some() {

@@ -21,6 +21,7 @@ usage: nehumiro run SCRIPT          runs the statements of a script
        nehumiro stat DB             shows the header of a database, and its pages by kind
        nehumiro check DB            says whether its inventories and chains agree with its pages, and which pages are taken for nothing
        nehumiro reclaim DB          gives those pages back
+       nehumiro activate DB         makes it a database in the normal state: merges back what a difference file holds, where it has one
        nehumiro -L DB               locks a database: its file stays as it is until -N
        nehumiro -L -S DB            the same, and says how many pages it has
        nehumiro -N DB               unlocks it, and merges back what was written meanwhile

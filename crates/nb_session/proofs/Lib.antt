@@ -18,6 +18,7 @@ pub mod KeepLaws
 pub mod ActLaws
 pub mod WayLaws
 pub mod MergeLaws
+pub mod ActivateLaws
 pub mod CopyLaws
 pub mod BackupLaws
 pub mod UnderWayLaws

@@ -5,7 +5,7 @@ use Rattle.nb_host.specs.Files.{File}
 use Rattle.nb_host.specs.World.{World}
 use Rattle.nb_host.specs.Crash.{Leaves}
 use Rattle.nb_host.specs.Moments.{AtEachMoment}
-use Rattle.nb_model.specs.declared.statement.Statement.TheVariants.{EndBackup}
+use Rattle.nb_model.specs.declared.statement.Statement.TheVariants.{EndBackup, Activate}
 use Rattle.nb_model.specs.Image.{image_size, image_state}
 use Rattle.nb_model.specs.Outcomes.{Turn, Begins, Ends, Finishes}
 use Rattle.nb_model.specs.Owner.{delta_name}
@@ -16,6 +16,7 @@ use Rattle.nb_base.specs.Stays.{GrowsWithin}
 -- the turn ends the stalled state, unless it is refused
 abbrev pub is_end : Turn → Bool
 is_end (Begins EndBackup) = true
+is_end (Begins Activate) = true
 is_end (Ends reply) = true
 is_end other = false
 

@@ -72,7 +72,7 @@ fn say_in<H: Host>(line: Vec<u8>, host: &mut H, session: u32, reply: &Reply) -> 
 }
 
 /// Says what is told of a reply, if anything is, in memory that was taken before. It wants no more where the reply says what was done.
-fn tell<H: Host>(
+pub(crate) fn tell<H: Host>(
     line: Vec<u8>,
     host: &mut H,
     session: u32,

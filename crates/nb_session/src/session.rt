@@ -15,7 +15,7 @@ ghost use Rattle.nb_session.specs.Steps.{GoesFurther, Turns};
 
 use crate::answer::answer;
 use crate::copies::{back_up_on, begin_backup, begin_copy, copy_on};
-use crate::merges::{begin_merge, end_backup, merge_on};
+use crate::merges::{begin_activate, begin_merge, end_backup, merge_on};
 use crate::task::{Left, Taken, Task};
 use crate::told::Told;
 use nb_engine::Engine;
@@ -70,7 +70,8 @@ fn begin_statement<H: Host>(
     ensures cause { CountsRun result (H.faults host.old) (H.faults host.new) }
 {
     match statement {
-        Statement::EndBackup => begin_merge(alloc, host, engine, session),
+        Statement::EndBackup => begin_merge(alloc, host, engine, session, statement),
+        Statement::Activate => begin_activate(alloc, host, engine, session, told, statement),
         Statement::Backup { .. } | Statement::BackupSince { .. } => {
             begin_backup(alloc, host, engine, session, statement)
         }

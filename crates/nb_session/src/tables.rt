@@ -80,7 +80,8 @@ pub(crate) fn do_checks<H: Host>(
         Statement::Check => {
             let findings = check(alloc, host, engine)?;
             let pages = findings.leaked.pages(alloc)?;
-            *danger = Some(findings.in_danger.pages(alloc)?);
+            let in_danger = findings.in_danger.pages(alloc)?;
+            *danger = Some(in_danger);
             Ok(Reply::Leaked { pages })
         }
         Statement::Reclaim => {

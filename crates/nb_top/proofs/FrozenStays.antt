@@ -67,8 +67,7 @@ module _ {H : Type 0} (world : H → World) (timely : (h : H) → IsTimely (worl
       let parts = parted front order old new t now idle.1 in
       (parts.0, inl (idle.0, parts.1), subst (λ (p : Played). ByTurns world told order parts.0 new (after_steps t (steps_of p.0)) p.1) (sym (play_idle x front now idle.0)) parts.2)
   parted (x ∷ front) order old new t now (inr taken) =
-      let parts = parted front order taken.0 new (after_steps t (steps_of (one_turn x now).0)) (one_turn x now).1 taken.2 in
-      (
+      let parts = parted front order taken.0 new (after_steps t (steps_of (one_turn x now).0)) (one_turn x now).1 taken.2 in (
         parts.0,
         inr (taken.0, taken.1, parts.1),
         subst (λ (u : Trail). ByTurns world told order parts.0 new u (play (x ∷ front) now).1) (sym (play_then x front now t)) parts.2,

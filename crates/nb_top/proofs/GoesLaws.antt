@@ -1,11 +1,12 @@
 -- What is done of what is asked for, put together.
 use Rattle.std.proofs.Common.{◌≡◌, List, [], ℕ, sym, subst, Bool, IsTrue, Result, Ok, Err, IsErr, IfErr, IfOk, true, false, refl}
-use Rattle.nb_top.proofs.Common.{Files, World, Leaves, LeavesAll, IsTimely, Fault, Refusal, RunError, GaveNothing, Quiet, Deed, Reply, Account, line_text, Given, status_after, SaysLine, grows_none, grows_joined, Status, Done, AskedByTurns, Goes, IsDone, number_of, OneTurn, one_turn, GoesTo, KnowsAsked, MayBeGiven, Performs, Request, Asked, Runs, Does, Serves, TurnsTo, reply_told, status_told, quiet_gave, true≢false, EndsSo, GoesOn, Ships}
+use Rattle.nb_top.proofs.Common.{Files, World, Leaves, LeavesAll, IsTimely, Fault, Refusal, RunError, GaveNothing, Quiet, Deed, Reply, Account, line_text, Given, status_after, SaysLine, grows_none, grows_joined, Status, Done, AskedByTurns, Goes, IsDone, number_of, OneTurn, one_turn, GoesTo, KnowsAsked, MayBeGiven, Performs, Request, Asked, Runs, Does, Serves, TurnsTo, reply_told, status_told, quiet_gave, true≢false, EndsSo, Ships}
 use Rattle.nb_host.specs.declared.faults.Fault.TheVariants.{Refused as RefusedFault}
 use Rattle.nb_model.specs.declared.reply.Reply.TheVariants.{Refused as RefusedReply}
 use Rattle.nb_ended.specs.declared.status.Status.TheVariants.{Device, Memory}
 use Rattle.nb_host.specs.declared.faults.RunError.TheVariants.{Device as DeviceError, Memory as MemoryError}
 use Rattle.nb_host.specs.declared.faults.Fault.TheVariants.{Device as DeviceFault, Memory as MemoryFault}
+use Rattle.nb_top.specs.Done.{GoesOn}
 use Rattle.nb_top.specs.Goes.{IsRun}
 use Rattle.nb_top.specs.ByTurns.{ending_by}
 use Rattle.nb_top.proofs.ByTurnsLaws.{asked_so, device_so, early_err, memory_so, run_quietly, run_undone}

@@ -28,6 +28,10 @@ module _ (files : Files) (names : HaveNames files) where
         ∙ ap (λ (t : Bool). is_free_file (files name) && not t) (sym (none_long name long.1))
   ]
 
+-- Of files that stand for an account it knows which names are free.
+pub free_known : (files : Files) (account : Account) → HaveNames files → Stands files account → KnowsNames files account
+free_known files account names stands name plain = free_named files names name ∙ sym (free_entry files account name stands.same_image plain)
+
 -- The account knows which names are free, and of each database what the files hold.
 module _ (files : Files) (account : Account) (names : KnowsNames files account) (holds : (name : List ℕ) → is_delta name ≡ false → nat_le (length name) 94 ≡ true → HoldsUnder files account name) where
   known_opened : (first : Statement) → FitsFirst first → KnowsOpened files account first

@@ -61,6 +61,14 @@ pub mod ShipParts
 pub mod ShipHeads
 pub mod ShipSteps
 pub mod ShipOthers
+pub mod LoneBackups
+pub mod ShipCopies
+pub mod ShipStands
+pub mod ShipFirsts
+pub mod ShipStages
+pub mod ShipDone
+pub mod ShipStops
+pub mod ShipOnward
 pub mod AllStay
 pub mod GeneratedGoes
 pub mod ShownLaws

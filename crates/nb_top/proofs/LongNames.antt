@@ -47,7 +47,7 @@ ship_plain : (standby : List ℕ) → 0 < length standby → is_delta (ship_of s
 ship_plain standby some =
     let last = last_and standby ship_suffix some in
     let place : length (ship_of standby) - length delta_suffix ≡ length standby - 1 = (let long : length (standby ++ ship_suffix) ≡ length standby + length ship_suffix = length-append standby ship_suffix in
-        let five : length ship_suffix ≡ 5 = refl in let six : length delta_suffix ≡ 6 = refl in omega (arith, long, five, six)) in
+    let five : length ship_suffix ≡ 5 = refl in let six : length delta_suffix ≡ 6 = refl in omega (arith, long, five, six)) in
     ap (λ (k : ℕ). pointwise nat_eq delta_suffix (drop k (ship_of standby))) place ∙ ap (pointwise nat_eq delta_suffix) last.1 ∙ never_both (nat_eq 46 last.0)
 
 -- so words may give its name

@@ -1,6 +1,6 @@
 -- A ship leaves other files alone, part by part, and says what it refuses.
 use Rattle.std.proofs.Common.{◌≡◌, inl, inr, ⊎_elim, ℕ, zero, suc, replicate, List, [], ◌∷◌, ◌++◌, refl, sym, ap, subst, ◌∙◌, append_assoc, Bool, true, false, IsTrue, Option, None, Some, Result, Ok, Err, IfOk}
-use Rattle.nb_top.proofs.Common.{true≢false, File, Files, World, Leaves, LeavesAll, AtEachMoment, IsTimely, Fault, Refused, Device, Memory, Refusal, RunError, Names, Only, Other, joined, left_before, weaker, append-nil, Reply, BackupSince, line_text, is_database, AnySessionAsks, IsAdded, LeavesOthers, OthersLeft, SaysLine, leaves_among, leaves_changes, leaves_line, leaves_quiet, Status, Done, EndsSo, GoesOn, asks_of, plan_of, Runs, ToRun, Sparingly, MayTouch, OfShip, SaysRefusal, TouchesOnly, ends_refused}
+use Rattle.nb_top.proofs.Common.{true≢false, File, Files, World, Leaves, LeavesAll, AtEachMoment, IsTimely, Fault, Refused, Device, Memory, Refusal, RunError, Names, Only, Other, joined, left_before, weaker, append-nil, Reply, BackupSince, line_text, is_database, AnySessionAsks, IsAdded, LeavesOthers, OthersLeft, SaysLine, leaves_among, leaves_changes, leaves_line, leaves_quiet, Status, Done, EndsSo, asks_of, plan_of, Runs, ToRun, Sparingly, MayTouch, OfShip, SaysRefusal, TouchesOnly, ends_refused}
 use Rattle.nb_host.specs.declared.faults.RunError.TheVariants.{Device as DeviceError, Memory as MemoryError}
 use Rattle.nb_model.specs.declared.reply.Reply.TheVariants.{Refused as RefusedReply}
 use Rattle.nb_ended.specs.declared.status.Status.TheVariants.{Refused as RefusedStatus, Usage as UsageStatus, Device as DeviceStatus, Memory as MemoryStatus}
@@ -11,6 +11,7 @@ use Rattle.nb_ship.specs.declared.steps.Step.{Step}
 use Rattle.nb_ship.specs.declared.steps.Step.TheVariants.{Copy, Apply, Discard}
 use Rattle.nb_top.specs.declared.ship_plan.ShipPlan.{ShipPlan}
 use Rattle.nb_top.specs.Shipped.{AfterCopy, AfterMerge, AfterPlan, Copies, Discards, Merges, Refuses, Replies, ShipsByPlan, Stops, TakesSteps, copying, status_of_end}
+use Rattle.nb_top.specs.Done.{GoesOn}
 use Rattle.nb_top.proofs.GoesLaws.{ended_so}
 use Rattle.nb_top.proofs.LongNames.{ship_file}
 use Rattle.nb_top.proofs.RequestLaws.{attach_askable}

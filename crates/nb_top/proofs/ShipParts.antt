@@ -1,5 +1,5 @@
 -- The parts of a ship: the merge, which tells the SCN of the backup too, and the removal.
-use Rattle.std.proofs.Common.{true≢false, ◌≡◌, ◌≢◌, inl, inr, ⊎_elim, ℕ, List, [], ◌∷◌, length, true, false, refl, sym, ap, subst, ◌∙◌, Bool, Some, None, Result, Ok, Err, IsTrue, IsErr, OnOk}
+use Rattle.std.proofs.Common.{true≢false, ◌≡◌, ◌≢◌, ◌⊎◌, inl, inr, ⊎_elim, ℕ, List, [], ◌∷◌, length, true, false, refl, sym, ap, subst, ◌∙◌, Bool, Some, None, Result, Ok, Err, IsTrue, IsErr, OnOk}
 use Rattle.nb_top.proofs.Common.{File, Files, with_file, World, Leaves, LeavesAll, IsTimely, Fault, Refused, Device, Memory, Refusal, Changes, Only, Remade, GaveNothing, with_file-same, Quiet, Reply, Base, image_in, bytes_of, in_place, only_turn, only_refusal, apply_turn, Contents, read_level, Event, merge, merged, IsMergeable, OneTurn, IsDoneFor, IsOnItsWay, Read, leaves_all, merging, IsServed, ServedAs, Serves}
 use Rattle.nb_host.specs.Calls.{IsSilent, IsStill, Remakes, Syncs, WholeOrNot}
 use Rattle.nb_host.specs.Crash.{IsDurable}
@@ -67,17 +67,17 @@ module _ (old mid : World) (standby ship : List ℕ) (result : Result ℕ Fault)
 
   -- It was done, and then the head of the ship file was read.
   module _ (count : ℕ) (is : result ≡ Ok count) (apart : ship ≢ standby) (new : World) (quiet : Quiet mid new) where
-    done : IsMerged old mid standby ship count
-    done = subst (λ (r : Result ℕ Fault). ApplyAnswers r old mid standby ship) is does.answer
+    pub merge_done : IsMerged old mid standby ship count
+    merge_done = subst (λ (r : Result ℕ Fault). ApplyAnswers r old mid standby ship) is does.answer
 
-    turn_done : turn ≡ shipped_turn old.files standby ship count done.contents
-    turn_done = merge_accepted old.files standby ship done.bytes done.contents done.mergeable ∙ ap (λ (n : ℕ). shipped_turn old.files standby ship n done.contents) (sym done.counted)
+    turn_done : turn ≡ shipped_turn old.files standby ship count merge_done.contents
+    turn_done = merge_accepted old.files standby ship merge_done.bytes merge_done.contents merge_done.mergeable ∙ ap (λ (n : ℕ). shipped_turn old.files standby ship n merge_done.contents) (sym merge_done.counted)
 
-    its : IsAccepted old.files ship done.bytes done.contents
-    its = accepted old.files standby ship done.bytes done.contents done.mergeable
+    its : IsAccepted old.files ship merge_done.bytes merge_done.contents
+    its = accepted old.files standby ship merge_done.bytes merge_done.contents merge_done.mergeable
 
     -- the ship file stands there still
-    pub level_there : mid.files ship ≡ Some its.level
+    level_there : mid.files ship ≡ Some its.level
     level_there = does.left.others_read ship apart ∙ its.there
 
     left : Changes old new (Only standby) (IsOnItsWay (Leaves old) job)
@@ -97,28 +97,28 @@ module _ (old mid : World) (standby ship : List ℕ) (result : Result ℕ Fault)
 
     done_for : IsDoneFor new job
     done_for = record {
-      now = subst (λ (f : Files). job.done f) (sym same_files) (done.bytes, done.contents, done.mergeable, done.now);
-      left = λ files leaves. (done.bytes, done.contents, done.mergeable, done.left files (all_before mid new quiet.still.left files leaves));
+      now = subst (λ (f : Files). job.done f) (sym same_files) (merge_done.bytes, merge_done.contents, merge_done.mergeable, merge_done.now);
+      left = λ files leaves. (merge_done.bytes, merge_done.contents, merge_done.mergeable, merge_done.left files (all_before mid new quiet.still.left files leaves));
     }
 
     with_answer : (answer : Result Reply Fault) → ServedAs answer old new job turn → Serves answer old new job turn
     with_answer answer served = record { answer = served; left = left; reads = reads; gave = gave; idle = idle }
 
     -- that failed
-    pub shipped_unread : (fault : Fault) → ScnSays done.contents (Err fault) → Serves (Err fault) old new job turn
+    pub shipped_unread : (fault : Fault) → ScnSays merge_done.contents (Err fault) → Serves (Err fault) old new job turn
     shipped_unread (Refused refusal) never = absurd never
     shipped_unread Device says = with_answer (Err Device) tt
     shipped_unread Memory says = with_answer (Err Memory) tt
 
     -- or it is known
-    pub shipped_serves : (scn : ℕ) → ScnSays done.contents (Ok scn) → Serves (Ok (ScnPages scn count)) old new job turn
+    pub shipped_serves : (scn : ℕ) → ScnSays merge_done.contents (Ok scn) → Serves (Ok (ScnPages scn count)) old new job turn
     shipped_serves scn says = with_answer (Ok (ScnPages scn count))
-        (served_as (ScnPages scn count) (only_turn (ScnPages scn count) (merge done.contents.pages ∷ [])) new job turn
-        (turn_done ∙ ap (λ (n : ℕ). only_turn (ScnPages n count) (merge done.contents.pages ∷ [])) (sym says)) refl refl refl (λ some. done_for))
+        (served_as (ScnPages scn count) (only_turn (ScnPages scn count) (merge merge_done.contents.pages ∷ [])) new job turn
+        (turn_done ∙ ap (λ (n : ℕ). only_turn (ScnPages n count) (merge merge_done.contents.pages ∷ [])) (sym says)) refl refl refl (λ some. done_for))
 
     -- as what the file holds says
-    pub scn_says : (answer : Result ℕ Fault) → ((bytes : List ℕ) (c : Contents) → mid.files ship ≡ Some bytes → read_level bytes ≡ Ok c → ScnSays c answer) → ScnSays done.contents answer
-    scn_says answer says = says its.level done.contents level_there its.read
+    pub scn_says : (answer : Result ℕ Fault) → ((bytes : List ℕ) (c : Contents) → mid.files ship ≡ Some bytes → read_level bytes ≡ Ok c → ScnSays c answer) → ScnSays merge_done.contents answer
+    scn_says answer says = says its.level merge_done.contents level_there its.read
 
 -- ---- the removal
 
@@ -159,5 +159,5 @@ module _ {T E : Type 0} (tells : Bool) (told : IsTrue tells) (removed : Result T
     gone_synced = by synced (syncs.durable told)
       where
         by : (r : Result S F) → OnOk r (IsDurable new name (mid.files name)) → OnOk r (IsGone new name)
-        by (Ok done) durable = record { durable = subst (IsDurable new name) gone durable; reads = gone_then }
+        by (Ok _) durable = record { durable = subst (IsDurable new name) gone durable; reads = gone_then }
         by (Err e) none = tt

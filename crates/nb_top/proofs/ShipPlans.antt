@@ -3,13 +3,17 @@ use Rattle.std.proofs.Common.{◌≡◌, ℕ, List, refl, sym, ap, ◌∙◌, Bo
 use Rattle.std.proofs.lemmas.Bool.{eq-eqb, ne_eqb}
 use Rattle.nb_top.proofs.Common.{File, Files, World, Fault, Refused, Device, Memory, Refusal, Base, Cause, Image, image_state, delta_name, owner, ShowsIn, normal_state, when, Attaches, IsAttached, Held}
 use Rattle.nb_host.specs.declared.refusals.Refusal.TheVariants.{WrongState}
-use Rattle.nb_model.specs.Causes.{Tested}
-use Rattle.nb_model.specs.Chains.{Spot}
+use Rattle.nb_host.specs.Names.{same_name}
+use Rattle.nb_model.specs.Causes.{Tested, broken_at}
+use Rattle.nb_model.specs.Chains.{History, Spot, backup_spot, guid_in, pages_of}
 use Rattle.nb_engine.specs.History.{row_at}
+use Rattle.nb_engine.specs.declared.rows.HistoryRow.{HistoryRow}
 use Rattle.nb_ship.specs.Answers.{Says}
 use Rattle.nb_ship.specs.Steps.{first_step, since}
 use Rattle.nb_ship.specs.declared.steps.Step.{Step}
 use Rattle.nb_ship.specs.Looks.{look_at}
+use Rattle.nb_ship.specs.declared.found.Found.{Found}
+use Rattle.nb_ship.specs.declared.found.Found.TheVariants.{Next}
 use Rattle.nb_ship.specs.declared.found.Look.{Look}
 use Rattle.nb_top.specs.declared.ship_plan.ShipPlan.{ShipPlan}
 use Rattle.nb_top.specs.Shipping.{ship_plan}
@@ -109,7 +113,23 @@ module _ (files : Files) (primary standby : List ℕ) where
           plan_made files primary standby at.base at.shows at.normal look is known formed same
           ∙ ap (λ (s : Step). Ok (record { first = s; since = since look.guid look.found known })) (sym first) ∙ ap (λ (g : List ℕ). Ok (record { first = plan.first; since = g })) (sym from)
 
+-- ---- by what a walk of the history answers
+
 -- a row stands there exactly where its slot does
-pub row_there : (spot : Option Spot) → is_some (row_at spot) ≡ is_some spot
+row_there : (spot : Option Spot) → is_some (row_at spot) ≡ is_some spot
 row_there None = refl
 row_there (Some spot) = refl
+
+module _ (image : Image) (found : Found) (guid : List ℕ) (is : found ≡ Next guid) where
+  -- the history is asked, and has that row or none
+  pub asked_test : broken_at (pages_of History image) ≡ None → not_asked image found ≡ None
+  asked_test formed = ap (not_asked image) is ∙ formed
+
+  pub asked_known : (row : Option HistoryRow) → row ≡ row_at (backup_spot (λ slot. same_name (guid_in slot) guid) image) → is_some row ≡ is_known image found
+  asked_known row same = ap is_some same ∙ row_there (backup_spot (λ slot. same_name (guid_in slot) guid) image) ∙ sym (ap (is_known image) is)
+
+  -- or it is broken
+  pub asked_fails : (fault : Fault) → Tested {T = Option HistoryRow} (Err fault) (broken_at (pages_of History image)) → Tested {T = Bool} (Err fault) (not_asked image found)
+  asked_fails (Refused refusal) broken = ap (not_asked image) is ∙ broken
+  asked_fails Device broken = tt
+  asked_fails Memory broken = tt

@@ -1,6 +1,6 @@
 -- A step of a ship, and what comes after it.
-use Rattle.std.proofs.Common.{◌≡◌, inl, inr, ℕ, List, ◌∷◌, refl, subst, Bool, Option, Some, None, Result, Ok, Err, IsErr}
-use Rattle.nb_top.proofs.Common.{World, Fault, Refused, Device, Memory, Refusal, RunError, Reply, GoesOn, Status, Done, Serves, merging}
+use Rattle.std.proofs.Common.{◌≡◌, inl, inr, ℕ, List, ◌∷◌, refl, ap, subst, Bool, Option, Some, None, Result, Ok, Err, IsErr, IsErrAnd}
+use Rattle.nb_top.proofs.Common.{World, Fault, Refused, Device, Memory, Refusal, RunError, Reply, Status, Done, Serves, merging}
 use Rattle.nb_host.specs.declared.faults.RunError.TheVariants.{Device as DeviceError, Memory as MemoryError}
 use Rattle.nb_ship.specs.Answers.{Says}
 use Rattle.nb_ship.specs.Names.{ship_of}
@@ -11,8 +11,14 @@ use Rattle.nb_page.specs.Quiet.{Quiet}
 use Rattle.nb_ended.specs.declared.status.Status.TheVariants.{Refused as RefusedStatus}
 use Rattle.nb_top.specs.declared.ship_plan.ShipPlan.{ShipPlan}
 use Rattle.nb_top.specs.Shipped.{AfterCopy, IsGone, Refuses, Removes, ShipsByPlan, TakesSteps, copying, merge_turn}
+use Rattle.nb_top.specs.Done.{GoesOn}
 use Rattle.nb_top.specs.Shipping.{ship_plan}
 use Rattle.nb_top.proofs.ScriptRuns.{runs_err}
+
+-- what stopped a part is passed on
+pub stopped_by : (result : Result Status RunError) (stop : RunError) → IsErr result × IsErrAnd result (λ e. e ≡ stop) → result ≡ Err stop
+stopped_by (Ok status) stop is = absurd is.1
+stopped_by (Err e) stop is = ap (λ (s : RunError). Err s) is.1
 
 module _ {H : Type 0} (world : H → World) (tells : Bool) (primary standby since : List ℕ) (steps : List Step) (merged : Option Reply) where
   abbrev Takes : List Step → Option Reply → Result Status RunError → (old new : H) → Type 0

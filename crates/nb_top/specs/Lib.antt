@@ -10,6 +10,9 @@ pub mod Touched
 pub mod Done
 pub mod Shipping
 pub mod Shipped
+pub mod ShipDone
+pub mod ShipStops
+pub mod ShipOnward
 pub mod Goes
 pub mod Shown
 pub mod ByTurns

@@ -61,12 +61,7 @@ fn scn_of<H: Host>(alloc: Global, host: &mut H, ship: &Name) -> Result<u32, Faul
 }
 
 /// The merge: the ship file is merged into the standby, in place. Answers the SCN of its backup, and how many pages the standby has.
-fn merge<H: Host>(
-    alloc: Global,
-    host: &mut H,
-    standby: &Name,
-    ship: &Name,
-) -> Result<Reply, Fault>
+fn merge<H: Host>(alloc: Global, host: &mut H, standby: &Name, ship: &Name) -> Result<Reply, Fault>
     requires { ship.now ≢ standby.now }
     ensures serves { IsTrue H.tells
         → Serves result (H.world host.old) (H.world host.new) (merging (H.world host.old).files standby.now ship.now) (merge_turn (H.world host.old).files standby.now ship.now) }
@@ -167,8 +162,9 @@ fn from_merge<H: Host>(
     ensures done { IfOk result (λ status. (status ≡ Status.Done) ⊎ (status ≡ Status.Refused)) }
     ensures cause { CountsRun result (H.faults host.old) (H.faults host.new) }
 {
-    match settled(merge(alloc, host, standby, &ship_name(standby)))? {
-        Ok(_) => from_discard(alloc, host, primary, standby, since),
+    let ship = ship_name(standby);
+    match settled(merge(alloc, host, standby, &ship))? {
+        Ok(_reply) => from_discard(alloc, host, primary, standby, since),
         Err(refusal) => refuse(alloc, host, 1, refusal),
     }
 }

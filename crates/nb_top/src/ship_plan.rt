@@ -61,13 +61,7 @@ fn since(look: &Look, known: bool) -> [u8; 16]
     ensures { result ≡ since look.now.guid look.now.found known }
 {
     match look.found {
-        Found::Next(guid) => {
-            if known {
-                guid
-            } else {
-                look.guid
-            }
-        }
+        Found::Next(guid) => { if known { guid } else { look.guid } }
         Found::Pending(guid) => guid,
         Found::Nothing | Found::Broken | Found::Applied => look.guid,
     }

@@ -55,3 +55,6 @@ pub returns-in_err-write_out-clause-grows : goal.returns-in_err-write_out-clause
 returns-in_err-write_out-clause-grows g c now t tells ready begins making =
     grows_joined (g.H.Host.world c.args.host.now) (g.H.Host.world c.play.new.host) (g.H.Host.world c.write_out.new.host) (c.play.ensures.grows now t tells ready begins making)
     (grows_none (g.H.Host.world c.play.new.host) (g.H.Host.world c.write_out.new.host) c.write_out.ensures.gave)
+
+pub returns-clause-danger : goal.returns-clause-danger
+returns-clause-danger g c statement t tells opened is = c.in_ok-refused.ensures.danger statement t tells opened is

@@ -15,13 +15,13 @@ pub returns-in-Err-Device-clause-runs : goal.returns-in-Err-Device-clause-runs
 returns-in-Err-Device-clause-runs g c asked by =
     let old = g.H.Host.world c.args.host.now in
     run_ends g.H.Host.world g.H.Host.tells c.args.host.now c.do_job.new.host asked (read_can old.files c.args.job.now asked c.requires.read by) (g.met.H.Host.reads_left c.args.host.now) (g.met.H.Host.timely c.do_job.new.host)
-    (g.met.H.Host.reads_left c.do_job.new.host) _ (c.in-Err-Device.ensures.goes asked by)
+    (g.met.H.Host.reads_left c.do_job.new.host) _ (subst (λ (e : RunError). Goes g.H.Host.world g.H.Host.tells (Err e) c.args.host.now c.do_job.new.host asked) c.in-Err-Device.field-0-is (c.in-Err-Device.ensures.goes asked by))
 
 pub returns-in-Err-Memory-clause-runs : goal.returns-in-Err-Memory-clause-runs
 returns-in-Err-Memory-clause-runs g c asked by =
     let old = g.H.Host.world c.args.host.now in
     run_ends g.H.Host.world g.H.Host.tells c.args.host.now c.do_job.new.host asked (read_can old.files c.args.job.now asked c.requires.read by) (g.met.H.Host.reads_left c.args.host.now) (g.met.H.Host.timely c.do_job.new.host)
-    (g.met.H.Host.reads_left c.do_job.new.host) _ (c.in-Err-Memory.ensures.goes asked by)
+    (g.met.H.Host.reads_left c.do_job.new.host) _ (subst (λ (e : RunError). Goes g.H.Host.world g.H.Host.tells (Err e) c.args.host.now c.do_job.new.host asked) c.in-Err-Memory.field-0-is (c.in-Err-Memory.ensures.goes asked by))
 
 pub returns-in-Ok-clause-danger : goal.returns-in-Ok-clause-danger
 returns-in-Ok-clause-danger g c tells not_device not_memory db is = c.in-Ok.ensures.danger tells db is

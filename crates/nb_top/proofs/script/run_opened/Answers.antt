@@ -5,7 +5,7 @@ use Rattle.nb_top.proofs.ByTurnsLaws.{reply_said_by, reply_unsaid_by}
 use Rattle.nb_top.proofs.OpenedSaid.{opened_err, reply_unsaid, reply_said_then, ready_still}
 use Rattle.nb_top.proofs.QuietRuns.{foretold_from}
 use Rattle.nb_top.proofs.ToldLaws.{told_first_made, told_first_steps, told_output, told_status}
-use Rattle.nb_owner.proofs.WaitLaws.{still_open}
+use Rattle.nb_state.proofs.MakesLaws.{still_open}
 use Rattle.nb_top.proofs.script.run_opened.Goals as goal
 
 pub returns-in_err-say_opened-clause-plays : goal.returns-in_err-say_opened-clause-plays

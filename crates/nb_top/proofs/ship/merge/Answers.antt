@@ -21,7 +21,7 @@ returns-in_err-scn-clause-serves g c tells =
     let does = c.in_ok-pages.ensures.applies tells in
     let fault = c.in_err-scn.field-0.0 in
     let quiet = c.in_err-scn.ensures.quiet in
-    passed _ (λ r. Serves r old new (merging old.files c.args.standby.now c.args.ship.now) (merge_turn old.files c.args.standby.now c.args.ship.now)) c.from_residual.result fault c.from_residual.ensures
+    passed _ (λ r. Serves r old new (merging old.files c.args.standby.now c.args.ship.now) (merge_turn old.files c.args.standby.now c.args.ship.now)) c.from_residual-in_err-scn.result fault c.from_residual-in_err-scn.ensures
     (shipped_unread old mid c.args.standby.now c.args.ship.now (Ok count) does count refl c.requires new quiet fault
     (scn_says old mid c.args.standby.now c.args.ship.now (Ok count) does count refl c.requires new quiet (Err fault) (λ bytes contents there read. c.in_err-scn.ensures.says tells bytes contents there read)))
 

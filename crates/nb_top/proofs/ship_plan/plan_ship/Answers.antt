@@ -1,5 +1,5 @@
-use Rattle.std.proofs.Common.{Ok, Err, ap, sym, subst, ◌∙◌}
-use Rattle.nb_top.proofs.Common.{Files, passed, settled}
+use Rattle.std.proofs.Common.{Result, Ok, Err, ap, sym, subst, ◌∙◌}
+use Rattle.nb_top.proofs.Common.{Fault, Files, passed, settled}
 use Rattle.nb_ship.specs.Answers.{Says}
 use Rattle.nb_ship.specs.Looks.{look_at}
 use Rattle.nb_ship.specs.declared.found.Look.{Look}
@@ -21,9 +21,10 @@ returns-in_err-look-clause-plan g c tells =
     let opened = g.H.Host.world c.open_normal.new.host in
     let engine = c.in_ok-engine.ensures in
     let fault = c.in_err-look.field-0.0 in
+    let failed : Result Look Fault = Err fault in
     passed _ (λ r. Says (ship_plan files c.args.primary.now c.args.standby.now) r) c.from_residual-in_err-look.result fault c.from_residual-in_err-look.ensures
     (says_unlooked files c.args.primary.now c.args.standby.now opened c.in_ok-engine.engine (engine.opens tells) fault
-    (subst (λ (f : Files). Says (look_at f c.args.standby.now) (Err {T = Look} fault)) engine.quiet.still.files (c.in_err-look.ensures.answer tells)))
+    (subst (λ (f : Files). Says (look_at f c.args.standby.now) failed) engine.quiet.still.files (c.in_err-look.ensures.answer tells)))
 
 pub returns-in_err-known-clause-plan : goal.returns-in_err-known-clause-plan
 returns-in_err-known-clause-plan g c tells =
