@@ -125,6 +125,7 @@ where
 }
 
 /// Says that a run holds a database alone, if there is one.
+#[tactic(auto, using(crate::proofs::HeldLaws::none_held))]
 fn hold<R: Files + Print + Eprint + Clock + Drop>(
     host: &mut FileHost<R>,
     db: Option<Name>,
@@ -185,6 +186,7 @@ fn known<V: ReadOnly>(
 }
 
 /// Prepares the host for a job that words name.
+#[tactic(auto, using(crate::proofs::HeldLaws::both_held))]
 fn prepare_for<R: Files + Print + Eprint + Clock + Drop, V: ReadOnly + Eprint + Env + AllocGlobal>(
     alloc: Global,
     rt: &V,
