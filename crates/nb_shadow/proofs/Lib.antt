@@ -8,3 +8,12 @@ mod PassLaws
 mod CountLaws
 mod AloneLaws
 pub mod SameLaws
+mod HalfLaws
+mod DatabaseLaws
+mod SamePieceLaws
+mod CopyLaws
+mod EmptyLaws
+mod FillLaws
+mod StrayLaws
+pub mod BringLaws
+pub mod StartLaws

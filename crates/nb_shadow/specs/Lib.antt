@@ -4,3 +4,6 @@ pub mod Mirror
 pub mod Shadowed
 pub mod MirrorLaws
 pub mod Alone
+pub mod Start
+pub mod Found
+pub mod Writing

@@ -5,12 +5,19 @@
 //! holds of the twin by itself too. `specs/Mirror` says what is seen of one pair, and `specs/Shadowed` what of both.
 #![tactic(auto)]
 
+mod copying;
+mod database;
+mod found;
 mod laws;
 mod pair;
+mod same;
 mod shadow;
+mod starting;
 mod twin;
+mod writing;
 
 pub use laws::{each_side_stands, sync_both};
 pub use pair::{Pair, Pairs};
 pub use shadow::Shadow;
+pub use starting::start;
 pub use twin::Twin;

@@ -56,6 +56,18 @@ impl Twin {
         })
     }
 
+    /// A twin of these files that isn't behind.
+    pub(crate) fn over(pairs: Pairs) -> Twin
+        requires { AreApart pairs }
+        ensures { (result.pairs ≡ pairs) × (result.behind ≡ false) × (result.refused ≡ 0) }
+    {
+        Twin {
+            pairs,
+            refused: 0,
+            behind: false,
+        }
+    }
+
     /// Whether a change was made on the database that wasn't made on the twin.
     pub fn is_behind(&self) -> bool
         ensures { result ≡ self.now.behind }
