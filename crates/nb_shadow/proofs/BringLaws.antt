@@ -27,10 +27,10 @@ use Rattle.nb_shadow.specs.Writing.{Brings, IsFilled, Strays, StraysLeft, Writte
 use Rattle.nb_shadow.proofs.SamePieceLaws.{same_file_told}
 
 -- which difference file belongs to a database, by its state
-own_normal : (main delta : File) → is_normal main ≡ true → own_delta main delta ≡ None
+pub own_normal : (main delta : File) → is_normal main ≡ true → own_delta main delta ≡ None
 own_normal main delta e = ap (λ (b : Bool). if b then None else delta) e
 
-own_other : (main delta : File) → is_normal main ≡ false → own_delta main delta ≡ delta
+pub own_other : (main delta : File) → is_normal main ≡ false → own_delta main delta ≡ delta
 own_other main delta e = ap (λ (b : Bool). if b then None else delta) e
 
 module _ (files : Files) (ps : Pairs) (d : Database) (there : IsThere files ps d) where
@@ -43,6 +43,29 @@ module _ (files : Files) (ps : Pairs) (d : Database) (there : IsThere files ps d
   -- one or the other
   pub by_state : (d.header.state ≡ 0) ⊎ (d.header.state ≢ 0)
   by_state = elim (eqb_tells d.header.state 0) [ inl w ↦ inl w.1 | inr w ↦ inr w.1 ]
+
+-- a free name is room
+pub free_room : (files : Files) (ps : Pairs) → is_free_name files ps.main.copy ≡ true → has_room files ps ≡ true
+unfolding has_room
+free_room files ps free = ap (λ b. b || (is_some (files ps.main.file) && is_half (files ps.main.copy))) free
+
+-- and without a database there is no other
+pub room_free : (files : Files) (ps : Pairs) → files ps.main.file ≡ None → has_room files ps ≡ true → is_free_name files ps.main.copy ≡ true
+unfolding has_room
+room_free files ps none room =
+    sym (or_none (is_free_name files ps.main.copy)) ∙ sym (ap (λ (f : File). is_free_name files ps.main.copy || (is_some f && is_half (files ps.main.copy))) none) ∙ room
+  where
+    or_none : (b : Bool) → (b || false) ≡ b
+    or_none true = refl
+    or_none false = refl
+
+-- a twin that stands reads as its database
+pub twin_same : (files : Files) (ps : Pairs) → is_twin files ps ≡ true
+    → (files ps.main.file ≡ files ps.main.copy) × (is_normal (files ps.main.file) ≡ false → files ps.delta.file ≡ files ps.delta.copy)
+unfolding is_twin
+twin_same files ps stands =
+    let two = both_true (same_file (files ps.main.file) (files ps.main.copy)) _ (both_true (is_some (files ps.main.file)) _ stands).1 in
+    (same_file_told _ _ two.0, λ other. same_file_told _ _ (sym (ap (λ b. b || same_file (files ps.delta.file) (files ps.delta.copy)) other) ∙ two.1))
 
 -- the names are others
 module _ (ps : Pairs) (apart : AreApart ps) where
@@ -90,8 +113,7 @@ module _ (ps : Pairs) (apart : AreApart ps) (old new : World) (none : AreThere o
       record { done = done; left = written_left ps apart old new room written; reads = written_reads ps apart old new written (inl reads); gave = gave }
     where
       room : has_room old.files ps ≡ true
-      unfolding has_room
-      room = ap (λ b. b || (is_some (old.files ps.main.file) && is_half (old.files ps.main.copy))) free
+      room = free_room old.files ps free
 
 -- strays were removed
 module _ {T : Type 0} (result : Result T Fault) (ps : Pairs) (apart : AreApart ps) (d : Database) (mid new : World) (left : Changes mid new (Strays d.header.state ps) (StraysLeft (Leaves mid) ps))
@@ -149,10 +171,7 @@ module _ {T : Type 0} (result : Result T Fault) (ps : Pairs) (apart : AreApart p
   }
     where
       same : (mid.files ps.main.file ≡ mid.files ps.main.copy) × (is_normal (mid.files ps.main.file) ≡ false → mid.files ps.delta.file ≡ mid.files ps.delta.copy)
-      unfolding is_twin
-      same =
-          let two = both_true (same_file (mid.files ps.main.file) (mid.files ps.main.copy)) _ (both_true (is_some (mid.files ps.main.file)) _ stands).1 in
-          (same_file_told _ _ two.0, λ other. same_file_told _ _ (sym (ap (λ b. b || same_file (mid.files ps.delta.file) (mid.files ps.delta.copy)) other) ∙ two.1))
+      same = twin_same mid.files ps stands
 
   -- and after one was written
   pub made_twin : (old : World) → IsThere old.files ps d → has_room old.files ps ≡ true → Changes old mid (IsTwinName ps) (WrittenLeft (Leaves old) old.files ps) → IsFilled old mid ps → GaveNothing old mid → GaveNothing mid new → Brings result old new ps
@@ -171,30 +190,27 @@ module _ {T : Type 0} (result : Result T Fault) (ps : Pairs) (apart : AreApart p
     gave = nothing_joined old mid new gave more;
   }
     where
-      abbrev own : File
-      own = own_delta (old.files ps.main.file) (old.files ps.delta.file)
-
       main_stays : mid.files ps.main.file ≡ old.files ps.main.file
       main_stays = written.others_read ps.main.file (main_no_twin ps apart)
 
       delta_stays : mid.files ps.delta.file ≡ old.files ps.delta.file
       delta_stays = written.others_read ps.delta.file (delta_no_twin ps apart)
 
-      none_own : d.header.state ≡ 0 → own ≡ None
+      none_own : d.header.state ≡ 0 → (own_delta (old.files ps.main.file) (old.files ps.delta.file)) ≡ None
       none_own zero = own_normal (old.files ps.main.file) (old.files ps.delta.file) (normal_is old.files ps d there zero)
 
-      delta_by : (files : Files) → ((m : List ℕ) → (names m → ⊥) → Leaves mid m (files m)) → WasOrGone (Leaves mid) ps.delta.copy files → (d.header.state ≡ 0) ⊎ (d.header.state ≢ 0) → files ps.delta.copy ≡ own
-      delta_by files others has (inl zero) = ⊎_elim (λ l. durable_is mid ps.delta.copy own filled.delta.durable (files ps.delta.copy) l) (λ none. none ∙ sym (none_own zero)) has
-      delta_by files others has (inr some) = durable_is mid ps.delta.copy own filled.delta.durable (files ps.delta.copy) (others ps.delta.copy (stays some ps.delta.copy))
+      delta_by : (files : Files) → ((m : List ℕ) → (names m → ⊥) → Leaves mid m (files m)) → WasOrGone (Leaves mid) ps.delta.copy files → (d.header.state ≡ 0) ⊎ (d.header.state ≢ 0) → files ps.delta.copy ≡ (own_delta (old.files ps.main.file) (old.files ps.delta.file))
+      delta_by files others has (inl zero) = ⊎_elim (λ l. durable_is mid ps.delta.copy (own_delta (old.files ps.main.file) (old.files ps.delta.file)) filled.delta.durable (files ps.delta.copy) l) (λ none. none ∙ sym (none_own zero)) has
+      delta_by files others has (inr some) = durable_is mid ps.delta.copy (own_delta (old.files ps.main.file) (old.files ps.delta.file)) filled.delta.durable (files ps.delta.copy) (others ps.delta.copy (stays some ps.delta.copy))
 
-      delta_reads : (d.header.state ≡ 0) ⊎ (d.header.state ≢ 0) → new.files ps.delta.copy ≡ own
+      delta_reads : (d.header.state ≡ 0) ⊎ (d.header.state ≢ 0) → new.files ps.delta.copy ≡ (own_delta (old.files ps.main.file) (old.files ps.delta.file))
       delta_reads (inl zero) = ⊎_elim (λ same. same ∙ filled.delta.reads) (λ none. none ∙ sym (none_own zero)) reads.1
       delta_reads (inr some) = left.others_read ps.delta.copy (stays some ps.delta.copy) ∙ filled.delta.reads
 
 -- a twin couldn't be written whole
-pub brings_failed : {S T : Type 0} (fault : Fault) (ps : Pairs) (apart : AreApart ps) (old new : World) (P : S → Type 0) → has_room old.files ps ≡ true → Changes old new (IsTwinName ps) (WrittenLeft (Leaves old) old.files ps)
+pub brings_failed : (S T : Type 0) (fault : Fault) (ps : Pairs) (apart : AreApart ps) (old new : World) (P : S → Type 0) → has_room old.files ps ≡ true → Changes old new (IsTwinName ps) (WrittenLeft (Leaves old) old.files ps)
     → WrittenLeft (Reads old.files) old.files ps new.files → GaveNothing old new → IsTaken {T = S} (Err fault) P → Brings {T = T} (Err fault) old new ps
-brings_failed fault ps apart old new P room written reads gave fails = record {
+brings_failed S T fault ps apart old new P room written reads gave fails = record {
   done = fails_alike P (λ _. IsLevel old.files ps new.files) fault fails;
   left = written_left ps apart old new room written;
   reads = written_reads ps apart old new written reads;

@@ -78,18 +78,18 @@ module _ (first bytes : List ℕ) (read : first ≡ take 64 bytes) where
     state_is = ap (λ (h : Header). h.state) is ∙ same-number first bytes front 22 2 (omega arith)
 
 -- what is refused by its length is so
-pub length_refused : {S T : Type 0} (fault : Fault) (bytes : List ℕ) → TestedByReads {T = S} (Err fault) (not_database bytes) → TestedByReads {T = T} (Err fault) (form_cause bytes)
-length_refused (Refused r) bytes tested = form_broken bytes r tested
-length_refused Device bytes tested = tt
-length_refused Memory bytes tested = tested
+pub length_refused : (S T : Type 0) (fault : Fault) (bytes : List ℕ) → TestedByReads {T = S} (Err fault) (not_database bytes) → TestedByReads {T = T} (Err fault) (form_cause bytes)
+length_refused S T (Refused r) bytes tested = form_broken bytes r tested
+length_refused S T Device bytes tested = tt
+length_refused S T Memory bytes tested = tested
 
 -- what is refused of the main file by itself is so beside any other
-pub main_refused : {S T : Type 0} (fault : Fault) (m d : Pair) (main delta : File) → TestedByReads {T = S} (Err fault) (main_cause main) → TestedByReads {T = T} (Err fault) (not_mirrored m d main delta)
+pub main_refused : (S T : Type 0) (fault : Fault) (m d : Pair) (main delta : File) → TestedByReads {T = S} (Err fault) (main_cause main) → TestedByReads {T = T} (Err fault) (not_mirrored m d main delta)
 unfolding not_mirrored
-main_refused (Refused r) m d None delta tested = absurd (some_none r (sym tested))
-main_refused (Refused r) m d (Some bytes) delta tested = three_some _ _ _ r tested
-main_refused Device m d main delta tested = tt
-main_refused Memory m d main delta tested = tested
+main_refused S T (Refused r) m d None delta tested = absurd (some_none r (sym tested))
+main_refused S T (Refused r) m d (Some bytes) delta tested = three_some _ _ _ r tested
+main_refused S T Device m d main delta tested = tt
+main_refused S T Memory m d main delta tested = tested
 
 module _ (m d : Pair) where
   -- no main file
@@ -156,3 +156,7 @@ module _ (files : Files) (ps : Pairs) (found : Database) (is : IsMain (files ps.
 
   pub whole_there : is_some (files ps.delta.file) ≡ true → IsThere files ps found
   whole_there e = record { bytes = is.0; main = is.1; is = is.2; delta = λ other. e }
+
+pub delta_gone : (delta : File) → is_some delta ≡ false → delta ≡ None
+delta_gone None e = refl
+delta_gone (Some x) e = cc

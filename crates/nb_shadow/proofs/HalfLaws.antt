@@ -1,5 +1,5 @@
 -- A file that is half written, and names that are free.
-use Rattle.std.proofs.Common.{◌≡◌, inl, inr, ℕ, ◌≤◌, List, ◌++◌, length, take, refl, sym, ap, ◌∙◌, arith, Bool, true, false, ◌&&◌, ◌||◌, ◌==◌, not, None, Some, is_some, nat_le}
+use Rattle.std.proofs.Common.{◌≡◌, inl, inr, ℕ, ◌≤◌, List, [], ◌++◌, length, take, refl, sym, ap, ◌∙◌, arith, Bool, true, false, ◌&&◌, ◌||◌, ◌==◌, not, None, Some, is_some, nat_le}
 use Rattle.std.proofs.lemmas.Bool.{and_from, or_left, or_right}
 use Rattle.nb_fields.specs.Bytes.{is_zeros}
 use Rattle.nb_fields.specs.Free.{is_free_file, is_unfinished}
@@ -21,13 +21,13 @@ is_unfinished-take bytes =
     ∙ ap (λ n. is_header bytes && (n == 3) && is_zeros (pending_of (take 64 bytes))) (number_in-take 64 22 2 bytes (omega arith))
     ∙ ap (λ p. is_header bytes && (state_of bytes == applying_state) && is_zeros p) (part-take 64 48 16 bytes (omega arith))
 
+none_half : is_unfinished [] ≡ false
+unfolding is_header
+none_half = refl
+
 -- as the start of a file tells
 pub half_start : (file : File) (start : List ℕ) → start ≡ take 64 (bytes_of file) → is_unfinished start ≡ is_half file
-half_start None start e = ap is_unfinished e ∙ none
-  where
-    none : is_unfinished [] ≡ false
-    unfolding is_header
-    none = refl
+half_start None start e = ap is_unfinished e ∙ none_half
 half_start (Some bytes) start e = ap is_unfinished e ∙ is_unfinished-take bytes
 
 half_page : (page : Page) → IsUnfinishedPage page → is_unfinished page ≡ true

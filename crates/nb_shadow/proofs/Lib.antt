@@ -8,6 +8,7 @@ mod PassLaws
 mod CountLaws
 mod AloneLaws
 pub mod SameLaws
+mod SharedLaws
 mod HalfLaws
 mod DatabaseLaws
 mod SamePieceLaws
@@ -16,4 +17,6 @@ mod EmptyLaws
 mod FillLaws
 mod StrayLaws
 pub mod BringLaws
+mod FoundLaws
 pub mod StartLaws
+mod WriteTwinLaws

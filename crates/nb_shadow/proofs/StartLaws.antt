@@ -43,13 +43,13 @@ module _ (old new : World) (ps : Pairs) (quiet : Quiet old new) where
       read : (m : List ℕ) → new.files m ≡ old.files m
       read m = ap (λ (f : Files). f m) quiet.still.files
 
-  pub start_refused : {S T : Type 0} (fault : Fault) → TestedByReads {T = S} (Err fault) (start_cause old.files ps) → Starts {T = T} (Err fault) old new ps
-  start_refused (Refused refusal) tested = kept_so (Err (Refused refusal)) (quiet, tested)
-  start_refused Device tested = kept_so (Err Device) tt
-  start_refused Memory tested = absurd tested
+  pub start_refused : (S T : Type 0) (fault : Fault) → TestedByReads {T = S} (Err fault) (start_cause old.files ps) → Starts {T = T} (Err fault) old new ps
+  start_refused S T (Refused refusal) tested = kept_so (Err (Refused refusal)) (quiet, tested)
+  start_refused S T Device tested = kept_so (Err Device) tt
+  start_refused S T Memory tested = absurd tested
 
-  pub start_wanted : {T : Type 0} → Starts {T = T} (Err Memory) old new ps
-  start_wanted = kept_so (Err Memory) quiet
+  pub start_wanted : (T : Type 0) → Starts {T = T} (Err Memory) old new ps
+  start_wanted T = kept_so (Err Memory) quiet
 
 -- what stands was found, and the twin is brought level
 module _ (old found new : World) (ps : Pairs) (quiet : Quiet old found) (fit : start_cause old.files ps ≡ None) where
@@ -73,8 +73,8 @@ module _ (old found new : World) (ps : Pairs) (quiet : Quiet old found) (fit : s
   brought_gave result brings = nothing_joined old found new (record { guids = quiet.guids; times = quiet.times }) brings.gave
 
   -- or the device fails
-  pub start_failed : {S T : Type 0} (fault : Fault) → Brings {T = S} (Err fault) found new ps → Starts {T = T} (Err fault) old new ps
-  start_failed fault brings = record {
+  pub start_failed : (S T : Type 0) (fault : Fault) → Brings {T = S} (Err fault) found new ps → Starts {T = T} (Err fault) old new ps
+  start_failed S T fault brings = record {
     answer = by fault brings.done;
     left = brought_left (Err fault) brings;
     reads = brought_reads (Err fault) brings;
@@ -101,8 +101,8 @@ module _ (old found new : World) (ps : Pairs) (quiet : Quiet old found) (fit : s
       unfit = λ some. absurd (some fit);
     }
 
-    pub sync_failed : {T : Type 0} → Starts {T = T} (Err Device) old last ps
-    sync_failed = starts (Err Device) tt
+    pub sync_failed : (T : Type 0) → Starts {T = T} (Err Device) old last ps
+    sync_failed T = starts (Err Device) tt
 
     pub start_done : {T : Type 0} (twin : T) → AreKept last ps new.files → Starts (Ok twin) old last ps
     start_done twin kept = starts (Ok twin) (fit, record {

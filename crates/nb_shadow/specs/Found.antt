@@ -12,7 +12,7 @@ use Rattle.nb_shadow.specs.declared.database.Database.{Database}
 use Rattle.nb_shadow.specs.declared.found.Found.{Found}
 use Rattle.nb_shadow.specs.declared.found.Found.TheVariants.{Nothing, Standing, Room}
 use Rattle.nb_shadow.specs.declared.pair.Pairs.{Pairs}
-use Rattle.nb_shadow.specs.Start.{has_room, is_normal, is_twin}
+use Rattle.nb_shadow.specs.Start.{has_room, is_normal, is_twin, not_mirrored}
 
 -- why bytes are no database that can be mirrored, whatever stands beside them
 abbrev pub form_cause : List ℕ → Cause
@@ -41,6 +41,11 @@ pub record IsThere (files : Files) (ps : Pairs) (d : Database) : Type 0 where
   pub main : files ps.main.file ≡ Some bytes
   pub is : IsOf bytes d
   pub delta : is_normal (Some bytes) ≡ false → is_some (files ps.delta.file) ≡ true
+
+-- and nothing forbids to mirror it
+pub record IsMirrored (files : Files) (ps : Pairs) (d : Database) : Type 0 where
+  pub there : IsThere files ps d
+  pub fit : not_mirrored ps.main ps.delta (files ps.main.file) (files ps.delta.file) ≡ None
 
 -- neither file is there, or the database is
 abbrev pub AreThere : Files → Pairs → Option Database → Type 0

@@ -9,6 +9,7 @@ ghost use Rattle.nb_host.specs.Files.{with_bytes, with_page};
 ghost use Rattle.nb_restore.specs.Copied.{KeepsFront};
 ghost use Rattle.nb_restore.specs.Target.{IsKept};
 
+use crate::same::piece_len;
 use nb_host::{Fault, Host, Name, Refusal};
 
 /// Copies page `number` of a file to its place in another one.
@@ -98,7 +99,7 @@ fn copy_bytes<H: Host>(
 {
     let mut at = 0;
     while at < len {
-        let count = (len - at).min(piece.len() as u64) as usize;
+        let count = piece_len(len - at, piece.len());
         copy_piece(host, from, to, at, &mut piece[..count])?;
         at += count as u64;
     }

@@ -1,13 +1,13 @@
 // What stands of a database and of its twin before one is begun.
-ghost use Rattle.std.specs.Prelude.{◌≡◌, ◌<◌, ◌≤◌, IsTrue, IfOk, is_some, length};
+ghost use Rattle.std.specs.Prelude.{◌≡◌, ◌<◌, IsTrue, IfOk, None, is_some, length};
 ghost use Rattle.nb_fields.specs.Free.{is_unfinished};
-ghost use Rattle.nb_fields.specs.Places.{most_pages};
-ghost use Rattle.nb_host.specs.Causes.{CountsDevice, CountsFault};
+ghost use Rattle.nb_host.specs.Causes.{CountsDevice, CountsFault, FaultCount};
+ghost use Rattle.nb_host.specs.Files.{Files};
 ghost use Rattle.nb_host.specs.declared.faults.Fault.{Fault};
 ghost use Rattle.nb_host.specs.declared.refusals.Refusal.TheVariants.{FileExists};
 ghost use Rattle.nb_model.specs.Causes.{TestedByReads};
 ghost use Rattle.nb_page.specs.Quiet.{Quiet};
-ghost use Rattle.nb_shadow.specs.Found.{HavePages, IsFound, IsThere};
+ghost use Rattle.nb_shadow.specs.Found.{AreThere, HasPages, HavePages, IsFound, IsMirrored, IsThere};
 ghost use Rattle.nb_shadow.specs.Start.{has_room, is_half, is_twin, start_cause};
 
 use crate::Pairs;
@@ -59,7 +59,8 @@ fn has_room<H: Host>(host: &mut H, pairs: &Pairs, is_there: bool) -> Result<bool
     ensures quiet { Quiet (H.world host.old) (H.world host.new) }
     ensures cause { CountsFault result (H.faults host.old) (H.faults host.new) }
 {
-    if is_free(host, &pairs.main.copy)? {
+    let free = is_free(host, &pairs.main.copy)?;
+    if free {
         return Ok(true);
     }
     if !is_there {
@@ -82,7 +83,8 @@ fn is_twin<H: Host>(
     ensures quiet { Quiet (H.world host.old) (H.world host.new) }
     ensures cause { CountsFault result (H.faults host.old) (H.faults host.new) }
 {
-    if !are_same(host, &pairs.main.file, &pairs.main.copy, first, second)? {
+    let same = are_same(host, &pairs.main.file, &pairs.main.copy, first, second)?;
+    if !same {
         return Ok(false);
     }
     if database.header.state == 0 {
@@ -98,6 +100,47 @@ fn exists(pairs: &Pairs) -> Fault
     Fault::Refused(Refusal::FileExists {
         name: pairs.main.copy.copied(),
     })
+}
+
+/// What stands where there is no database.
+fn without_database(pairs: &Pairs, room: bool) -> Result<Found, Fault>
+    ensures test { (files : Files) → AreThere files pairs.now None → room ≡ has_room files pairs.now → TestedByReads result (start_cause files pairs.now) }
+    ensures is { (files : Files) → AreThere files pairs.now None → room ≡ has_room files pairs.now → IfOk result (IsFound files pairs.now) }
+    ensures pages { IfOk result HavePages }
+    ensures cause { (faults : FaultCount) → CountsDevice result faults faults }
+{
+    if !room {
+        return Err(exists(pairs));
+    }
+    Ok(Found::Nothing)
+}
+
+/// What stands of the twin of a database.
+fn with_database<H: Host>(
+    host: &mut H,
+    pairs: &Pairs,
+    database: Database,
+    room: bool,
+    first: &mut [u8],
+    second: &mut [u8],
+) -> Result<Found, Fault>
+    requires pages { HasPages database }
+    requires some { 0 < length first.old }
+    requires same { length second.old ≡ length first.old }
+    ensures test { IsTrue H.tells → IsMirrored (H.world host.old).files pairs.now database → room ≡ has_room (H.world host.old).files pairs.now → TestedByReads result (start_cause (H.world host.old).files pairs.now) }
+    ensures is { IsTrue H.tells → IsMirrored (H.world host.old).files pairs.now database → room ≡ has_room (H.world host.old).files pairs.now → IfOk result (IsFound (H.world host.old).files pairs.now) }
+    ensures pages { IfOk result HavePages }
+    ensures quiet { Quiet (H.world host.old) (H.world host.new) }
+    ensures cause { CountsDevice result (H.faults host.old) (H.faults host.new) }
+{
+    if room {
+        return Ok(Found::Room(database));
+    }
+    let twin = is_twin(host, pairs, &database, first, second)?;
+    if !twin {
+        return Err(exists(pairs));
+    }
+    Ok(Found::Standing(database))
 }
 
 /// What stands of the database and of its twin. It changes nothing.
@@ -120,16 +163,7 @@ pub(crate) fn look<H: Host>(
     let database = read_database(host, pairs)?;
     let room = has_room(host, pairs, database.is_some())?;
     let Some(database) = database else {
-        if room {
-            return Ok(Found::Nothing);
-        }
-        return Err(exists(pairs));
+        return without_database(pairs, room);
     };
-    if room {
-        return Ok(Found::Room(database));
-    }
-    if is_twin(host, pairs, &database, first, second)? {
-        return Ok(Found::Standing(database));
-    }
-    Err(exists(pairs))
+    with_database(host, pairs, database, room, first, second)
 }

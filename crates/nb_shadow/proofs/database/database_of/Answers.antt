@@ -23,7 +23,7 @@ returns-in_err-pages-clause-test c bytes long read =
     let headed : is_header bytes ≡ true = sym (first_header first bytes read) ∙ sym c.in-Some.ensures.exact in
     let size = size_is first bytes read c.in-Some.header c.in-Some.ensures.value in
     passed Database (λ r. TestedByReads r (form_cause bytes)) c.from_residual.result c.in_err-pages.field-0.0 c.from_residual.ensures
-    (length_refused c.in_err-pages.field-0.0 bytes (c.in_err-pages.ensures.test bytes headed (sym size) long))
+    (length_refused ℕ Database c.in_err-pages.field-0.0 bytes (c.in_err-pages.ensures.test bytes headed (sym size) long))
 
 pub returns-then-header-eq-APPLYING-clause-test : goal.returns-then-header-eq-APPLYING-clause-test
 returns-then-header-eq-APPLYING-clause-test c bytes long read =

@@ -18,7 +18,7 @@ returns-clause-left g c tells =
     sync_more _ _ _ IsGone _ _ _ (remade_alone _ _ _ _ _ None IsGone tells (g.met.H.Host.timely _) remove.files remove.log.said remove.time refl) sync.files sync.log.said sync.time
 
 pub returns-clause-reads : goal.returns-clause-reads
-returns-clause-reads g c tells = reads_still _ _ _ _ IsGone (removed_reads _ _ _ _ _ tells c.remove.ensures.files) c.sync.ensures.files.still
+returns-clause-reads g c tells = reads_still (g.H.Host.world c.args.host.now) (g.H.Host.world c.remove.new.self) (g.H.Host.world c.sync.new.self) c.args.name.now IsGone (removed_reads _ _ _ _ c.args.name.now tells c.remove.ensures.files) c.sync.ensures.files.still
 
 pub returns-clause-gone : goal.returns-clause-gone
 returns-clause-gone g c tells = sync_kept _ _ _ _ _ None tells (with_file-named _ _ c.args.name.now None (c.in_ok-remove.ensures.files.files tells)) c.sync.ensures.files
