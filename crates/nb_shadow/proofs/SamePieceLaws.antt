@@ -1,5 +1,5 @@
 -- Two files that are compared piece by piece.
-use Rattle.std.proofs.Common.{◌≡◌, ◌≢◌, ℕ, ◌+◌, ◌<◌, ◌≤◌, List, ◌++◌, length, take, drop, refl, sym, ap, ◌∙◌, arith, Bool, true, false, Option, None, Some, option_map, is_none}
+use Rattle.std.proofs.Common.{◌≡◌, ◌≢◌, ℕ, ◌+◌, ◌<◌, ◌≤◌, List, ◌++◌, length, take, drop, refl, sym, ap, ◌∙◌, arith, Bool, true, false, Option, None, Some, option_map, is_some, not}
 use Rattle.std.proofs.Math.Seq.{take-add}
 use Rattle.std.proofs.lemmas.List.{take_all}
 use Rattle.std.specs.Cmp.Lexicographic.{told_text}
@@ -47,10 +47,12 @@ pub same_file_no : (a : List ℕ) → same_file (Some a) None ≡ false
 unfolding same_file
 same_file_no a = refl
 
-pub same_file_none : (file : File) (size : Option ℕ) → size ≡ option_map length file → is_none size ≡ same_file None file
+pub same_file_none : (file : File) (size : Option ℕ) (gone : Bool) → size ≡ option_map length file → is_some size ≡ not gone → gone ≡ same_file None file
 unfolding same_file
-same_file_none None size told = ap is_none told
-same_file_none (Some b) size told = ap is_none told
+same_file_none None size true told is = refl
+same_file_none None size false told is = cc
+same_file_none (Some b) size true told is = cc
+same_file_none (Some b) size false told is = refl
 
 pub same_file_told : (x y : File) → same_file x y ≡ true → x ≡ y
 unfolding same_file
