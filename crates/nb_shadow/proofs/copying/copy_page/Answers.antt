@@ -21,14 +21,14 @@ returns-in_err-write_page-clause-left g c tells =
     let read = c.read_page.ensures in
     let write = c.write_page.ensures in
     front_joined _ _ _ _ (front_still _ _ _ (g.met.H.Host.timely _) read.files read.log.said read.time)
-    (front_page _ _ _ _ _ c.args.number c.read_page.new.into tells c.requires.some (omega (arith, c.read_page.auto.into, (size_facts _ c.requires.size).at_least)) (g.met.H.Host.timely _) write.files write.log.said write.time)
+    (front_page _ _ _ _ _ c.args.number c.read_page.new.into tells c.requires.some (omega (arith, c.read_page.auto.into, (size_facts (length c.args.page.now) c.requires.size).at_least)) (g.met.H.Host.timely _) write.files write.log.said write.time)
 
 pub returns-clause-left : goal.returns-clause-left
 returns-clause-left g c tells =
     let read = c.read_page.ensures in
     let write = c.write_page.ensures in
     front_joined _ _ _ _ (front_still _ _ _ (g.met.H.Host.timely _) read.files read.log.said read.time)
-    (front_page _ _ _ _ _ c.args.number c.read_page.new.into tells c.requires.some (omega (arith, c.read_page.auto.into, (size_facts _ c.requires.size).at_least)) (g.met.H.Host.timely _) write.files write.log.said write.time)
+    (front_page _ _ _ _ _ c.args.number c.read_page.new.into tells c.requires.some (omega (arith, c.read_page.auto.into, (size_facts (length c.args.page.now) c.requires.size).at_least)) (g.met.H.Host.timely _) write.files write.log.said write.time)
 
 pub returns-clause-page : goal.returns-clause-page
 returns-clause-page g c tells bytes there fits =

@@ -1,4 +1,4 @@
-use Rattle.std.proofs.Common.{◌≡◌, ◌≢◌, ◌-◌, ◌*◌, ◌≤◌, List, length, IsTrue, Some}
+use Rattle.std.proofs.Common.{◌≡◌, ◌≢◌, ◌-◌, ◌*◌, ◌≤◌, ℕ, List, length, IsTrue, Some}
 use Rattle.nb_change.specs.Changes.{Changes, Moved, Only}
 use Rattle.nb_change.specs.Gave.{GaveNothing}
 use Rattle.nb_restore.specs.Copied.{KeepsFront}
