@@ -37,10 +37,13 @@ loop-number-preserved g c =
       left = λ tells. front_joined _ _ _ _ (loop.left tells) (copy.left tells);
       pages = λ tells bytes start apart there long stands wide.
           let size : ℕ = length c.loop-number.page in
+          let same : length c.copy_page.new.page ≡ size = c.copy_page.auto.page in
+          let all : length bytes ≡ c.args.pages * size = long ∙ ap (λ (k : ℕ). c.args.pages * k) same in
           let low : (c.loop-number.number + 1) * size ≤ c.args.pages * size = mul-le-mul_right size (omega (arith, c.loop-number-test.true)) in
           let next : (c.loop-number.number + 1) * size ≡ c.loop-number.number * size + size = omega arith in
-          let fits : c.loop-number.number * size + size ≤ length bytes = omega (arith, long, low, next, c.copy_page.auto.page) in
-          page_next size bytes start wide c.loop-number.number _ _ loop.some fits (loop.pages tells bytes start apart there long stands wide) (copy.page tells bytes ((loop.left tells).others_read _ apart ∙ there) fits);
+          let fits : c.loop-number.number * size + size ≤ length bytes = omega (arith, all, low, next) in
+          subst (λ (k : ℕ). IsCopiedTo k bytes start ((c.loop-number.number + 1) * k) ((g.H.Host.world c.copy_page.new.host).files c.args.to.now)) (sym same)
+          (page_next size bytes start (wide ∙ same) c.loop-number.number _ _ loop.some fits (loop.pages tells bytes start apart there all stands (wide ∙ same)) (copy.page tells bytes ((loop.left tells).others_read _ apart ∙ there) fits));
       gave = nothing_joined _ _ _ loop.gave copy.gave;
       cause = copy.cause ∙ loop.cause;
       some = omega (arith, loop.some);
