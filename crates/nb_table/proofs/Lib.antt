@@ -13,4 +13,5 @@ pub mod GatherLaws
 pub mod FindLaws
 pub mod SortedLaws
 pub mod ReadTurns
+pub mod ReadsLaws
 mod Common

@@ -1,4 +1,5 @@
 pub mod Rows
+pub mod Reads
 pub mod Walks
 pub mod Drops
 pub mod Creates

@@ -1,5 +1,5 @@
 // Rows are inserted, updated and deleted.
-ghost use Rattle.std.specs.Prelude.{◌≡◌, None, IsTrue, IfSome, ◌≢◌, IfErr};
+ghost use Rattle.std.specs.Prelude.{◌≡◌, ◌+◌, ◌*◌, ◌≤◌, None, IsTrue, IfSome, OnOk, ◌≢◌, IfErr};
 ghost use Rattle.nb_host.specs.Causes.{CountsDevice};
 ghost use Rattle.nb_model.specs.Causes.{broken_at};
 ghost use Rattle.nb_model.specs.Chains.{Chain, pages_of, spots, row_spot};
@@ -9,6 +9,7 @@ ghost use Rattle.nb_model.specs.Trail.{Trail};
 ghost use Rattle.nb_engine.specs.Replies.{done};
 ghost use Rattle.nb_state.specs.Open.{IsOpen};
 ghost use Rattle.nb_state.specs.Does.{Does, Goes};
+ghost use Rattle.nb_table.specs.Reads.{rows_reads};
 ghost use Rattle.nb_table.specs.Walks.{found_at, IsPlaced};
 ghost use Rattle.nb_fields.specs.States.{stalled_state};
 ghost use Rattle.nb_host.specs.declared.faults.Fault.TheVariants.{Memory};
@@ -38,6 +39,7 @@ fn put_found<H: Host>(
         → found.now ≡ found_at (row_spot key (spots chain t.base.image))
         → Does done result (H.world host.old) (H.world host.new) engine.old engine.new t (in_row s chain key bytes.now) }
     ensures goes { Goes engine.old engine.new }
+    ensures once { IsTrue H.tells → (H.world host.new).reads ≤ (H.world host.old).reads + 2 }
     ensures cause { CountsDevice result (H.faults host.old) (H.faults host.new) }
     ensures takes_none { engine.old.files.state ≢ stalled_state → IfErr result (λ fault. fault ≢ Memory) }
     ensures on_memory { (s : Seen) (t : Trail) (chain : Chain) → IsTrue H.tells → t.base ≡ s.base → IsOpen (H.world host.old) engine.old t → broken_at (pages_of chain t.base.image) ≡ None → found.now ≡ found_at (row_spot key (spots chain t.base.image))
@@ -86,7 +88,9 @@ pub fn insert<H: Host>(
     )
 }
 
-/// Gives the row with that key a text of at most 200 bytes. It wants memory in the stalled state alone, and the row is as it was then.
+/// Gives the row with that key a text of at most 200 bytes. It wants memory in the stalled state alone, and the row is as it was then. Each
+/// page of both chains takes one read at most, and the page of the row and the SCN page one more; a chain that is broken takes no more reads
+/// than the database has pages.
 ///
 /// The refusals are `Access`, `NotDatabase` of the catalogue, `NoTable`, `TextLong`, `NotDatabase` of the table's chain, `NoKey` and
 /// `NotDatabase` of the SCN page of the row's page, in this order. A refused call changes nothing.
@@ -100,6 +104,8 @@ pub fn update<H: Host>(
     ensures turn { (s : Seen) (t : Trail) → IsTrue H.tells → t.base ≡ s.base → IsOpen (H.world host.old) engine.old t
         → Does done result (H.world host.old) (H.world host.new) engine.old engine.new t (update_turn s table.now key text.now) }
     ensures goes { Goes engine.old engine.new }
+    ensures once { (t : Trail) → IsTrue H.tells → IsOpen (H.world host.old) engine.old t → OnOk result ((H.world host.new).reads ≤ (H.world host.old).reads + rows_reads t.base.image table.now + 2) }
+    ensures within { IsTrue H.tells → (H.world host.new).reads ≤ (H.world host.old).reads + 2 * engine.old.files.count + 2 }
     ensures cause { CountsDevice result (H.faults host.old) (H.faults host.new) }
     ensures takes_none { engine.old.files.state ≢ stalled_state → IfErr result (λ fault. fault ≢ Memory) }
     ensures on_memory { (s : Seen) (t : Trail) → IsTrue H.tells → t.base ≡ s.base → IsOpen (H.world host.old) engine.old t
@@ -111,7 +117,7 @@ pub fn update<H: Host>(
 }
 
 /// Takes the row with that key out of the table: its slot is free again. The chain keeps its pages. It wants memory in the stalled state
-/// alone, and the row is still there then.
+/// alone, and the row is still there then. It reads no more than an update.
 ///
 /// The refusals are `Access`, `NotDatabase` of the catalogue, `NoTable`, `NotDatabase` of the table's chain, `NoKey` and `NotDatabase` of the
 /// SCN page of the row's page, in this order. A refused call changes nothing.
@@ -124,6 +130,8 @@ pub fn delete<H: Host>(
     ensures turn { (s : Seen) (t : Trail) → IsTrue H.tells → t.base ≡ s.base → IsOpen (H.world host.old) engine.old t
         → Does done result (H.world host.old) (H.world host.new) engine.old engine.new t (delete_turn s table.now key) }
     ensures goes { Goes engine.old engine.new }
+    ensures once { (t : Trail) → IsTrue H.tells → IsOpen (H.world host.old) engine.old t → OnOk result ((H.world host.new).reads ≤ (H.world host.old).reads + rows_reads t.base.image table.now + 2) }
+    ensures within { IsTrue H.tells → (H.world host.new).reads ≤ (H.world host.old).reads + 2 * engine.old.files.count + 2 }
     ensures cause { CountsDevice result (H.faults host.old) (H.faults host.new) }
     ensures takes_none { engine.old.files.state ≢ stalled_state → IfErr result (λ fault. fault ≢ Memory) }
     ensures on_memory { (s : Seen) (t : Trail) → IsTrue H.tells → t.base ≡ s.base → IsOpen (H.world host.old) engine.old t

@@ -1,5 +1,5 @@
 // Slots are written: one that is there, or one more of a chain.
-ghost use Rattle.std.specs.Prelude.{◌≡◌, ◌<◌, None, IsTrue, IfSome, ◌≢◌, IfErr};
+ghost use Rattle.std.specs.Prelude.{◌≡◌, ◌+◌, ◌<◌, ◌≤◌, None, IsTrue, IfSome, ◌≢◌, IfErr};
 ghost use Rattle.nb_fields.specs.Places.{most_pages};
 ghost use Rattle.nb_fields.specs.Kinds.{data_kind};
 ghost use Rattle.nb_host.specs.Causes.{CountsDevice};
@@ -32,6 +32,7 @@ pub(crate) fn put_slot<H: Host>(
     ensures tries { (t : Trail) → IsTrue H.tells → IsOpen (H.world host.old) engine.old t → not_kind t.base.image data_kind place.page ≡ None
         → Tries result (H.world host.old) (H.world host.new) engine.old engine.new t (entry_cause t.base.image place.page) (put_slot place.page place.slot bytes.now (drafted t.base.image)).strokes }
     ensures goes { Goes engine.old engine.new }
+    ensures once { IsTrue H.tells → (H.world host.new).reads ≤ (H.world host.old).reads + 2 }
     ensures cause { CountsDevice result (H.faults host.old) (H.faults host.new) }
     ensures takes_none { engine.old.files.state ≢ stalled_state → IfErr result (λ fault. fault ≢ Memory) }
 {

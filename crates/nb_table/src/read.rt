@@ -1,5 +1,5 @@
 // Rows are read.
-ghost use Rattle.std.specs.Prelude.{◌≡◌, ◌≢◌, ◌+◌, ◌≤◌, ℕ, List, [], ◌∷◌, ◌++◌, true, false, is_some, IsTrue, IfErr, IfOk, OnOk, length};
+ghost use Rattle.std.specs.Prelude.{◌≡◌, ◌≢◌, ◌+◌, ◌*◌, ◌≤◌, ℕ, List, [], ◌∷◌, ◌++◌, true, false, is_some, IsTrue, IfErr, IfOk, OnOk, length};
 ghost use Rattle.std.specs.List.{list_all};
 ghost use Rattle.std.specs.Ordering.{nat_cmp};
 ghost use Rattle.std.specs.BTreeMap.{get, insert_entry};
@@ -7,7 +7,7 @@ ghost use Rattle.nb_fields.specs.Places.{is_page_size};
 ghost use Rattle.nb_host.specs.declared.faults.Fault.TheVariants.{Memory};
 ghost use Rattle.nb_host.specs.Causes.{CountsDevice};
 ghost use Rattle.nb_model.specs.Causes.{Tested, broken_at};
-ghost use Rattle.nb_model.specs.Chains.{RowsFrom, Spot, is_slot, slots_in, spots_on, pages_of, spots};
+ghost use Rattle.nb_model.specs.Chains.{RowsFrom, Spot, is_slot, slots_in, spots_on, pages_of, found_pages, spots};
 ghost use Rattle.nb_model.specs.Outcomes.{Seen};
 ghost use Rattle.nb_model.specs.Rows.{rows_in};
 ghost use Rattle.nb_model.specs.Tables.{get_turn, scan_turn};
@@ -17,6 +17,7 @@ ghost use Rattle.nb_engine.specs.Replies.{valued};
 ghost use Rattle.nb_state.specs.Open.{IsOpen};
 ghost use Rattle.nb_state.specs.Looks.{Looks};
 ghost use Rattle.nb_state.specs.Does.{Does, Goes};
+ghost use Rattle.nb_table.specs.Reads.{rows_reads};
 
 use crate::LARGEST_PAGE;
 use crate::slots::{key_of, text_of};
@@ -44,7 +45,7 @@ fn copied(text: &[u8]) -> ArrayVec<u8, 200>
 /// The text of the row with that key.
 ///
 /// The refusals are `NotDatabase` of the catalogue, `NoTable`, `NotDatabase` of the table's chain and `NoKey`, in this order. Each page of
-/// both chains takes one read at most. It takes no memory.
+/// both chains takes one read at most, and a chain that is broken no more reads than the database has pages. It takes no memory.
 pub fn get<H: Host>(
     host: &mut H,
     engine: &mut Engine,
@@ -54,6 +55,8 @@ pub fn get<H: Host>(
     ensures turn { (s : Seen) (t : Trail) → IsTrue H.tells → t.base ≡ s.base → IsOpen (H.world host.old) engine.old t
         → Does valued result (H.world host.old) (H.world host.new) engine.old engine.new t (get_turn s table.now key) }
     ensures looks { Looks H.tells (H.world host.old) (H.world host.new) engine.old engine.new }
+    ensures once { (t : Trail) → IsTrue H.tells → IsOpen (H.world host.old) engine.old t → OnOk result ((H.world host.new).reads ≤ (H.world host.old).reads + rows_reads t.base.image table.now) }
+    ensures within { IsTrue H.tells → (H.world host.new).reads ≤ (H.world host.old).reads + 2 * engine.old.files.count }
     ensures goes { Goes engine.old engine.new }
     ensures cause { CountsDevice result (H.faults host.old) (H.faults host.new) }
     ensures takes_none { IfErr result (λ fault. fault ≢ Memory) }
@@ -127,6 +130,8 @@ fn take_rows<H: Host>(
     ensures test { (t : Trail) → IsTrue H.tells → IsOpen (H.world host.old) engine.old t → Tested result (broken_at (pages_of (RowsFrom first) t.base.image)) }
     ensures rows { (t : Trail) → IsTrue H.tells → IsOpen (H.world host.old) engine.old t → IfOk result (λ rows. rows.entries ≡ rows_in (spots (RowsFrom first) t.base.image)) }
     ensures looks { Looks H.tells (H.world host.old) (H.world host.new) engine.old engine.new }
+    ensures once { (t : Trail) → IsTrue H.tells → IsOpen (H.world host.old) engine.old t → OnOk result ((H.world host.new).reads ≤ (H.world host.old).reads + length (found_pages (RowsFrom first) t.base.image)) }
+    ensures within { IsTrue H.tells → (H.world host.new).reads ≤ (H.world host.old).reads + engine.old.files.count }
     ensures cause { CountsDevice result (H.faults host.old) (H.faults host.new) }
 {
     // Slots are counted by the size of a page, which is one of six.
@@ -163,7 +168,7 @@ fn listed(alloc: Global, rows: BTreeMap<u64, Text>) -> Result<RowList, Fault>
 /// counts.
 ///
 /// The refusals are `NotDatabase` of the catalogue, `NoTable` and `NotDatabase` of the table's chain, in this order. Each page of both
-/// chains takes one read at most.
+/// chains takes one read at most, and a chain that is broken no more reads than the database has pages.
 pub fn scan<H: Host>(
     alloc: Global,
     host: &mut H,
@@ -173,6 +178,8 @@ pub fn scan<H: Host>(
     ensures turn { (s : Seen) (t : Trail) → IsTrue H.tells → t.base ≡ s.base → IsOpen (H.world host.old) engine.old t
         → Does Rows result (H.world host.old) (H.world host.new) engine.old engine.new t (scan_turn s table.now) }
     ensures looks { Looks H.tells (H.world host.old) (H.world host.new) engine.old engine.new }
+    ensures once { (t : Trail) → IsTrue H.tells → IsOpen (H.world host.old) engine.old t → OnOk result ((H.world host.new).reads ≤ (H.world host.old).reads + rows_reads t.base.image table.now) }
+    ensures within { IsTrue H.tells → (H.world host.new).reads ≤ (H.world host.old).reads + 2 * engine.old.files.count }
     ensures goes { Goes engine.old engine.new }
     ensures cause { CountsDevice result (H.faults host.old) (H.faults host.new) }
 {

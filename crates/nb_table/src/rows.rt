@@ -1,5 +1,5 @@
 // The rows of a table that is to be changed.
-ghost use Rattle.std.specs.Prelude.{◌≡◌, ◌<◌, ◌≤◌, Some, IsTrue, IfOk, IfSome, OnOk, length, ◌≢◌, IfErr};
+ghost use Rattle.std.specs.Prelude.{◌≡◌, ◌+◌, ◌*◌, ◌<◌, ◌≤◌, Some, IsTrue, IfOk, IfSome, OnOk, length, ◌≢◌, IfErr};
 ghost use Rattle.nb_fields.specs.Places.{most_pages};
 ghost use Rattle.nb_host.specs.Causes.{CountsDevice, FaultCount};
 ghost use Rattle.nb_model.specs.Image.{Image, is_read_only};
@@ -9,6 +9,7 @@ ghost use Rattle.nb_model.specs.Trail.{Trail};
 ghost use Rattle.nb_state.specs.Open.{IsOpen};
 ghost use Rattle.nb_state.specs.Looks.{Looks};
 ghost use Rattle.nb_table.specs.declared.look.Sought.TheVariants.{Row};
+ghost use Rattle.nb_table.specs.Reads.{rows_reads};
 ghost use Rattle.nb_table.specs.Rows.{rows_cause};
 ghost use Rattle.nb_table.specs.Walks.{spot_of, gathered, IsPlaced};
 ghost use Rattle.nb_host.specs.declared.faults.Fault.TheVariants.{Memory};
@@ -85,6 +86,8 @@ pub(crate) fn find_rows<H: Host>(
     ensures low { IfOk result (λ rows. 0 < rows.last) }
     ensures high { IfOk result (λ rows. rows.last < most_pages) }
     ensures looks { Looks H.tells (H.world host.old) (H.world host.new) engine.old engine.new }
+    ensures once { (t : Trail) → IsTrue H.tells → IsOpen (H.world host.old) engine.old t → OnOk result ((H.world host.new).reads ≤ (H.world host.old).reads + rows_reads t.base.image table.now) }
+    ensures within { IsTrue H.tells → (H.world host.new).reads ≤ (H.world host.old).reads + 2 * engine.old.files.count }
     ensures cause { CountsDevice result (H.faults host.old) (H.faults host.new) }
     ensures takes_none { IfErr result (λ fault. fault ≢ Memory) }
 {

@@ -1,10 +1,10 @@
 // A table is looked for in the catalogue, and a row in the chain of its table.
-ghost use Rattle.std.specs.Prelude.{◌≡◌, ◌≢◌, ◌≤◌, IsTrue, IfErr, IfOk, Some, [], ◌∷◌, is_none, length};
+ghost use Rattle.std.specs.Prelude.{◌≡◌, ◌≢◌, ◌+◌, ◌≤◌, IsTrue, IfErr, IfOk, OnOk, Some, [], ◌∷◌, is_none, length};
 ghost use Rattle.nb_host.specs.declared.faults.Fault.TheVariants.{Memory};
 ghost use Rattle.nb_host.specs.declared.refusals.Refusal.TheVariants.{NoTable, NoKey};
 ghost use Rattle.nb_host.specs.Causes.{CountsDevice};
 ghost use Rattle.nb_model.specs.Causes.{Tested, first_cause, broken_at, when};
-ghost use Rattle.nb_model.specs.Chains.{Catalogue, RowsFrom, pages_of, spots, table_spot, row_spot, length_in};
+ghost use Rattle.nb_model.specs.Chains.{Catalogue, RowsFrom, pages_of, found_pages, spots, table_spot, row_spot, length_in};
 ghost use Rattle.nb_model.specs.Trail.{Trail};
 ghost use Rattle.nb_state.specs.Open.{IsOpen};
 ghost use Rattle.nb_state.specs.Looks.{Looks};
@@ -30,6 +30,8 @@ pub(crate) fn find_table<H: Host>(
     ensures placed { IfOk result (λ f. IsPlaced engine.old.files.page_size f.place) }
     ensures room { length page.new ≡ length page.old }
     ensures looks { Looks H.tells (H.world host.old) (H.world host.new) engine.old engine.new }
+    ensures once { (t : Trail) → IsTrue H.tells → IsOpen (H.world host.old) engine.old t → OnOk result ((H.world host.new).reads ≤ (H.world host.old).reads + length (found_pages Catalogue t.base.image)) }
+    ensures within { IsTrue H.tells → (H.world host.new).reads ≤ (H.world host.old).reads + engine.old.files.count }
     ensures cause { CountsDevice result (H.faults host.old) (H.faults host.new) }
     ensures takes_none { IfErr result (λ fault. fault ≢ Memory) }
 {
@@ -57,6 +59,8 @@ pub(crate) fn find_row<H: Host>(
     ensures short { IfOk result (λ f. length_in f.bytes ≤ 200) }
     ensures room { length page.new ≡ length page.old }
     ensures looks { Looks H.tells (H.world host.old) (H.world host.new) engine.old engine.new }
+    ensures once { (t : Trail) → IsTrue H.tells → IsOpen (H.world host.old) engine.old t → OnOk result ((H.world host.new).reads ≤ (H.world host.old).reads + length (found_pages (RowsFrom first) t.base.image)) }
+    ensures within { IsTrue H.tells → (H.world host.new).reads ≤ (H.world host.old).reads + engine.old.files.count }
     ensures cause { CountsDevice result (H.faults host.old) (H.faults host.new) }
     ensures takes_none { IfErr result (λ fault. fault ≢ Memory) }
 {

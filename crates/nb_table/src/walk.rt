@@ -106,7 +106,7 @@ fn read_link<H: Host>(
 
 /// Comes by all slots of the chain in which it is looked for, and answers its last page too. The refusal is `NotDatabase` of the first page
 /// that breaks the form: a chain that leads back into itself has more pages than the database. Each page of the chain takes one read at
-/// most.
+/// most, and where it is broken there are no more reads than pages of the database.
 pub(crate) fn walk<H: Host>(
     host: &mut H,
     engine: &mut Engine,
@@ -125,6 +125,7 @@ pub(crate) fn walk<H: Host>(
     ensures sized { length page.new ≡ length page.old }
     ensures looks { Looks H.tells (H.world host.old) (H.world host.new) engine.old engine.new }
     ensures once { (t : Trail) → IsTrue H.tells → IsOpen (H.world host.old) engine.old t → OnOk result ((H.world host.new).reads ≤ (H.world host.old).reads + length (found_pages (chain_of sought.now) t.base.image)) }
+    ensures within { IsTrue H.tells → (H.world host.new).reads ≤ (H.world host.old).reads + engine.old.files.count }
     ensures cause { CountsDevice result (H.faults host.old) (H.faults host.new) }
     ensures takes_none { IfErr result (λ fault. fault ≢ Memory) }
 {

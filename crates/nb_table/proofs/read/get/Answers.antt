@@ -1,7 +1,8 @@
-use Rattle.std.proofs.Common.{◌≡◌, ℕ, List, [], ap, sym, ◌∙◌}
-use Rattle.nb_table.proofs.Common.{quiet_joined, Value, Spot, text_in, Seen, says, get_turn, valued, seeing, valued_does, tested_does, Found, spot_of, looks_then}
+use Rattle.std.proofs.Common.{◌≡◌, ℕ, List, [], ap, sym, ◌∙◌, arith}
+use Rattle.nb_table.proofs.Common.{quiet_joined, Value, Spot, text_in, Seen, says, get_turn, valued, seeing, valued_does, tested_does, Found, Held, spot_of, looks_then}
 use Rattle.nb_table.proofs.FindLaws.{row_cause, row_found}
 use Rattle.nb_table.proofs.ReadTurns.{get_missing, get_refused, get_says}
+use Rattle.nb_table.proofs.ReadsLaws.{rows_few}
 use Rattle.nb_table.proofs.read.get.Goals as goal
 
 pub returns-in_err-found-clause-turn : goal.returns-in_err-found-clause-turn
@@ -39,3 +40,17 @@ returns-in_err-row-clause-looks g c = looks_then c.in_ok-found.ensures.looks c.i
 
 pub returns-clause-looks : goal.returns-clause-looks
 returns-clause-looks g c = looks_then c.in_ok-found.ensures.looks c.in_ok-row.ensures.looks
+
+pub returns-clause-once : goal.returns-clause-once
+returns-clause-once g c t tells is =
+    let found = c.in_ok-found.ensures in
+    rows_few t.base.image c.args.table.now (spot_of c.in_ok-found.found) c.first_page.result _ (g.H.Host.world c.find_table.new.host).reads _ (found.found t tells is) c.first_page.ensures (found.once t tells is) (c.in_ok-row.ensures.once t tells (found.looks.opened t tells is))
+
+pub returns-in_err-found-clause-within : goal.returns-in_err-found-clause-within
+returns-in_err-found-clause-within g c tells = omega (arith, c.find_table.ensures.within tells)
+
+pub returns-in_err-row-clause-within : goal.returns-in_err-row-clause-within
+returns-in_err-row-clause-within g c tells = omega (arith, c.find_table.ensures.within tells, c.find_row.ensures.within tells, ap (λ (h : Held). h.files.count) c.in_ok-found.ensures.looks.same)
+
+pub returns-clause-within : goal.returns-clause-within
+returns-clause-within g c tells = omega (arith, c.find_table.ensures.within tells, c.find_row.ensures.within tells, ap (λ (h : Held). h.files.count) c.in_ok-found.ensures.looks.same)

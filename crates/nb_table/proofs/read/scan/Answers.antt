@@ -1,7 +1,8 @@
-use Rattle.std.proofs.Common.{◌≡◌, ℕ, List, [], ap, sym, subst, ◌∙◌, None, Err}
-use Rattle.nb_table.proofs.Common.{BTreeMap, Fault, quiet_joined, broken_at, RowsFrom, Spot, pages_of, spots, Seen, says, RowMap, rows_in, scan_turn, Tested, seeing, valued_does, tested_does, Found, spot_of, none_some, looks_then}
+use Rattle.std.proofs.Common.{◌≡◌, ℕ, List, [], ap, sym, subst, ◌∙◌, arith, None, Err}
+use Rattle.nb_table.proofs.Common.{BTreeMap, Fault, quiet_joined, broken_at, RowsFrom, Spot, pages_of, spots, Seen, says, RowMap, rows_in, scan_turn, Tested, seeing, valued_does, tested_does, Found, Held, spot_of, none_some, looks_then}
 use Rattle.nb_model.specs.declared.reply.Reply.TheVariants.{Rows}
 use Rattle.nb_table.proofs.ReadTurns.{scan_missing, scan_broken, scan_says}
+use Rattle.nb_table.proofs.ReadsLaws.{rows_few}
 use Rattle.nb_table.proofs.read.scan.Goals as goal
 
 pub returns-in_err-found-clause-turn : goal.returns-in_err-found-clause-turn
@@ -48,3 +49,20 @@ returns-in_err-list-clause-looks g c = looks_then c.in_ok-found.ensures.looks c.
 
 pub returns-clause-looks : goal.returns-clause-looks
 returns-clause-looks g c = looks_then c.in_ok-found.ensures.looks c.in_ok-rows.ensures.looks
+
+pub returns-clause-once : goal.returns-clause-once
+returns-clause-once g c t tells is =
+    let found = c.in_ok-found.ensures in
+    rows_few t.base.image c.args.table.now (spot_of c.in_ok-found.found) c.first_page.result _ (g.H.Host.world c.find_table.new.host).reads _ (found.found t tells is) c.first_page.ensures (found.once t tells is) (c.in_ok-rows.ensures.once t tells (found.looks.opened t tells is))
+
+pub returns-in_err-found-clause-within : goal.returns-in_err-found-clause-within
+returns-in_err-found-clause-within g c tells = omega (arith, c.find_table.ensures.within tells)
+
+pub returns-in_err-rows-clause-within : goal.returns-in_err-rows-clause-within
+returns-in_err-rows-clause-within g c tells = omega (arith, c.find_table.ensures.within tells, c.take_rows.ensures.within tells, ap (λ (h : Held). h.files.count) c.in_ok-found.ensures.looks.same)
+
+pub returns-in_err-list-clause-within : goal.returns-in_err-list-clause-within
+returns-in_err-list-clause-within g c tells = omega (arith, c.find_table.ensures.within tells, c.take_rows.ensures.within tells, ap (λ (h : Held). h.files.count) c.in_ok-found.ensures.looks.same)
+
+pub returns-clause-within : goal.returns-clause-within
+returns-clause-within g c tells = omega (arith, c.find_table.ensures.within tells, c.take_rows.ensures.within tells, ap (λ (h : Held). h.files.count) c.in_ok-found.ensures.looks.same)

@@ -1,6 +1,7 @@
-use Rattle.std.proofs.Common.{ℕ, sym, ap, ◌∙◌}
+use Rattle.std.proofs.Common.{ℕ, sym, ap, ◌∙◌, arith}
 use Rattle.nb_table.proofs.Common.{read_only, too_long, broken_at, RowsFrom, pages_of, Held, tested_on, Found, Walked, Rows, rows_cause, spot_of, looks_then}
 use Rattle.nb_table.proofs.InTableLaws.{find_cause, before_fails, table_fails, behind_fails, chain_fails, rows_none}
+use Rattle.nb_table.proofs.ReadsLaws.{rows_few}
 use Rattle.nb_table.proofs.rows.find_rows.Goals as goal
 
 pub returns-in_err-check_access-clause-test : goal.returns-in_err-check_access-clause-test
@@ -53,3 +54,21 @@ returns-in_err-walked-clause-looks g c = looks_then c.in_ok-found.ensures.looks 
 
 pub returns-clause-looks : goal.returns-clause-looks
 returns-clause-looks g c = looks_then c.in_ok-found.ensures.looks c.in_ok-walked.ensures.looks
+
+pub returns-clause-once : goal.returns-clause-once
+returns-clause-once g c t tells is =
+    let found = c.in_ok-found.ensures in
+    rows_few t.base.image c.args.table.now (spot_of c.in_ok-found.found) c.first_page-first.result _ (g.H.Host.world c.find_table.new.host).reads _ (found.found t tells is) c.first_page-first.ensures (found.once t tells is)
+    (c.in_ok-walked.ensures.once t tells (found.looks.opened t tells is))
+
+pub returns-in_err-found-clause-within : goal.returns-in_err-found-clause-within
+returns-in_err-found-clause-within g c tells = omega (arith, c.find_table.ensures.within tells)
+
+pub returns-in_err-check_text-clause-within : goal.returns-in_err-check_text-clause-within
+returns-in_err-check_text-clause-within g c tells = omega (arith, c.find_table.ensures.within tells)
+
+pub returns-in_err-walked-clause-within : goal.returns-in_err-walked-clause-within
+returns-in_err-walked-clause-within g c tells = omega (arith, c.find_table.ensures.within tells, c.walk.ensures.within tells, ap (λ (h : Held). h.files.count) c.in_ok-found.ensures.looks.same)
+
+pub returns-clause-within : goal.returns-clause-within
+returns-clause-within g c tells = omega (arith, c.find_table.ensures.within tells, c.walk.ensures.within tells, ap (λ (h : Held). h.files.count) c.in_ok-found.ensures.looks.same)
