@@ -4,7 +4,7 @@ use Rattle.std.specs.Global.{Vec}
 use Rattle.std.specs.Vec.{vec_capacity}
 use Rattle.nb_model.specs.Lines.{Word, reply_words}
 use Rattle.nb_model.specs.declared.reply.Reply.{Reply}
-use Rattle.nb_model.specs.declared.reply.Reply.TheVariants.{Done, Pages, PageMade, Scn, ScnPages, Level, Freed}
+use Rattle.nb_model.specs.declared.reply.Reply.TheVariants.{Done, Pages, PageMade, Scn, ScnPages, Level, Freed, Activated}
 
 -- the reply says what was done
 abbrev pub is_brief : Reply → Bool
@@ -15,6 +15,7 @@ is_brief (Scn scn) = true
 is_brief (ScnPages scn pages) = true
 is_brief (Level level scn pages id) = true
 is_brief (Freed pages) = true
+is_brief (Activated pages scn) = true
 is_brief other = false
 
 -- its words, and none of another reply
@@ -26,6 +27,7 @@ brief_words (Scn scn) = reply_words (Scn scn)
 brief_words (ScnPages scn pages) = reply_words (ScnPages scn pages)
 brief_words (Level level scn pages id) = reply_words (Level level scn pages id)
 brief_words (Freed pages) = reply_words (Freed pages)
+brief_words (Activated pages scn) = reply_words (Activated pages scn)
 brief_words other = []
 
 -- an empty line with memory for as many bytes as a brief one has at most

@@ -92,6 +92,11 @@ pub fn push_brief(line: &mut Vec<u8>, reply: &Reply) -> Result<(), AllocError>
             guid,
         } => push_level(line, *level as u64, *scn as u64, *pages as u64, guid),
         Reply::Freed { pages } => push_one(line, "freed", *pages as u64),
+        Reply::Activated { pages, scn } => {
+            push_one(line, "pages", *pages as u64)?;
+            push_field(line, "scn", *scn as u64)?;
+            Ok(())
+        }
         _ => Ok(()),
     }
 }

@@ -270,7 +270,8 @@ fn push_reply(line: &mut Vec<u8>, reply: &Reply) -> Result<(), AllocError>
         | Reply::Scn { .. }
         | Reply::ScnPages { .. }
         | Reply::Level { .. }
-        | Reply::Freed { .. } => push_brief(line, reply),
+        | Reply::Freed { .. }
+        | Reply::Activated { .. } => push_brief(line, reply),
         Reply::Opened { pages, state } => {
             push_two(line, ("pages", *pages as u64), ("state", *state as u64))
         }

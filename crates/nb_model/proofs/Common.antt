@@ -71,7 +71,7 @@ unfoldable pub use Rattle.nb_model.specs.Output.{acked, acked_in, status_of, tex
 pub use Rattle.nb_model.specs.Output.{output, status_after}
 unfoldable pub use Rattle.nb_model.specs.Owner.{diverted_base, entry_for, entry_of_files, main_page, not_opened, owned, owned_from, owned_page, owner, owner_with, slot_page}
 pub use Rattle.nb_model.specs.Owner.{behind_entries, delta_name, entry_in}
-unfoldable pub use Rattle.nb_model.specs.Pages.{access_turn, begin_turn, byte_strokes, cache_turn, end_scn, end_strokes, end_turn, ends_by, forced_turn, free_turn, header_turn, image_turn, new_turn, read_turn, write_turn}
+unfoldable pub use Rattle.nb_model.specs.Pages.{access_turn, begin_turn, byte_strokes, cache_turn, end_scn, end_strokes, end_turn, activated, activate_turn, ends_by, forced_turn, free_turn, header_turn, image_turn, new_turn, read_turn, write_turn}
 pub use Rattle.nb_model.specs.Pagewise.{AgreesWith, IsPagewise}
 unfoldable pub use Rattle.nb_model.specs.Restoring.{all_over, applied, first_link, next_link, next_links, not_behind, not_whole, verdict}
 pub use Rattle.nb_model.specs.Restoring.{Link, is_bad_length, level_link, whole_link}
@@ -98,7 +98,7 @@ pub use Rattle.nb_model.specs.WellTrail.{AllGoOn, IsOverFrozen, IsSoundTrail, Is
 pub use Rattle.nb_model.specs.declared.reply.Reply.{Reply}
 pub use Rattle.nb_model.specs.declared.reply.Reply.TheVariants.{Done, Freed, Opened, Pages, Refused, Rows, Scn, Value}
 pub use Rattle.nb_model.specs.declared.statement.Statement.{Statement}
-pub use Rattle.nb_model.specs.declared.statement.Statement.TheVariants.{Access, Backup, BackupSince, BeginBackup, Check, CopyTo, CreateDb, CreateTable, Delete, DropTable, EndBackup, Forced, Free, Get, Insert, OpenDb, PageNew, Read, Reclaim, Scan, ShowCache, ShowHeader, ShowImage, ShowPages, Sync, Update, Write}
+pub use Rattle.nb_model.specs.declared.statement.Statement.TheVariants.{Access, Backup, BackupSince, BeginBackup, Check, CopyTo, CreateDb, CreateTable, Delete, DropTable, EndBackup, Activate, Forced, Free, Get, Insert, OpenDb, PageNew, Read, Reclaim, Scan, ShowCache, ShowHeader, ShowImage, ShowPages, Sync, Update, Write}
 pub use Rattle.std.proofs.Math.Nat.{div-eq_of_lt, div-mul-le_self, mod-eq_of_lt, mul-div_cancel, mul-mod_left, pow-suc, suc-mul}
 pub use Rattle.std.proofs.Math.Seq.{get_or-append_seam, set-append_seam, take-append-add}
 pub use Rattle.std.proofs.lemmas.Bool.{and_from, and_left, and_parts, and_right, cases_Bool, cases_lt, cond-false, cond-true, cond_both, eq-eqb, eqb-false, eqb-true, false_from_ne_true, le-leb, leb-true, lt-leb, lt-ltb, ltb-false, ltb-true, ne_eqb, or_cases, or_from, or_parts, or_right, true≢false}

@@ -1,9 +1,9 @@
 -- Turns come to an end: what a turn leaves to do weighs less than it, or there are fewer turns.
 use Rattle.std.proofs.Common.{◌≡◌, inl, inr, ⊎_elim, ◌⊎◌, ℕ, zero, suc, ◌+◌, ◌-◌, ◌<◌, ◌≤◌, List, [], ◌∷◌, ◌++◌, length, replicate, get_or, set, refl, sym, ap, subst, ◌∙◌, arith, length-append, true}
-use Rattle.nb_model.proofs.Common.{AllByRecursion, sum_by, get_or_past, length-set, leb_tells, Reply, Statement, BeginBackup, EndBackup, Backup, BackupSince, CopyTo, Ask, room_in, backup_turn, since_turn, copy_turn, close_backup, close_copy, Turn, Begins, Copies, ClosesBackup, ClosesCopy, Ends, Merges, Finishes, Seen, Outcome, begin_turn, end_turn, ends_by, first_turn, turn, Now, Played, outcome, stands_then, take_turn, one_turn, play, rounds, all_sessions, AreFinished, is_on_pages}
+use Rattle.nb_model.proofs.Common.{AllByRecursion, sum_by, get_or_past, length-set, leb_tells, Reply, Statement, BeginBackup, EndBackup, Activate, Backup, BackupSince, CopyTo, Ask, room_in, backup_turn, since_turn, copy_turn, close_backup, close_copy, Turn, Begins, Copies, ClosesBackup, ClosesCopy, Ends, Merges, Finishes, Seen, Outcome, begin_turn, end_turn, activate_turn, ends_by, first_turn, turn, Now, Played, outcome, stands_then, take_turn, one_turn, play, rounds, all_sessions, AreFinished, is_on_pages}
 use Rattle.std.proofs.lemmas.List.Sums.{sum_by-set}
 use Rattle.nb_model.proofs.RunLaws.{play-append, nothing_taken}
-use Rattle.nb_model.proofs.TurnCases.{started, statement_cases, begin_either, end_either, backup_either, since_either, copy_either, pages_once}
+use Rattle.nb_model.proofs.TurnCases.{started, statement_cases, begin_either, end_either, activate_either, backup_either, since_either, copy_either, pages_once}
 
 -- A turn weighs more than all that it leaves to do in its place, or leaves nothing.
 abbrev pub weight_of : Turn → ℕ
@@ -44,7 +44,7 @@ merging_left t s session reply some = leaves_many t Merges (Finishes reply) (len
 
 first_leaves : (statement : Statement) → (s : Seen) (session : ℕ) → Leaves (Begins statement) (first_turn s session statement).next
 unfolding first_turn
-first_leaves statement s session = statement_cases (λ x. Leaves (Begins x) (first_turn s session x).next) pages begins ends backs sinces copies statement
+first_leaves statement s session = statement_cases (λ x. Leaves (Begins x) (first_turn s session x).next) pages begins ends activates backs sinces copies statement
   where
     pages : (x : Statement) → is_on_pages x ≡ true → Leaves (Begins x) (first_turn s session x).next
     pages x on = subst (Leaves (Begins x)) (sym (pages_once x on s session).next) (none_left x)
@@ -54,6 +54,9 @@ first_leaves statement s session = statement_cases (λ x. Leaves (Begins x) (fir
 
     ends : Leaves (Begins EndBackup) (end_turn s session).next
     ends = end_either (λ o. Leaves (Begins EndBackup) o.next) s session (λ r. none_left EndBackup) (λ may. merging_left (Begins EndBackup) s session _ (omega arith))
+
+    activates : Leaves (Begins Activate) (activate_turn s session).next
+    activates = activate_either (λ o. Leaves (Begins Activate) o.next) s session (λ r. none_left Activate) (none_left Activate) (λ may. merging_left (Begins Activate) s session _ (omega arith))
 
     started_left : (x : Statement) (name : List ℕ) (ask : Ask) → Leaves (Begins x) (started s session name ask).next
     started_left x name ask = leaves_many (Begins x) Copies _ (length (room_in s.base.image).draft.image) refl (omega arith)

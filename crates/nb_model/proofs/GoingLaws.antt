@@ -1,6 +1,6 @@
 -- What holds between two turns holds after each turn.
 use Rattle.std.proofs.Common.{◌≡◌, ◌≢◌, inl, inr, ◌⊎◌, ℕ, zero, suc, ◌+◌, ◌-◌, ◌<◌, ◌≤◌, List, [], ◌∷◌, ◌++◌, length, map, drop, replicate, get_or, set, refl, sym, ap, subst, ◌∙◌, arith, append_assoc, Bool, Option, Some, None, true, false, ◌==◌, ◌&&◌}
-use Rattle.nb_model.proofs.Common.{AllByRecursion, slice_index_or, true≢false, eqb-true, eqb-false, leb-true, eqb_tells, leb_tells, get_or_past, get_or-set_same, get_or-set_other, is_header, scn_of, guid_of, normal_state, stalled_state, merge_state, is_name, Refusal, HasItsEntry, Reply, Statement, Base, Account, Ask, room_in, close_backup, close_copy, is_free_entry, runs_other, broken_at, not_of_form, short_for, History, pages_of, spots, free_spot, AreBeginnings, AreMerging, IsNamed, AreNamed, HasRoom, Runs, IsAt, waits, backs_up, copies, merges, IsGoing, IsMaking, Page, Image, first_page, image_size, image_state, image_scn, image_guid, trimmed, Turn, Begins, Copies, ClosesBackup, ClosesCopy, Ends, Merges, Finishes, Backing, Seen, Outcome, Given, next_guid, passes, ends_by, end_strokes, Now, Played, base_now, account_after, outcome, stands_then, take_turn, one_turn, play, event_of, begun, files_made, HasHeader, IsSoundImage, Stroke, begin, ends, finish, on_base, base_after, with_control, first_turn, turn, is_on_pages, some_same, nil_cons, none_some}
+use Rattle.nb_model.proofs.Common.{AllByRecursion, slice_index_or, true≢false, eqb-true, eqb-false, leb-true, eqb_tells, leb_tells, get_or_past, get_or-set_same, get_or-set_other, is_header, scn_of, guid_of, normal_state, Refused, stalled_state, merge_state, is_name, Refusal, HasItsEntry, Reply, Statement, Base, Account, Ask, room_in, close_backup, close_copy, is_free_entry, runs_other, broken_at, not_of_form, short_for, History, pages_of, spots, free_spot, AreBeginnings, AreMerging, IsNamed, AreNamed, HasRoom, Runs, IsAt, waits, backs_up, copies, merges, IsGoing, IsMaking, Page, Image, first_page, image_size, image_state, image_scn, image_guid, trimmed, Turn, Begins, Copies, ClosesBackup, ClosesCopy, Ends, Merges, Finishes, Backing, Seen, Outcome, says, Given, next_guid, passes, ends_by, end_strokes, Now, Played, base_now, account_after, outcome, stands_then, take_turn, one_turn, play, event_of, begun, files_made, HasHeader, IsSoundImage, Stroke, begin, ends, finish, on_base, base_after, with_control, first_turn, turn, is_on_pages, some_same, nil_cons, none_some}
 use Rattle.std.proofs.Math.ListN.{get_or-map}
 use Rattle.nb_model.specs.Going.{ends as ending}
 use Rattle.nb_model.proofs.ControlMay.{may_begin, may_end, may_finish}
@@ -14,7 +14,7 @@ use Rattle.nb_model.proofs.RoomLaws.{AnyPage, room_with}
 use Rattle.nb_model.proofs.RoomThere.{IsThere, room_keeps, room_there_after, begun_there}
 use Rattle.nb_model.proofs.RunLaws.{turn_stands}
 use Rattle.nb_model.proofs.SoundTurns.{fitting_keeps, begin_keeps, ends_keep, finish_keeps, IsStarted, start_keeps, HasPlace, close_fits, seen_now}
-use Rattle.nb_model.proofs.TurnCases.{MayBegin, MayEnd, MayStart, MayCopy, refused, started, copied, IsOnce, refused_once, left_by, left_guids, statement_cases, begin_either, end_either, its_own, backup_either, since_either, copy_either, pages_once}
+use Rattle.nb_model.proofs.TurnCases.{MayBegin, MayEnd, MayStart, MayCopy, refused, started, copied, IsOnce, refused_once, left_by, left_guids, statement_cases, begin_either, end_either, activate_either, its_own, backup_either, since_either, copy_either, pages_once}
 use Rattle.nb_model.proofs.TurnCases as cases
 use Rattle.nb_model.proofs.StrokeLaws.{base_after-append}
 use Rattle.nb_model.proofs.TrimLaws.{trimmed_front, finish_base}
@@ -216,9 +216,12 @@ module _ {sound : Bool} (session : ℕ) (now : Now) (going : IsGoing sound now) 
     once_step left same once all entries = pages_step (ap (λ (g : Given). g.guids) once.given ∙ same)
         (waits (subst (λ (ts : List Turn). AreBeginnings (ts ++ rest)) (sym once.next) all)) (λ other number off runs. (once.running, once.made, entries))
 
-  -- It is refused.
+  -- It only says something, as a refusal.
+  said_step : (rest : List Turn) → AreBeginnings rest → (reply : Reply) → IsStep sound now session (says s reply []) rest
+  said_step rest all reply = once_step rest (says s reply []) tt sure_none s.given refl (record { next = refl; running = refl; made = refl; given = refl }) all entries_none
+
   refused_step : (rest : List Turn) → AreBeginnings rest → (r : Refusal) → IsStep sound now session (refused s r) rest
-  refused_step rest all r = once_step rest (refused s r) tt sure_none s.given refl (refused_once s r) all entries_none
+  refused_step rest all r = said_step rest all (Refused r)
 
   statement_step : (rest : List Turn) (statement : Statement) → is_on_pages statement ≡ true → IsNamed (Begins statement) → AreBeginnings rest → IsStep sound now session (first_turn s session statement) rest
   statement_step rest statement on named all =
@@ -306,6 +309,7 @@ module _ {sound : Bool} (session : ℕ) (now : Now) (going : IsGoing sound now) 
       (λ x on named. statement_step rest x on named all)
       (λ named. begin_either Step s (refused_step rest all) (begun_step rest all))
       (λ named. end_either Step s session (refused_step rest all) (λ may. ended_step rest all _ may.other (alone may)))
+      (λ named. activate_either Step s session (refused_step rest all) (said_step rest all _) (λ may. ended_step rest all _ may.other (alone may)))
       (λ level name named. backup_either Step s session level name (refused_step rest all) (λ ask is. started_step rest all name ask))
       (λ guid name named. since_either Step s session guid name (refused_step rest all) (λ ask is. started_step rest all name ask))
       (λ name named. copy_either Step s session name (refused_step rest all) (copied_step rest all name))
@@ -536,6 +540,7 @@ module _ (session : ℕ) (s : Seen) (sixteen : length (next_guid s.given) ≡ 16
       (λ x on named. subst (AllByRecursion IsNamed) (sym (pages_once x on s session).next) tt)
       (λ named. begin_either Names s (λ r. tt) (λ may. tt))
       (λ named. end_either Names s session (λ r. tt) (λ may. merging_named _))
+      (λ named. activate_either Names s session (λ r. tt) tt (λ may. merging_named _))
       (λ level name named. backup_either Names s session level name (λ r. tt) (λ ask is may. started_named name ask named))
       (λ guid name named. since_either Names s session guid name (λ r. tt) (λ ask is may. started_named name ask named))
       (λ name named. copy_either Names s session name (λ r. tt) (λ may. many IsNamed (length s.base.frozen) Copies (ClosesCopy name ∷ []) tt (named, tt)))

@@ -11,7 +11,7 @@ use Rattle.nb_model.proofs.RunLaws.{entry_same}
 use Rattle.nb_model.proofs.SoundLaws.{kind_of_header}
 use Rattle.nb_model.proofs.SoundTurns.{seen_now}
 use Rattle.nb_model.proofs.StandsLaws.{entry_other}
-use Rattle.nb_model.proofs.TurnCases.{begin_either, end_either, backup_either, since_either, copy_either, pages_once, statement_cases}
+use Rattle.nb_model.proofs.TurnCases.{begin_either, end_either, activate_either, backup_either, since_either, copy_either, pages_once, statement_cases}
 
 -- one element
 pub one_held : (f g : MadeFile) → Contains (f ∷ []) g → f ≡ g
@@ -170,6 +170,7 @@ first_makes statement s session = statement_cases (λ x. (first_turn s session x
     (λ x on. (pages_once x on s session).made)
     (begin_either None_made s (λ r. refl) (λ may. refl))
     (end_either None_made s session (λ r. refl) (λ may. refl))
+    (activate_either None_made s session (λ r. refl) refl (λ may. refl))
     (λ level name. backup_either None_made s session level name (λ r. refl) (λ ask is may. refl))
     (λ guid name. since_either None_made s session guid name (λ r. refl) (λ ask is may. refl))
     (λ name. copy_either None_made s session name (λ r. refl) (λ may. refl))

@@ -1,6 +1,6 @@
 -- Each turn leaves a neat image neat at each of its strokes, so that no page is in danger.
 use Rattle.std.proofs.Common.{◌≡◌, ◌≢◌, ◌⊎◌, inl, inr, ⊎_elim, ℕ, ◌≤◌, List, [], ◌∷◌, ◌++◌, length, take, refl, sym, ap, subst, ◌∙◌, arith, Bool, true, false, ◌==◌, Some, None, Contains}
-use Rattle.nb_model.proofs.Common.{AllByRecursion, true≢false, eqb-true, and_parts, stalled_state, is_name, Reply, Done, Freed, Refused, Statement, CreateDb, PageNew, Write, Free, BeginBackup, EndBackup, Backup, BackupSince, CreateTable, DropTable, Insert, Update, Delete, Forced, Access, Sync, Reclaim, Ask, Base, room_in, close_backup, close_copy, Backing, Cause, reclaim_cause, reclaimed, reclaim_turn, Draft, drafted, give_page, Page, Image, image_state, is_among, leaked, reached, not_true, History, Turn, Begins, Copies, ClosesBackup, ClosesCopy, Ends, Merges, Finishes, Seen, Outcome, says, unless, next_guid, next_time, GivesRows, ChangesRows, IsNeat, HasHeader, IsSoundImage, Stroke, begin, ends, finish, base_after, base_of, all_given, begin_turn, end_turn, ends_by, create_turn, drop_turn, insert_turn, update_turn, delete_turn, first_turn, turn, IsNamed}
+use Rattle.nb_model.proofs.Common.{AllByRecursion, true≢false, eqb-true, and_parts, stalled_state, is_name, Reply, Done, Freed, Refused, Statement, CreateDb, PageNew, Write, Free, BeginBackup, EndBackup, Activate, Backup, BackupSince, CreateTable, DropTable, Insert, Update, Delete, Forced, Access, Sync, Reclaim, Ask, Base, room_in, close_backup, close_copy, Backing, Cause, reclaim_cause, reclaimed, reclaim_turn, Draft, drafted, give_page, Page, Image, image_state, is_among, leaked, reached, not_true, History, Turn, Begins, Copies, ClosesBackup, ClosesCopy, Ends, Merges, Finishes, Seen, Outcome, says, unless, next_guid, next_time, GivesRows, ChangesRows, IsNeat, HasHeader, IsSoundImage, Stroke, begin, ends, finish, base_after, base_of, all_given, begin_turn, end_turn, activate_turn, ends_by, create_turn, drop_turn, insert_turn, update_turn, delete_turn, first_turn, turn, IsNamed}
 unfoldable use Rattle.nb_model.specs.Pages.{end_strokes}
 use Rattle.nb_model.specs.Danger.{StaysApart, IsKeyed, HasItsPlace}
 use Rattle.nb_model.specs.HistoryRows.{HasFreeRow}
@@ -24,7 +24,7 @@ use Rattle.nb_model.proofs.ReadTurns.{turn_strokes}
 use Rattle.nb_model.proofs.RowLaws.{insert_rows, update_rows, delete_rows, create_rows, drop_rows}
 use Rattle.nb_model.proofs.TableCases.{create_either, drop_either, insert_either, update_either, delete_either}
 use Rattle.nb_model.proofs.ToldTurns.{told_strokes}
-use Rattle.nb_model.proofs.TurnCases.{MayStart, begin_either, end_either, backup_either, since_either}
+use Rattle.nb_model.proofs.TurnCases.{MayStart, begin_either, end_either, activate_either, backup_either, since_either}
 
 -- at each front of the strokes the image is neat
 abbrev NeatAlong : Base → List Stroke → Type 0
@@ -119,6 +119,9 @@ module _ (s : Seen) (session : ℕ) (header : HasHeader s.base.image) (is : IsSo
   end_neat : Neat (end_turn s session)
   end_neat = end_either Neat s session (λ r. none_neat) (λ may. ends_neat _)
 
+  activate_neat : Neat (activate_turn s session)
+  activate_neat = activate_either Neat s session (λ r. none_neat) none_neat (λ may. ends_neat _)
+
   starts_neat : (name : List ℕ) (ask : Ask) → MayStart s name → length (next_guid s.given) ≡ 16 → NeatAlong s.base ((room_in x).draft.strokes ++ begin (next_guid s.given) (Some ask) ∷ [])
   starts_neat name ask may sixteen = carried ((room_in x).draft.strokes ++ begin (next_guid s.given) (Some ask) ∷ []) (start_along s.base header is neat may.left (next_guid s.given) ask may.may.scn sixteen)
 
@@ -132,6 +135,7 @@ module _ (s : Seen) (session : ℕ) (header : HasHeader s.base.image) (is : IsSo
   writes_neat (Access closed) on named keyed sixteen = (access_rows s header is neat session closed).neat
   writes_neat BeginBackup on named keyed sixteen = begin_neat sixteen
   writes_neat EndBackup on named keyed sixteen = end_neat
+  writes_neat Activate on named keyed sixteen = activate_neat
   writes_neat (Backup level name) on named keyed sixteen = backup_either Neat s session level name (λ r. none_neat) (λ ask from may. starts_neat name ask may sixteen)
   writes_neat (BackupSince guid name) on named keyed sixteen = since_either Neat s session guid name (λ r. none_neat) (λ ask from may. starts_neat name ask may sixteen)
   writes_neat (CreateTable table) on named keyed sixteen = done_neat (create_turn s table) table _ (create_done table) (create_rows s session table header is neat named)

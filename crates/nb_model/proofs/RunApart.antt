@@ -25,7 +25,7 @@ use Rattle.nb_model.proofs.PutSound.{header_whole}
 use Rattle.nb_model.proofs.RoomLaws.{in_chain, chain_owner}
 use Rattle.nb_model.proofs.RunLaws.{strokes_of-append, one_is}
 use Rattle.nb_model.proofs.SoundTurns.{seen_now}
-use Rattle.nb_model.proofs.TurnCases.{statement_cases, refused, MayStart, started, begin_either, end_either, backup_either, since_either, copy_either, pages_once}
+use Rattle.nb_model.proofs.TurnCases.{statement_cases, refused, MayStart, started, begin_either, end_either, activate_either, backup_either, since_either, copy_either, pages_once}
 
 -- each slot of the history is there still
 abbrev KeepsSlots : Image → Image → Type 0
@@ -115,6 +115,7 @@ module _ (s : Seen) (session : ℕ) (header : HasHeader s.base.image) (is : IsSo
   first_steps = statement_cases (λ statement. IsNamed (Begins statement) → StepsOn s (first_turn s session statement)) pages_steps
       (λ named. begin_either (StepsOn s) s refused_steps (λ may. record { slots = one_slots s.base (begin (next_guid s.given) None) (begin_history s.base header is neat (next_guid s.given) None may.scn sixteen); next = tt }))
       (λ named. end_either (StepsOn s) s session refused_steps (λ may. ends_steps _))
+      (λ named. activate_either (StepsOn s) s session refused_steps (none_steps _ refl refl) (λ may. ends_steps _))
       (λ level name named. backup_either (StepsOn s) s session level name refused_steps (λ ask from may. starts_steps name ask may))
       (λ guid name named. since_either (StepsOn s) s session guid name refused_steps (λ ask from may. starts_steps name ask may))
       (λ name named. copy_either (StepsOn s) s session name refused_steps (λ may. record { slots = no_slots s.base; next = repeated (HasItsPlace _) (length s.base.frozen) Copies (ClosesCopy name ∷ []) tt (tt, tt) }))

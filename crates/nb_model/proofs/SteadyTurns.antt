@@ -1,6 +1,6 @@
 -- While a backup is under way its record is kept, and all that was seen goes on from it: so each turn keeps what was seen well.
 use Rattle.std.proofs.Common.{◌≡◌, ◌≢◌, inl, inr, ℕ, zero, suc, ◌-◌, List, [], ◌∷◌, ◌++◌, length, replicate, get_or, refl, sym, ap, subst, ◌∙◌, arith, append_assoc, Bool, Option, None, true, false, ◌==◌}
-use Rattle.nb_model.proofs.Common.{AllByRecursion, eqb-true, eqb_tells, normal_state, stalled_state, merge_state, Refusal, Reply, Statement, Ask, Kept, Base, room_in, close_backup, close_copy, runs_other, AreBeginnings, AreMerging, IsNamed, AreNamed, HasRoom, Runs, IsAt, waits, backs_up, copies, merges, IsGoing, image_state, image_scn, Turn, Begins, Copies, ClosesBackup, ClosesCopy, Ends, Merges, Finishes, Backing, Seen, Outcome, next_guid, next_time, end_strokes, ends_by, Event, Now, Played, base_now, event_of, outcome, stands_then, one_turn, play, Step, settles, after_step, after_steps, made, steps_of, HasHeader, Stroke, begin, ends, finish, base_after, Trail, settled, first_turn, turn, is_on_pages, IsWellTrail, none_some}
+use Rattle.nb_model.proofs.Common.{AllByRecursion, activated, eqb-true, eqb_tells, normal_state, stalled_state, merge_state, Refusal, Refused, Reply, Statement, Ask, Kept, Base, room_in, close_backup, close_copy, runs_other, AreBeginnings, AreMerging, IsNamed, AreNamed, HasRoom, Runs, IsAt, waits, backs_up, copies, merges, IsGoing, image_state, image_scn, Turn, Begins, Copies, ClosesBackup, ClosesCopy, Ends, Merges, Finishes, Backing, Seen, Outcome, says, next_guid, next_time, end_strokes, ends_by, Event, Now, Played, base_now, event_of, outcome, stands_then, one_turn, play, Step, settles, after_step, after_steps, made, steps_of, HasHeader, Stroke, begin, ends, finish, base_after, Trail, settled, first_turn, turn, is_on_pages, IsWellTrail, none_some}
 use Rattle.nb_model.specs.Going.{ends as ending}
 use Rattle.nb_model.proofs.BackupWell.{IsLedTo, IsRecorded, StartsWell, recorded_on, recorded_settled, start_well, close_well}
 use Rattle.nb_model.proofs.GoingLaws.{next_sixteen, one_runs, name_short, then_base, own_todo, other_todo, one_cases, going_turn, named_turn, merge_turns}
@@ -13,7 +13,7 @@ use Rattle.nb_model.proofs.RoomLaws.{HasPlainRoom}
 use Rattle.nb_model.proofs.SoundTurns.{HasPlace}
 use Rattle.nb_model.proofs.SteadyLaws.{WellAlong, KeepsAlong, kept_along, pages_along, begin_along, ends_along, finish_along, settling_along, along_append, along_last, kept_append}
 use Rattle.nb_model.proofs.StepsLaws.{steps_one, steps_append, steps_seen, after_steps_append, made_seen}
-use Rattle.nb_model.proofs.TurnCases.{MayBegin, MayEnd, MayStart, MayCopy, IsFrom, refused, started, copied, statement_cases, begin_either, end_either, its_own, backup_either, since_either, copy_either, pages_once}
+use Rattle.nb_model.proofs.TurnCases.{MayBegin, MayEnd, MayStart, MayCopy, IsFrom, refused, started, copied, statement_cases, begin_either, end_either, activate_either, its_own, backup_either, since_either, copy_either, pages_once}
 use Rattle.nb_model.proofs.TurnCases as cases
 
 -- the backup that a turn closes is recorded
@@ -96,8 +96,11 @@ module _ (kept : List Kept) (t : Trail) (now : Now) (session : ℕ) (base : t.ba
     waits_then : (u : Trail) (rs : List Kept) → AreRecorded rs u rest
     waits_then u rs = beginnings_recorded rs u rest all
 
+    said_turn : (reply : Reply) → Does (says s reply [])
+    said_turn reply = no_stroke rest (waits_then t kept)
+
     refused_turn : (r : Refusal) → Does (refused s r)
-    refused_turn r = no_stroke rest (waits_then t kept)
+    refused_turn r = said_turn (Refused r)
 
     pages_turn : (statement : Statement) → is_on_pages statement ≡ true → IsNamed (Begins statement) → Does (first_turn s session statement)
     pages_turn statement on named =
@@ -157,6 +160,7 @@ module _ (kept : List Kept) (t : Trail) (now : Now) (session : ℕ) (base : t.ba
     statement_turn : (statement : Statement) → IsNamed (Begins statement) → Does (first_turn s session statement)
     unfolding first_turn
     statement_turn = statement_cases (λ x. IsNamed (Begins x) → Does (first_turn s session x)) pages_turn (λ named. begin_either Does s refused_turn begun_turn) (λ named. end_either Does s session refused_turn (λ may. ended_turn _ may.other (alone_by may)))
+        (λ named. activate_either Does s session refused_turn (said_turn (activated s.base)) (λ may. ended_turn _ may.other (alone_by may)))
         (λ level name named. backup_either Does s session level name refused_turn (started_turn name)) (λ guid name named. since_either Does s session guid name refused_turn (started_turn name)) (λ name named. copy_either Does s session name refused_turn (copied_turn name))
 
   -- the further turns of a backup, a copy or a merge of this session

@@ -1,19 +1,20 @@
 -- The first turn of a statement is refused, or nothing stood in the way of what it does.
 use Rattle.std.proofs.Common.{◌≡◌, ◌≢◌, inl, inr, ℕ, zero, suc, ◌+◌, ◌≤◌, List, [], ◌∷◌, ◌++◌, length, replicate, refl, sym, ap, ◌∙◌, arith, subst, Bool, true, false, not, ◌==◌, nat_lt, Option, Some, None, is_none}
-use Rattle.nb_model.proofs.Common.{true≢false, eqb-true, lt-ltb, leb_tells, normal_state, stalled_state, Refusal, WrongState, NoHistory, NoGuid, Reply, Scn, Refused, Statement, CreateDb, OpenDb, PageNew, Write, Free, BeginBackup, EndBackup, Backup, BackupSince, CopyTo, CreateTable, DropTable, Insert, Update, Delete, Get, Scan, Forced, Reclaim, ShowCache, Ask, same_name, room_in, ask_of, level_behind, starts, backup_turn, since_turn, copy_turn, close_backup, close_copy, Cause, first_cause, when, read_only, not_state, no_scn, not_free, is_free_entry, runs_other, runs_any, broken_at, not_of_form, no_room, short_for, Chain, History, Slot, Spot, pages_of, backup_spot, level_in, guid_in, free_spot, spots, Draft, Image, image_state, image_scn, is_read_only, Turn, Begins, Copies, ClosesBackup, ClosesCopy, Ends, Merges, Finishes, Seen, Given, Outcome, next_guid, without_guid, without_hold, says, unless, changes, new_turn, write_turn, free_turn, begin_turn, end_turn, ends_by, end_scn, forced_turn, access_turn, cache_turn, begin, with_spot, in_table, in_row, create_turn, drop_turn, insert_turn, update_turn, delete_turn, get_turn, scan_turn, reclaim_turn, first_turn, turn, is_on_pages, false_true}
+use Rattle.nb_model.proofs.Common.{true≢false, eqb-true, lt-ltb, leb_tells, normal_state, stalled_state, Refusal, WrongState, NoHistory, NoGuid, Reply, Scn, Refused, Statement, CreateDb, OpenDb, PageNew, Write, Free, BeginBackup, EndBackup, Activate, Backup, BackupSince, CopyTo, CreateTable, DropTable, Insert, Update, Delete, Get, Scan, Forced, Reclaim, ShowCache, Ask, same_name, room_in, ask_of, level_behind, starts, backup_turn, since_turn, copy_turn, close_backup, close_copy, Cause, first_cause, when, read_only, not_state, no_scn, not_free, is_free_entry, runs_other, runs_any, broken_at, not_of_form, no_room, short_for, Chain, History, Slot, Spot, pages_of, backup_spot, level_in, guid_in, free_spot, spots, Draft, Image, image_state, image_scn, is_read_only, Turn, Begins, Copies, ClosesBackup, ClosesCopy, Ends, Merges, Finishes, Seen, Given, Outcome, next_guid, without_guid, without_hold, says, unless, changes, new_turn, write_turn, free_turn, begin_turn, end_turn, activate_turn, activated, ends_by, end_scn, forced_turn, access_turn, cache_turn, begin, with_spot, in_table, in_row, create_turn, drop_turn, insert_turn, update_turn, delete_turn, get_turn, scan_turn, reclaim_turn, first_turn, turn, is_on_pages, false_true}
 use Rattle.nb_model.specs.declared.statement.Statement.TheVariants.{Access as SetAccess}
 use Rattle.nb_model.proofs.PutSound.{no_first, not_when}
 use Rattle.nb_model.proofs.ToldTurns.{is_told, does_more, told_turn, pages_cases}
 
--- A statement is one on pages, or one of the five that begin and end backups and copies.
-pub statement_cases : (P : Statement → Type 0) → ((statement : Statement) → is_on_pages statement ≡ true → P statement) → P BeginBackup → P EndBackup
+-- A statement is one on pages, or one of the six that begin and end backups and copies.
+pub statement_cases : (P : Statement → Type 0) → ((statement : Statement) → is_on_pages statement ≡ true → P statement) → P BeginBackup → P EndBackup → P Activate
     → ((level : ℕ) (name : List ℕ) → P (Backup level name)) → ((guid name : List ℕ) → P (BackupSince guid name)) → ((name : List ℕ) → P (CopyTo name)) → (statement : Statement) → P statement
-statement_cases P pages begins ends backs sinces copies BeginBackup = begins
-statement_cases P pages begins ends backs sinces copies EndBackup = ends
-statement_cases P pages begins ends backs sinces copies (Backup level name) = backs level name
-statement_cases P pages begins ends backs sinces copies (BackupSince guid name) = sinces guid name
-statement_cases P pages begins ends backs sinces copies (CopyTo name) = copies name
-statement_cases P pages begins ends backs sinces copies other = pages other refl
+statement_cases P pages begins ends activates backs sinces copies BeginBackup = begins
+statement_cases P pages begins ends activates backs sinces copies EndBackup = ends
+statement_cases P pages begins ends activates backs sinces copies Activate = activates
+statement_cases P pages begins ends activates backs sinces copies (Backup level name) = backs level name
+statement_cases P pages begins ends activates backs sinces copies (BackupSince guid name) = sinces guid name
+statement_cases P pages begins ends activates backs sinces copies (CopyTo name) = copies name
+statement_cases P pages begins ends activates backs sinces copies other = pages other refl
 
 -- it is refused
 abbrev pub refused : Seen → Refusal → Outcome
@@ -94,6 +95,16 @@ pub end_either : (P : Outcome → Type 0) (s : Seen) (session : ℕ) → ((r : R
 unfolding end_turn
 end_either P s session denied done =
     unless_either P s (first_cause (when (image_state s.base.image == normal_state) (WrongState 0) ∷ runs_other s.running session ∷ [])) (ended s session) denied (λ none. done (end_facts s session none))
+
+-- `activate`
+pub activate_either : (P : Outcome → Type 0) (s : Seen) (session : ℕ) → ((r : Refusal) → P (refused s r)) → P (says s (activated s.base) []) → (MayEnd s session → P (ends_by s session (activated s.base))) → P (activate_turn s session)
+unfolding activate_turn
+activate_either P s session denied normal done = by (image_state s.base.image == normal_state) refl
+  where
+    by : (t : Bool) → (image_state s.base.image == normal_state) ≡ t
+        → P (elim t as (λ z. Outcome) [ true ↦ says s (activated s.base) [] | false ↦ unless s (runs_other s.running session) (ends_by s session (activated s.base)) ])
+    by true is = normal
+    by false is = unless_either P s (runs_other s.running session) _ denied (λ none. done (record { other = λ e. true≢false (sym (ap (λ (n : ℕ). n == 0) e) ∙ is); alone = none }))
 
 -- no other session runs
 pub its_own : (other session : ℕ) → runs_other (Some other) session ≡ None → other ≡ session
@@ -304,6 +315,7 @@ first_holds s session = statement_cases (λ x. (first_turn s session x).given.ho
     (λ x on. ap (λ (g : Given). g.holds) (pages_once x on s session).given)
     (begin_either Same s (λ r. refl) (λ may. refl))
     (end_either Same s session (λ r. refl) (λ may. refl))
+    (activate_either Same s session (λ r. refl) refl (λ may. refl))
     (λ level name. backup_either Same s session level name (λ r. refl) (λ ask is may. refl))
     (λ guid name. since_either Same s session guid name (λ r. refl) (λ ask is may. refl))
     (λ name. copy_either Same s session name (λ r. refl) (λ may. refl))

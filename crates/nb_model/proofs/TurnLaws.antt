@@ -1,6 +1,6 @@
 -- A refused statement changes nothing and leaves nothing to do.
-use Rattle.std.proofs.Common.{◌≡◌, ℕ, zero, suc, List, [], refl, sym, ap, subst, ◌∙◌, Bool, true, false, Option, Some, None}
-use Rattle.nb_model.proofs.Common.{true≢false, Refusal, Reply, Refused, Statement, CreateDb, OpenDb, PageNew, Write, Free, BeginBackup, EndBackup, Backup, BackupSince, CopyTo, CreateTable, DropTable, Insert, Update, Delete, Get, Scan, Forced, Access, Reclaim, ShowCache, Ask, Draft, Cause, Chain, Slot, Spot, DoesNothing, Seen, Outcome, says, unless, changes, new_turn, write_turn, free_turn, begin_turn, end_turn, ends_by, forced_turn, access_turn, cache_turn, with_spot, in_table, in_row, create_turn, drop_turn, insert_turn, update_turn, delete_turn, get_turn, scan_turn, reclaim_turn, starts, backup_turn, since_turn, copy_turn, first_turn}
+use Rattle.std.proofs.Common.{◌≡◌, ℕ, zero, suc, List, [], refl, sym, ap, subst, ◌∙◌, Bool, true, false, ◌==◌, Option, Some, None}
+use Rattle.nb_model.proofs.Common.{true≢false, normal_state, Refusal, Reply, Refused, Statement, CreateDb, OpenDb, PageNew, Write, Free, BeginBackup, EndBackup, Activate, Backup, BackupSince, CopyTo, CreateTable, DropTable, Insert, Update, Delete, Get, Scan, Forced, Access, Reclaim, ShowCache, Ask, Draft, Cause, runs_other, Chain, Slot, Spot, DoesNothing, Seen, Outcome, says, image_state, unless, changes, new_turn, write_turn, free_turn, begin_turn, end_turn, activate_turn, activated, ends_by, forced_turn, access_turn, cache_turn, with_spot, in_table, in_row, create_turn, drop_turn, insert_turn, update_turn, delete_turn, get_turn, scan_turn, reclaim_turn, starts, backup_turn, since_turn, copy_turn, first_turn}
 use Rattle.nb_model.proofs.StatusLaws.{is_refusal}
 use Rattle.nb_model.proofs.ToldTurns.{Tells, told_turn}
 
@@ -56,6 +56,14 @@ backed s session (suc below) name = started s session name _ _
 told_quiet : (s : Seen) (o : Outcome) → Tells s o → IsQuiet s o
 told_quiet s o tells = subst (IsQuiet s) (sym tells.is) (guarded s _ _ (answers s _ tells.told))
 
+activate_quiet : (s : Seen) (session : ℕ) → IsQuiet s (activate_turn s session)
+unfolding activate_turn activated ends_by
+activate_quiet s session = by (image_state s.base.image == normal_state)
+  where
+    by : (normal : Bool) → IsQuiet s (elim normal as (λ z. Outcome) [ true ↦ says s (activated s.base) [] | false ↦ unless s (runs_other s.running session) (ends_by s session (activated s.base)) ])
+    by true = answers s _ refl
+    by false = guarded s _ _ (answers s _ refl)
+
 -- the first turn of each statement
 pub first_quiet : (s : Seen) (session : ℕ) (statement : Statement) → IsQuiet s (first_turn s session statement)
 unfolding first_turn new_turn write_turn free_turn begin_turn end_turn ends_by forced_turn access_turn cache_turn create_turn drop_turn insert_turn update_turn delete_turn get_turn scan_turn reclaim_turn since_turn copy_turn
@@ -66,6 +74,7 @@ first_quiet s session (Write p text) = changed s _ _ _ refl
 first_quiet s session (Free p) = changed s _ _ _ refl
 first_quiet s session BeginBackup = guarded s _ _ (answers s _ refl)
 first_quiet s session EndBackup = guarded s _ _ (answers s _ refl)
+first_quiet s session Activate = activate_quiet s session
 first_quiet s session (Backup level name) = backed s session level name
 first_quiet s session (BackupSince guid name) = started s session name _ _
 first_quiet s session (CopyTo name) = guarded s _ _ (answers s _ refl)

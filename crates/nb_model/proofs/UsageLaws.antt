@@ -1,6 +1,6 @@
 -- No statement is refused as words that name no job.
-use Rattle.std.proofs.Common.{◌≡◌, ◌≢◌, ℕ, zero, suc, List, [], ◌∷◌, ◌++◌, refl, sym, ap, subst, ◌∙◌, Bool, Option, Some, None, false}
-use Rattle.nb_model.proofs.Common.{AllByRecursion, true≢false, Refusal, Usage, Reply, Done, Refused, Statement, CreateDb, OpenDb, PageNew, Write, Free, BeginBackup, EndBackup, Backup, BackupSince, CopyTo, CreateTable, DropTable, Insert, Update, Delete, Get, Scan, Forced, Reclaim, ShowCache, Ask, Draft, Cause, not_of_form, no_room, Chain, History, Slot, Spot, pages_of, Seen, Outcome, unless, changes, new_turn, write_turn, free_turn, begin_turn, end_turn, ends_by, forced_turn, access_turn, cache_turn, with_spot, in_table, in_row, create_turn, drop_turn, insert_turn, update_turn, delete_turn, get_turn, scan_turn, room_in, starts, backup_turn, since_turn, copy_turn, reclaim_turn, first_turn}
+use Rattle.std.proofs.Common.{◌≡◌, ◌≢◌, ℕ, zero, suc, List, [], ◌∷◌, ◌++◌, refl, sym, ap, subst, ◌∙◌, Bool, Option, Some, None, false, true, ◌==◌}
+use Rattle.nb_model.proofs.Common.{AllByRecursion, says, true≢false, Refusal, Usage, normal_state, Reply, Done, Refused, Statement, CreateDb, OpenDb, PageNew, Write, Free, BeginBackup, EndBackup, Activate, Backup, BackupSince, CopyTo, CreateTable, DropTable, Insert, Update, Delete, Get, Scan, Forced, Reclaim, ShowCache, Ask, Draft, Cause, runs_other, not_of_form, no_room, Chain, image_state, History, Slot, Spot, pages_of, Seen, Outcome, unless, changes, new_turn, write_turn, free_turn, begin_turn, end_turn, activate_turn, activated, ends_by, forced_turn, access_turn, cache_turn, with_spot, in_table, in_row, create_turn, drop_turn, insert_turn, update_turn, delete_turn, get_turn, scan_turn, room_in, starts, backup_turn, since_turn, copy_turn, reclaim_turn, first_turn}
 use Rattle.nb_model.specs.declared.statement.Statement.TheVariants.{Access as SetAccess}
 use Rattle.nb_model.proofs.StatusLaws.{is_refusal}
 use Rattle.nb_model.proofs.ToldTurns.{Tells, told_turn}
@@ -61,6 +61,14 @@ told_other s o tells = subst NoUsage (sym tells.is) (guarded_other s _ _ tells.o
         refused None = false
         refused (Some r) = is_refusal r
 
+activate_other : (s : Seen) (session : ℕ) → NoUsage (activate_turn s session)
+unfolding activate_turn activated ends_by
+activate_other s session = by (image_state s.base.image == normal_state)
+  where
+    by : (normal : Bool) → NoUsage (elim normal as (λ z. Outcome) [ true ↦ says s (activated s.base) [] | false ↦ unless s (runs_other s.running session) (ends_by s session (activated s.base)) ])
+    by true = λ e. cc
+    by false = guarded_other s _ _ (other_runs s.running session) (λ e. cc)
+
 -- Nor is any other.
 pub never_usage : (statement : Statement) → (s : Seen) (session : ℕ) → NoUsage (first_turn s session statement)
 unfolding first_turn new_turn write_turn free_turn begin_turn end_turn ends_by forced_turn access_turn cache_turn backup_turn since_turn copy_turn create_turn drop_turn insert_turn update_turn delete_turn get_turn scan_turn reclaim_turn
@@ -71,6 +79,7 @@ never_usage (Free p) s session = changed_other s _ _ _ (other_raw s.base.image p
 never_usage (Write p text) s session = changed_other s _ _ _ (other_raw s.base.image p, (other_read_only s.base.image, (other_when _ _ (λ e. cc), tt))) (λ e. cc)
 never_usage BeginBackup s session = guarded_other s _ _ (other_first _ (other_read_only s.base.image, (other_when _ _ (λ e. cc), (other_when _ _ (λ e. cc), tt)))) (λ e. cc)
 never_usage EndBackup s session = guarded_other s _ _ (other_first _ (other_when _ _ (λ e. cc), (other_runs s.running session, tt))) (λ e. cc)
+never_usage Activate s session = activate_other s session
 never_usage (Backup zero name) s session = start_never_usage s session name _ None none_other
 never_usage (Backup (suc below) name) s session = start_never_usage s session name _ _ (other_when _ _ (λ e. cc))
 never_usage (BackupSince guid name) s session = start_never_usage s session name _ _ (other_when _ _ (λ e. cc))

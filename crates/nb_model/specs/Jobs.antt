@@ -7,13 +7,13 @@ use Rattle.nb_host.specs.Files.{File, Files, bytes_of}
 use Rattle.nb_host.specs.declared.refusals.Refusal.{Refusal}
 use Rattle.nb_host.specs.declared.refusals.Refusal.TheVariants.{NoFile, WrongState, DeltaPresent}
 use Rattle.nb_model.specs.declared.job.Ask.{Ask}
-use Rattle.nb_model.specs.declared.job.Ask.TheVariants.{Stat, Check, Reclaim, Backup, BackupSince, Lock, LockWithSize, Unlock}
+use Rattle.nb_model.specs.declared.job.Ask.TheVariants.{Stat, Check, Reclaim, Backup, BackupSince, Lock, LockWithSize, Unlock, Activate}
 use Rattle.nb_model.specs.declared.job.Deed.{Deed}
 use Rattle.nb_model.specs.declared.job.Deed.TheVariants.{Restore, Fixup, Apply}
 use Rattle.nb_model.specs.declared.reply.Reply.{Reply}
 use Rattle.nb_model.specs.declared.reply.Reply.TheVariants.{Done, Pages, Scn, ScnPages, Refused}
 use Rattle.nb_model.specs.declared.statement.Statement.{Statement}
-use Rattle.nb_model.specs.declared.statement.Statement.TheVariants.{OpenDb, BeginBackup, EndBackup, Check as CheckIt, Reclaim as ReclaimIt, ShowHeader, ShowPages}
+use Rattle.nb_model.specs.declared.statement.Statement.TheVariants.{OpenDb, BeginBackup, EndBackup, Activate as ActivateIt, Check as CheckIt, Reclaim as ReclaimIt, ShowHeader, ShowPages}
 use Rattle.nb_model.specs.declared.statement.Statement.TheVariants.{Backup as BackupTo, BackupSince as BackupOf}
 use Rattle.nb_model.specs.Image.{image_in}
 use Rattle.nb_model.specs.Account.{Account}
@@ -39,6 +39,7 @@ asks_of (BackupSince guid file) = BackupOf guid file ∷ []
 asks_of Lock = BeginBackup ∷ []
 asks_of LockWithSize = BeginBackup ∷ []
 asks_of Unlock = EndBackup ∷ []
+asks_of Activate = ActivateIt ∷ []
 
 -- it may write to the database
 abbrev pub writes : Ask → Bool

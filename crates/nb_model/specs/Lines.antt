@@ -6,7 +6,7 @@ use Rattle.hex.specs.Hex.{encode_lower}
 use Rattle.nb_host.specs.declared.refusals.Refusal.{Refusal}
 use Rattle.nb_host.specs.declared.refusals.Refusal.TheVariants.{Usage, BadScript, NoFile, FileExists, NotDatabase, WrongState, BadDelta, Unfinished, PageRange, NotAllocated, SystemPage, Full, ScnExhausted, NoHistory, BadLevel, ChainLevel, ChainGuid, ChainSize, ChainScn, Access, TextLong, NoTable, TableExists, KeyExists, NoKey, TooManyTables, BackupRunning, DeltaPresent, ScriptLong, NoGuid, Unsound, ShadowName}
 use Rattle.nb_model.specs.declared.reply.Reply.{Reply}
-use Rattle.nb_model.specs.declared.reply.Reply.TheVariants.{Done, Pages, Opened, PageMade, Value, Scn, ScnPages, Level, Rows, HeaderShown, PagesShown, ImageShown, CacheShown, Leaked, Freed, Planned, Refused}
+use Rattle.nb_model.specs.declared.reply.Reply.TheVariants.{Done, Pages, Opened, PageMade, Value, Scn, Activated, ScnPages, Level, Rows, HeaderShown, PagesShown, ImageShown, CacheShown, Leaked, Freed, Planned, Refused}
 
 -- one word of a line: a fixed one, a number, a name, a GUID, a digest or a quoted text
 pub data Word : Type 0 where
@@ -89,6 +89,7 @@ reply_words (Opened pages state) = is (codes "ok") ∷ is (codes "pages") ∷ nu
 reply_words (PageMade page) = is (codes "ok") ∷ is (codes "page") ∷ number page ∷ []
 reply_words (Value text) = is (codes "ok") ∷ quoted text ∷ []
 reply_words (Scn scn) = is (codes "ok") ∷ is (codes "scn") ∷ number scn ∷ []
+reply_words (Activated pages scn) = is (codes "ok") ∷ is (codes "pages") ∷ number pages ∷ is (codes "scn") ∷ number scn ∷ []
 reply_words (ScnPages scn pages) = is (codes "ok") ∷ is (codes "scn") ∷ number scn ∷ is (codes "pages") ∷ number pages ∷ []
 reply_words (Level level scn pages id) = is (codes "ok") ∷ is (codes "level") ∷ number level ∷ is (codes "scn") ∷ number scn ∷ is (codes "pages") ∷ number pages ∷ is (codes "guid") ∷ guid id ∷ []
 reply_words (Rows rows) = is (codes "ok") ∷ is (codes "rows") ∷ number (length rows) ∷ row_words rows

@@ -8,7 +8,7 @@ use Rattle.nb_fields.specs.States.{normal_state, stalled_state}
 use Rattle.nb_fields.specs.Kinds.{raw_kind}
 use Rattle.nb_host.specs.declared.refusals.Refusal.TheVariants.{WrongState}
 use Rattle.nb_model.specs.declared.reply.Reply.{Reply}
-use Rattle.nb_model.specs.declared.reply.Reply.TheVariants.{Done, PageMade, Value, Scn, HeaderShown, ImageShown, CacheShown}
+use Rattle.nb_model.specs.declared.reply.Reply.TheVariants.{Done, PageMade, Value, Scn, Activated, HeaderShown, ImageShown, CacheShown}
 use Rattle.nb_model.specs.Image.{Image, first_page, page_at, image_size, image_state, image_scn, image_guid, is_forced, is_read_only}
 use Rattle.nb_model.specs.Account.{Base}
 use Rattle.nb_model.specs.Strokes.{Stroke, page, begin, ends}
@@ -75,6 +75,17 @@ unfoldable pub end_turn : Seen → (session : ℕ) → Outcome
 end_turn s session =
     unless s (first_cause (when (image_state s.base.image == normal_state) (WrongState 0) ∷ runs_other s.running session ∷ []))
     (ends_by s session (Scn (end_scn s.base.image)))
+
+-- how the database stands once its backup has ended
+unfoldable pub activated : Base → Reply
+activated b = Activated (length b.image) (end_scn b.image)
+
+-- `activate`: a backup that is under way is ended, and where none is nothing is done
+unfoldable pub activate_turn : Seen → (session : ℕ) → Outcome
+activate_turn s session = elim (image_state s.base.image == normal_state) [
+  | true ↦ says s (activated s.base) []
+  | false ↦ unless s (runs_other s.running session) (ends_by s session (activated s.base))
+]
 
 -- page 0 with one byte changed
 unfoldable pub byte_strokes : (at value : ℕ) → Image → List Stroke

@@ -3,7 +3,7 @@ use Rattle.std.specs.Prelude.{◌≡◌, ℕ, ◌<◌, ◌≤◌, List, [], Bool
 use Rattle.nb_fields.specs.Header.{is_header}
 use Rattle.nb_fields.specs.States.{normal_state, stalled_state, merge_state}
 use Rattle.nb_model.specs.declared.statement.Statement.{Statement}
-use Rattle.nb_model.specs.declared.statement.Statement.TheVariants.{BeginBackup, EndBackup, Backup, BackupSince, CopyTo}
+use Rattle.nb_model.specs.declared.statement.Statement.TheVariants.{BeginBackup, EndBackup, Activate, Backup, BackupSince, CopyTo}
 use Rattle.nb_model.specs.Image.{Image, first_page, image_state, image_scn, image_guid}
 use Rattle.nb_model.specs.Account.{Kept, Base, base_of}
 use Rattle.nb_model.specs.Sound.{IsSoundImage}
@@ -51,6 +51,7 @@ pub record IsWellBaseIn (kept : List Kept) (b : Base) : Type 0 where
 abbrev pub is_on_pages : Statement → Bool
 is_on_pages BeginBackup = false
 is_on_pages EndBackup = false
+is_on_pages Activate = false
 is_on_pages (Backup level name) = false
 is_on_pages (BackupSince guid name) = false
 is_on_pages (CopyTo name) = false

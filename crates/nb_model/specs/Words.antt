@@ -5,11 +5,11 @@ use Rattle.std.specs.Str.Parse.{digits_value}
 use Rattle.uuid.specs.Text.{parsed_hyphenated}
 use Rattle.nb_host.specs.Names.{is_name, is_delta, same_name}
 use Rattle.nb_model.specs.declared.job.Ask.{Ask}
-use Rattle.nb_model.specs.declared.job.Ask.TheVariants.{Stat, Check, Reclaim, Backup, BackupSince, Lock, LockWithSize, Unlock}
+use Rattle.nb_model.specs.declared.job.Ask.TheVariants.{Stat, Check, Reclaim, Backup, BackupSince, Lock, LockWithSize, Unlock, Activate}
 use Rattle.nb_model.specs.declared.job.Deed.{Deed}
 use Rattle.nb_model.specs.declared.job.Deed.TheVariants.{Restore, Fixup, Apply, Fold, Plan as PlanFiles}
 use Rattle.nb_model.specs.declared.job.Job.{Job}
-use Rattle.nb_model.specs.declared.job.Job.TheVariants.{Run, Gen, Attach, Turn, Plan}
+use Rattle.nb_model.specs.declared.job.Job.TheVariants.{Run, Gen, Attach, Turn, Plan, Ship}
 
 abbrev pub Word : Type 0
 Word = List ℕ
@@ -76,11 +76,15 @@ abbrev pub job_if : Bool → Job → Option Job
 job_if true job = Some job
 job_if false job = None
 
--- what the first word asks of one database: its statistics, a check, or its leaked pages back
+-- what the first word asks to be changed of one database: its leaked pages are given back, or its backup is ended
+abbrev pub asks_change : (verb name : Word) → Option Job
+asks_change verb name = elim (same_name verb (codes "reclaim")) [ true ↦ Some (Attach name Reclaim) | false ↦ job_if (same_name verb (codes "activate")) (Attach name Activate) ]
+
+-- what it asks of one database: its statistics, a check, or such a change
 abbrev pub asks_one : (verb name : Word) → Option Job
 asks_one verb name = elim (same_name verb (codes "stat")) [
   | true ↦ Some (Attach name Stat)
-  | false ↦ elim (same_name verb (codes "check")) [ true ↦ Some (Attach name Check) | false ↦ job_if (same_name verb (codes "reclaim")) (Attach name Reclaim) ]
+  | false ↦ elim (same_name verb (codes "check")) [ true ↦ Some (Attach name Check) | false ↦ asks_change verb name ]
 ]
 
 -- the run of a script, or a job on one database that is named by its first word
@@ -99,12 +103,20 @@ gen_job number name = elim (number_in_word number) [ None ↦ None | Some n ↦ 
 abbrev pub plan_job : (keep list : Word) → Option Job
 plan_job keep list = elim (count_in_word keep) [ None ↦ None | Some k ↦ job_if (is_file list) (Plan k list) ]
 
-abbrev pub gen_or_plan : List Word → Option Job
-gen_or_plan (verb ∷ number ∷ name ∷ []) = elim (same_name verb (codes "gen")) [
-  | true ↦ gen_job number name
-  | false ↦ elim (same_name verb (codes "plan")) [ true ↦ plan_job number name | false ↦ None ]
+-- a standby is brought up to the state of a primary
+abbrev pub ship_job : (primary standby : Word) → Option Job
+ship_job primary standby = job_if (is_database primary && is_database standby) (Ship primary standby)
+
+-- what the first of three words names
+abbrev pub job_of_three : List Word → Option Job
+job_of_three (verb ∷ one ∷ other ∷ []) = elim (same_name verb (codes "gen")) [
+  | true ↦ gen_job one other
+  | false ↦ elim (same_name verb (codes "plan")) [
+    | true ↦ plan_job one other
+    | false ↦ elim (same_name verb (codes "ship")) [ true ↦ ship_job one other | false ↦ None ]
+  ]
 ]
-gen_or_plan other = None
+job_of_three other = None
 
 -- 2 to 9 files are folded into one
 abbrev pub fold_job : List Word → Option Job
@@ -114,7 +126,7 @@ fold_job other = None
 -- what the first word names where no flag is given
 abbrev pub plain_job : List Word → Option Job
 plain_job (verb ∷ name ∷ []) = named_job (verb ∷ name ∷ [])
-plain_job (verb ∷ number ∷ name ∷ []) = gen_or_plan (verb ∷ number ∷ name ∷ [])
+plain_job (verb ∷ one ∷ other ∷ []) = job_of_three (verb ∷ one ∷ other ∷ [])
 plain_job (verb ∷ out ∷ file ∷ other ∷ files) = fold_job (verb ∷ out ∷ file ∷ other ∷ files)
 plain_job other = None
 

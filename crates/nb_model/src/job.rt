@@ -74,6 +74,8 @@ pub enum Ask {
     LockWithSize,
     /// `-N DB`: the difference file is merged back.
     Unlock,
+    /// `activate DB`: likewise where there is one, so that the database stands in the normal state.
+    Activate,
 }
 
 impl Ask {
@@ -88,7 +90,8 @@ impl Ask {
             | Ask::BackupSince { .. }
             | Ask::Lock
             | Ask::LockWithSize
-            | Ask::Unlock => true,
+            | Ask::Unlock
+            | Ask::Activate => true,
         }
     }
 
@@ -98,8 +101,13 @@ impl Ask {
     {
         match self {
             Ask::Backup { file, .. } | Ask::BackupSince { file, .. } => Some(file),
-            Ask::Stat | Ask::Check | Ask::Reclaim | Ask::Lock | Ask::LockWithSize | Ask::Unlock =>
-                None,
+            Ask::Stat
+            | Ask::Check
+            | Ask::Reclaim
+            | Ask::Lock
+            | Ask::LockWithSize
+            | Ask::Unlock
+            | Ask::Activate => None,
         }
     }
 }
@@ -155,4 +163,6 @@ pub enum Job {
     Turn { deed: Deed },
     /// `plan K LIST`: the list is read, and its files are planned for, which is one turn.
     Plan { keep: u32, list: Name },
+    /// `ship PRIMARY STANDBY`: the standby is brought up to the state of the primary.
+    Ship { primary: Name, standby: Name },
 }

@@ -27,6 +27,11 @@ pub enum Reply {
     Scn {
         scn: u32,
     },
+    /// `ok pages C scn X`
+    Activated {
+        pages: u32,
+        scn: u32,
+    },
     /// `ok scn X pages C`
     ScnPages {
         scn: u32,

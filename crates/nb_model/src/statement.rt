@@ -41,6 +41,8 @@ pub enum Statement {
     BeginBackup,
     /// `alter database end backup`: the difference file is merged back.
     EndBackup,
+    /// A backup that is under way is ended, and where none is nothing is done. The command line alone spells it.
+    Activate,
     /// `backup L to 'NAME'`
     Backup {
         level: u8,
@@ -136,6 +138,7 @@ impl Statement {
             | Statement::Free { .. }
             | Statement::BeginBackup
             | Statement::EndBackup
+            | Statement::Activate
             | Statement::Backup { .. }
             | Statement::BackupSince { .. }
             | Statement::CreateTable { .. }

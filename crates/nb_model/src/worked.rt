@@ -11,11 +11,11 @@ ghost use Rattle.nb_model.specs.Run.{replies_of, rounds, strokes_of};
 ghost use Rattle.nb_model.specs.Seeds.{seeded};
 ghost use Rattle.nb_model.specs.Words.{job_of};
 ghost use Rattle.nb_model.specs.Worked.{g, run_of, says, replies, marks, strokes, base_then, pages_held, refused, chain_files, level_1_file, broken_place, not_open, main_file, stalled_file, delta_file, standby, merged_standby, apply_reply, restore_reply, restored_text, fixup_reply};
-ghost use Rattle.nb_model.specs.declared.job.Ask.TheVariants.{LockWithSize, Backup as AskBackup, BackupSince as AskBackupSince, Check as AskCheck, Reclaim as AskReclaim};
+ghost use Rattle.nb_model.specs.declared.job.Ask.TheVariants.{LockWithSize, Activate as AskActivate, Backup as AskBackup, BackupSince as AskBackupSince, Check as AskCheck, Reclaim as AskReclaim};
 ghost use Rattle.nb_model.specs.declared.job.Deed.TheVariants.{Restore, Fold};
 ghost use Rattle.nb_model.specs.declared.job.Job.TheVariants.{Run, Attach, Turn, Plan};
-ghost use Rattle.nb_model.specs.declared.reply.Reply.TheVariants.{Done, Opened, Value, Scn, ScnPages, Level, Rows, HeaderShown, PagesShown, PageMade, Leaked, Freed, Planned, ImageShown, CacheShown, Refused, Pages};
-ghost use Rattle.nb_model.specs.declared.statement.Statement.TheVariants.{Write, Read, Free, PageNew, BeginBackup, EndBackup, Backup, BackupSince, CreateTable, DropTable, Insert, Update, Delete, Get, Scan, Access, Check, Reclaim, ShowHeader, ShowPages, ShowCache};
+ghost use Rattle.nb_model.specs.declared.reply.Reply.TheVariants.{Done, Opened, Value, Scn, ScnPages, Activated, Level, Rows, HeaderShown, PagesShown, PageMade, Leaked, Freed, Planned, ImageShown, CacheShown, Refused, Pages};
+ghost use Rattle.nb_model.specs.declared.statement.Statement.TheVariants.{Write, Read, Free, PageNew, BeginBackup, EndBackup, Activate, Backup, BackupSince, CreateTable, DropTable, Insert, Update, Delete, Get, Scan, Access, Check, Reclaim, ShowHeader, ShowPages, ShowCache};
 ghost use Rattle.std.specs.Prelude.{[], ◌++◌, ◌∷◌, ◌≡◌, None, Some, codes, drop, length, replicate, take, true, false};
 
 /// A first session: a database is made, and a page is written and read. The entry of the page is current, so that the write is one
@@ -53,6 +53,7 @@ pub fn system_places_on_growth()
 pub fn states_in_order()
     ensures replies { says 8 (EndBackup ∷ BeginBackup ∷ BeginBackup ∷ EndBackup ∷ []) ≡ (1, Refused (WrongState 0)) ∷ (1, Scn 2) ∷ (1, Refused (WrongState 1)) ∷ (1, Scn 3) ∷ [] }
     ensures strokes { strokes 8 ((BeginBackup ∷ EndBackup ∷ []) ∷ []) (rounds 3) ≡ 2000001 ∷ 2000002 ∷ 2000003 ∷ [] }
+    ensures activate { says 8 (Activate ∷ BeginBackup ∷ Activate ∷ Activate ∷ []) ≡ (1, Activated 13 1) ∷ (1, Scn 2) ∷ (1, Activated 13 3) ∷ (1, Activated 13 3) ∷ [] }
 {}
 
 /// A read-only database refuses changes, and its begin.
@@ -192,6 +193,7 @@ pub fn lines_of_replies()
     ensures page_made { line_text 1 (PageMade 249) ≡ codes "1: ok page 249" ++ 10 ∷ [] }
     ensures value { line_text 16 (Value (codes "hello")) ≡ codes "16: ok 'hello'" ++ 10 ∷ [] }
     ensures scn { line_text 1 (Scn 2) ≡ codes "1: ok scn 2" ++ 10 ∷ [] }
+    ensures activated { line_text 1 (Activated 13 3) ≡ codes "1: ok pages 13 scn 3" ++ 10 ∷ [] }
     ensures scn_pages { line_text 4 (ScnPages 3 14) ≡ codes "4: ok scn 3 pages 14" ++ 10 ∷ [] }
     ensures level { line_text 1 (Level 0 1 13 (g 1)) ≡ codes "1: ok level 0 scn 1 pages 13 guid 00000000-0000-0000-0000-000000000001" ++ 10 ∷ [] }
     ensures rows { line_text 3 (Rows ((1, codes "a") ∷ (2, codes "b") ∷ [])) ≡ codes "3: ok rows 2 1 'a' 2 'b'" ++ 10 ∷ [] }
@@ -221,6 +223,7 @@ pub fn words_name_jobs()
     ensures restore { job_of (codes "-R" ∷ codes "b.db" ∷ codes "a.0" ∷ codes "a.1" ∷ []) ≡ Some (Turn (Restore (codes "b.db") (codes "a.0" ∷ codes "a.1" ∷ []))) }
     ensures check { job_of (codes "check" ∷ codes "a.db" ∷ []) ≡ Some (Attach (codes "a.db") AskCheck) }
     ensures reclaim { job_of (codes "reclaim" ∷ codes "a.db" ∷ []) ≡ Some (Attach (codes "a.db") AskReclaim) }
+    ensures activate { job_of (codes "activate" ∷ codes "a.shd" ∷ []) ≡ Some (Attach (codes "a.shd") AskActivate) }
     ensures check_two { job_of (codes "check" ∷ codes "a.db" ∷ codes "b.db" ∷ []) ≡ None }
     ensures since { job_of (codes "-B" ∷ codes "00000000-0000-0000-0000-000000000001" ∷ codes "a.db" ∷ codes "a.y" ∷ []) ≡ Some (Attach (codes "a.db") (AskBackupSince (g 1) (codes "a.y"))) }
     ensures dashes { job_of (codes "--" ∷ codes "run" ∷ codes "-s" ∷ []) ≡ Some (Run (codes "-s")) }

@@ -1,6 +1,6 @@
 -- A script that bytes spell asks only what the program can do, and names its database in the first statement alone.
 use Rattle.std.proofs.Common.{◌≡◌, ℕ, zero, suc, ◌+◌, ◌-◌, ◌<◌, ◌≤◌, Bool, true, false, not, List, [], ◌∷◌, ◌++◌, length, get_or, set, refl, ◌∙◌, subst, arith, Option, Some, None, Result, Ok, Err, IsTrue, IfOk, if◌then◌else◌, replicate, codes, nat_lt}
-use Rattle.nb_script.proofs.Common.{AllByRecursion, ltb-true, length-set, ScriptLong, Statement, CreateDb, OpenDb, BackupSince, Bytes, after, session_at, statement_at, session_line, command_at, first_at, database_at, Plan, Numbered, started, statements_of, with_statement, or_bad, with_lines, order_in, with_order, of_lines, script_of, IsAnswer, lines_of, left, Fits, FitsAsked, FitsFirst, FitsOrder, IsSession, opens, IsFirst, IsFurther, IsFurtherLine, IsAskable, IsSpelled, statement_count, order_at, length_push}
+use Rattle.nb_script.proofs.Common.{AllByRecursion, ltb-true, length-set, ScriptLong, Statement, CreateDb, OpenDb, BackupSince, Activate, Bytes, after, session_at, statement_at, session_line, command_at, first_at, database_at, Plan, Numbered, started, statements_of, with_statement, or_bad, with_lines, order_in, with_order, of_lines, script_of, IsAnswer, lines_of, left, Fits, FitsAsked, FitsFirst, FitsOrder, IsSession, opens, IsFirst, IsFurther, IsFurtherLine, IsAskable, IsSpelled, statement_count, order_at, length_push}
 use Rattle.nb_host.specs.declared.faults.Fault.{Fault}
 use Rattle.nb_host.specs.declared.refusals.Refusal.{Refusal}
 use Rattle.nb_script.proofs.FitLaws.{If, nothing, just, tested, follows, any, within_fits, command_fits, database_fits, order_fits}
@@ -154,6 +154,7 @@ script_holds bytes = by_test (nat_lt 1048576 (length bytes))
 -- what a line can ask can be asked
 line_asks : (s : Statement) → Fits s → FitsAsked s
 line_asks (BackupSince guid name) fits = absurd fits
+line_asks Activate fits = absurd fits
 line_asks other fits = fits
 
 line_further : (s : Statement) → IsFurtherLine s → IsFurther s

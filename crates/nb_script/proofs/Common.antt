@@ -6,7 +6,7 @@ pub use Rattle.nb_host.specs.declared.refusals.Refusal.TheVariants.{BadScript, S
 unfoldable pub use Rattle.nb_model.specs.Seeds.{seeded, session_of, stepped}
 pub use Rattle.nb_model.specs.TableNames.{is_table_byte, is_table_name}
 pub use Rattle.nb_model.specs.declared.statement.Statement.{Statement}
-pub use Rattle.nb_model.specs.declared.statement.Statement.TheVariants.{Access, Backup, BackupSince, BeginBackup, Check, CopyTo, CreateDb, CreateTable, Delete, DropTable, EndBackup, Forced, Free, Get, Insert, OpenDb, PageNew, Read, Reclaim, Scan, ShowCache, ShowHeader, ShowImage, ShowPages, Sync, Update, Write}
+pub use Rattle.nb_model.specs.declared.statement.Statement.TheVariants.{Access, Backup, BackupSince, BeginBackup, Check, CopyTo, CreateDb, CreateTable, Delete, DropTable, EndBackup, Activate, Forced, Free, Get, Insert, OpenDb, PageNew, Read, Reclaim, Scan, ShowCache, ShowHeader, ShowImage, ShowPages, Sync, Update, Write}
 pub use Rattle.nb_script.specs.Asked.{IsAskable, IsFirst, IsFurther, IsFurtherLine, IsSpelled, opens, statement_count}
 unfoldable pub use Rattle.nb_script.specs.FirstLine.{cache_at, create_at, database_at, first_at, open_at, page_size_at, sizes_at}
 pub use Rattle.nb_script.specs.Fits.{Fits, FitsAsked, FitsFirst, FitsOrder, IsBase, IsFile, IsSession, IsTable, IsText}

@@ -1,6 +1,6 @@
 -- The line of a statement is read as that statement.
 use Rattle.std.proofs.Common.{◌≡◌, ℕ, ◌^◌, ◌<◌, ◌≤◌, ◌==◌, true, false, [], ◌++◌, length, Option, Some, None, if◌then◌else◌, codes, refl, ap, sym, ◌∙◌, append_assoc, arith}
-use Rattle.nb_script.proofs.Common.{decimal, append-nil, Statement, CreateDb, OpenDb, Write, Read, Free, Backup, BackupSince, CopyTo, CreateTable, DropTable, Insert, Update, Delete, Get, Scan, Forced, Access, Bytes, ◌>>=◌, after, number_at, page_at, text_at, table_at, alone, digit_count, last_page, page_text, last_name, backup_at, last_table, row_at, last_row, row_text, fixed, of_page, of_file, of_table, scan_at, of_row, without_text, command_at, session_line, statement_at, quoted, row_text_of, command_text, line_text, Fits, IsText, IsFile, IsTable}
+use Rattle.nb_script.proofs.Common.{decimal, append-nil, Statement, CreateDb, OpenDb, Write, Read, Free, Backup, BackupSince, Activate, CopyTo, CreateTable, DropTable, Insert, Update, Delete, Get, Scan, Forced, Access, Bytes, ◌>>=◌, after, number_at, page_at, text_at, table_at, alone, digit_count, last_page, page_text, last_name, backup_at, last_table, row_at, last_row, row_text, fixed, of_page, of_file, of_table, scan_at, of_row, without_text, command_at, session_line, statement_at, quoted, row_text_of, command_text, line_text, Fits, IsText, IsFile, IsTable}
 use Rattle.nb_script.proofs.WordLaws.{number_again, within_again, text_again, name_again, table_again}
 
 -- a page number, and what stands after it
@@ -59,6 +59,7 @@ command_again (Read page) h = rw (last_page_again page h) refl
 command_again (Free page) h = rw (last_page_again page h) refl
 command_again (Backup level name) h = rw (backup_again level name h.0 h.1) refl
 command_again (BackupSince guid name) h = absurd h
+command_again Activate h = absurd h
 command_again (CopyTo name) h = rw (last_name_again name h) refl
 command_again (CreateTable table) h = rw (last_table_again table h) refl
 command_again (DropTable table) h = rw (last_table_again table h) refl

@@ -1,6 +1,6 @@
 -- A line that is written has no line feed in it.
 use Rattle.std.proofs.Common.{◌≡◌, ℕ, ◌^◌, ◌<◌, ◌≤◌, ◌==◌, ◌&&◌, not, Bool, true, false, nat_lt, nat_le, List, [], ◌∷◌, ◌++◌, length, codes, refl, sym, ◌∙◌, ap, inl, inr, arith}
-use Rattle.nb_script.proofs.Common.{decimal, list_all, AllByRecursion, cases_Bool, and_parts, and_from, eqb-true, not_from_false, is_name, is_name_byte, is_page_size, Statement, CreateDb, OpenDb, Write, Read, Free, Backup, BackupSince, CopyTo, CreateTable, DropTable, Insert, Update, Delete, Get, Scan, Forced, Access, is_table_byte, Bytes, is_digit, is_text_byte, is_given, quoted, cache_text, sizes_text, row_text_of, command_text, line_text, spaced_sessions, Fits, FitsFirst, IsText, IsTable, IsSession}
+use Rattle.nb_script.proofs.Common.{decimal, list_all, AllByRecursion, cases_Bool, and_parts, and_from, eqb-true, not_from_false, is_name, is_name_byte, is_page_size, Statement, CreateDb, OpenDb, Write, Read, Free, Backup, BackupSince, Activate, CopyTo, CreateTable, DropTable, Insert, Update, Delete, Get, Scan, Forced, Access, is_table_byte, Bytes, is_digit, is_text_byte, is_given, quoted, cache_text, sizes_text, row_text_of, command_text, line_text, spaced_sessions, Fits, FitsFirst, IsText, IsTable, IsSession}
 use Rattle.std.proofs.lemmas.List.Folds.{list_all-append}
 use Rattle.nb_script.proofs.WordLaws.{digits_of}
 use Rattle.nb_script.proofs.FirstLaws.{one_of}
@@ -74,6 +74,7 @@ command_unbroken (Backup level name) fits =
     joined (codes "backup ") (decimal level ++ (codes " to " ++ quoted name)) refl
     (joined (decimal level) (codes " to " ++ quoted name) (number_unbroken level (omega (arith, fits.0))) (joined (codes " to ") (quoted name) refl (name_unbroken 100 name fits.1)))
 command_unbroken (BackupSince guid name) fits = absurd fits
+command_unbroken Activate fits = absurd fits
 command_unbroken (CopyTo name) fits = joined (codes "copy to ") (quoted name) refl (name_unbroken 100 name fits)
 command_unbroken (CreateTable table) fits = joined (codes "create table ") table refl (table_unbroken table fits)
 command_unbroken (DropTable table) fits = joined (codes "drop table ") table refl (table_unbroken table fits)

@@ -3,7 +3,7 @@ use Rattle.std.specs.Prelude.{◌≡◌, ℕ, ◌^◌, ◌<◌, ◌≤◌, true,
 use Rattle.std.specs.List.{list_all, AllByRecursion}
 use Rattle.nb_host.specs.Files.{is_page_size}
 use Rattle.nb_model.specs.declared.statement.Statement.{Statement}
-use Rattle.nb_model.specs.declared.statement.Statement.TheVariants.{CreateDb, OpenDb, Write, Read, Free, Backup, BackupSince, CopyTo, CreateTable, DropTable, Insert, Update, Delete, Get, Scan}
+use Rattle.nb_model.specs.declared.statement.Statement.TheVariants.{CreateDb, OpenDb, Write, Read, Free, Backup, BackupSince, Activate, CopyTo, CreateTable, DropTable, Insert, Update, Delete, Get, Scan}
 use Rattle.nb_model.specs.TableNames.{is_table_name}
 use Rattle.nb_script.specs.Words.{Bytes, is_text_byte, is_given}
 
@@ -35,6 +35,7 @@ Fits (Read page) = page < 2 ^ 32
 Fits (Free page) = page < 2 ^ 32
 Fits (Backup level name) = (level ≤ 9) × IsFile name
 Fits (BackupSince guid name) = ⊥
+Fits Activate = ⊥
 Fits (CopyTo name) = IsFile name
 Fits (CreateTable table) = IsTable table
 Fits (DropTable table) = IsTable table
@@ -48,6 +49,7 @@ Fits other = Unit {0}
 -- the values of a further statement that can be asked: by a line, or by words of the command line alone
 abbrev pub FitsAsked : Statement → Type 0
 FitsAsked (BackupSince guid name) = IsFile name
+FitsAsked Activate = Unit {0}
 FitsAsked other = Fits other
 
 -- the values of a statement that a first line can spell

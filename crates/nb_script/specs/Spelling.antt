@@ -2,7 +2,7 @@
 use Rattle.std.specs.Prelude.{ℕ, ◌+◌, true, false, List, [], ◌∷◌, ◌++◌, length, ◌==◌, if◌then◌else◌, codes}
 use Rattle.std.specs.Fmt.{decimal}
 use Rattle.nb_model.specs.declared.statement.Statement.{Statement}
-use Rattle.nb_model.specs.declared.statement.Statement.TheVariants.{CreateDb, OpenDb, PageNew, Write, Read, Free, BeginBackup, EndBackup, Backup, BackupSince, CopyTo, CreateTable, DropTable, Insert, Update, Delete, Get, Scan, Forced, Access, Sync, Check, Reclaim, ShowHeader, ShowPages, ShowImage, ShowCache}
+use Rattle.nb_model.specs.declared.statement.Statement.TheVariants.{CreateDb, OpenDb, PageNew, Write, Read, Free, BeginBackup, EndBackup, Activate, Backup, BackupSince, CopyTo, CreateTable, DropTable, Insert, Update, Delete, Get, Scan, Forced, Access, Sync, Check, Reclaim, ShowHeader, ShowPages, ShowImage, ShowCache}
 use Rattle.nb_script.specs.Words.{Bytes}
 use Rattle.nb_script.specs.Scripts.{Plan}
 
@@ -35,6 +35,7 @@ command_text EndBackup = codes "alter database end backup"
 command_text (Backup level name) = codes "backup " ++ (decimal level ++ (codes " to " ++ quoted name))
 -- no script asks for it
 command_text (BackupSince guid name) = []
+command_text Activate = []
 command_text (CopyTo name) = codes "copy to " ++ quoted name
 command_text (CreateTable table) = codes "create table " ++ table
 command_text (DropTable table) = codes "drop table " ++ table

@@ -157,7 +157,7 @@ fn put_command(out: &mut Vec<u8>, statement: &Statement) -> Result<(), AllocErro
         Statement::BeginBackup => out.extend_from_slice(b"alter database begin backup"),
         Statement::EndBackup => out.extend_from_slice(b"alter database end backup"),
         Statement::Backup { level, name } => put_backup(out, *level, name),
-        Statement::BackupSince { .. } => Ok(()),
+        Statement::BackupSince { .. } | Statement::Activate => Ok(()),
         Statement::CopyTo { name } => put_copy(out, name),
         Statement::CreateTable { table } => put_table(out, b"create table ", table),
         Statement::DropTable { table } => put_table(out, b"drop table ", table),

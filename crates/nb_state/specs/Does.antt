@@ -6,7 +6,7 @@ use Rattle.nb_host.specs.declared.faults.Fault.{Fault}
 use Rattle.nb_host.specs.declared.faults.Fault.TheVariants.{Refused, Device, Memory}
 use Rattle.nb_page.specs.Quiet.{Quiet}
 use Rattle.nb_model.specs.declared.reply.Reply.{Reply}
-use Rattle.nb_model.specs.declared.reply.Reply.TheVariants.{Done, Pages, PageMade, Scn, ScnPages, Level, Freed, Planned, Refused as RefusedBy}
+use Rattle.nb_model.specs.declared.reply.Reply.TheVariants.{Done, Pages, PageMade, Scn, ScnPages, Activated, Level, Freed, Planned, Refused as RefusedBy}
 use Rattle.nb_model.specs.Causes.{Cause}
 use Rattle.nb_model.specs.Outcomes.{Outcome}
 use Rattle.nb_model.specs.Strokes.{Stroke}
@@ -44,6 +44,7 @@ only_tells (Pages pages) = false
 only_tells (PageMade page) = false
 only_tells (Scn scn) = false
 only_tells (ScnPages scn pages) = false
+only_tells (Activated pages scn) = false
 only_tells (Level level scn pages guid) = false
 only_tells (Freed pages) = false
 only_tells (Planned kept dropped orphans) = false

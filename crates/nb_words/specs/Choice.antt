@@ -4,7 +4,7 @@ use Rattle.std.specs.List.{position_or_len, range_with_len}
 use Rattle.std.specs.Cmp.Lexicographic.{pointwise}
 use Rattle.nb_fields.specs.Cases.{cell}
 use Rattle.nb_words.specs.Read.{counts_of}
-use Rattle.nb_model.specs.Words.{Word, are_flags, job_read, named_job, gen_or_plan, fold_job, backup_job, restore_job, apply_job, ask_job, fixup_job}
+use Rattle.nb_model.specs.Words.{Word, are_flags, job_read, named_job, job_of_three, fold_job, backup_job, restore_job, apply_job, ask_job, fixup_job}
 use Rattle.nb_model.specs.declared.job.Ask.TheVariants.{Lock, LockWithSize, Unlock}
 use Rattle.nb_model.specs.declared.job.Job.{Job}
 
@@ -52,7 +52,7 @@ abbrev pub job_in : ℕ → List Word → Option Job
 job_in cell plain = elim (cell == 1) [
   | true ↦ named_job plain
   | false ↦ elim (cell == 2) [
-    | true ↦ gen_or_plan plain
+    | true ↦ job_of_three plain
     | false ↦ elim (cell == 3) [
       | true ↦ backup_job plain
       | false ↦ elim (cell == 4) [

@@ -35,7 +35,7 @@ pub(crate) fn row(counts: &[u8; 7]) -> usize
 }
 
 /// The job of each row of flags and each number of plain words, the last column standing for 12 and more. 0 is none, 1
-/// is a run or the statistics, 2 the generator or a plan, 3 is a backup, 4 restoring, 5 locking, 6 locking with the size, 7 unlocking, 8 fixing up,
+/// is a run or the statistics, 2 the generator, a plan or a ship, 3 is a backup, 4 restoring, 5 locking, 6 locking with the size, 7 unlocking, 8 fixing up,
 /// 9 applying and 10 folding.
 pub(crate) fn table() -> CaseTable<9, 13>
     ensures cells { result ≡ choices }

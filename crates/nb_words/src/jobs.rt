@@ -2,7 +2,7 @@
 ghost use Rattle.std.specs.Prelude.{◌≡◌, [], ◌∷◌, Some, None, cond, IfOk, IfErr};
 ghost use Rattle.std.specs.List.{list_all};
 ghost use Rattle.nb_host.specs.declared.faults.Fault.TheVariants.{Memory};
-ghost use Rattle.nb_model.specs.Words.{is_file, asks_one, named_job, gen_job, plan_job, gen_or_plan, fold_job, backup_job, restore_job, apply_job, ask_job, fixup_job};
+ghost use Rattle.nb_model.specs.Words.{is_file, asks_change, asks_one, named_job, gen_job, plan_job, ship_job, job_of_three, fold_job, backup_job, restore_job, apply_job, ask_job, fixup_job};
 ghost use Rattle.nb_words.specs.Choice.{job_in};
 ghost use Rattle.nb_words.specs.Parts.{one_database};
 ghost use Rattle.nb_words.specs.Read.{words_of};
@@ -12,7 +12,26 @@ use nb_host::{Fault, Name};
 use nb_model::{Ask, Deed, Job, NameList};
 use std::alloc::Global;
 
-/// What the first of two words asks of a database.
+/// What the first of two words asks to be changed of a database.
+fn change_of(verb: &str, db: Name) -> Option<Job>
+    ensures { result ≡ asks_change verb.now db }
+{
+    if verb == "reclaim" {
+        Some(Job::Attach {
+            db,
+            ask: Ask::Reclaim,
+        })
+    } else if verb == "activate" {
+        Some(Job::Attach {
+            db,
+            ask: Ask::Activate,
+        })
+    } else {
+        None
+    }
+}
+
+/// What it asks of one.
 fn asked_of(verb: &str, db: Name) -> Option<Job>
     ensures { result ≡ asks_one verb.now db }
 {
@@ -23,13 +42,8 @@ fn asked_of(verb: &str, db: Name) -> Option<Job>
             db,
             ask: Ask::Check,
         })
-    } else if verb == "reclaim" {
-        Some(Job::Attach {
-            db,
-            ask: Ask::Reclaim,
-        })
     } else {
-        None
+        change_of(verb, db)
     }
 }
 
@@ -45,7 +59,7 @@ fn of_two(verb: &str, name: &str) -> Option<Job>
     asked_of(verb, db)
 }
 
-/// `run SCRIPT`, `stat DB`, `check DB` and `reclaim DB`
+/// `run SCRIPT`, `stat DB`, `check DB`, `reclaim DB` and `activate DB`
 fn named(words: &[&str]) -> Option<Job>
     ensures { result ≡ named_job (words_of words.now) }
 {
@@ -73,25 +87,36 @@ fn planned(keep: &str, list: &str) -> Option<Job>
     Some(Job::Plan { keep, list })
 }
 
+/// `ship PRIMARY STANDBY`
+fn shipped(primary: &str, standby: &str) -> Option<Job>
+    ensures { result ≡ ship_job primary.now standby.now }
+{
+    let primary = word::database(primary)?;
+    let standby = word::database(standby)?;
+    Some(Job::Ship { primary, standby })
+}
+
 /// What the first of three words names.
-fn of_three(verb: &str, number: &str, name: &str) -> Option<Job>
-    ensures { result ≡ gen_or_plan (verb.now ∷ number.now ∷ name.now ∷ []) }
+fn of_three(verb: &str, one: &str, other: &str) -> Option<Job>
+    ensures { result ≡ job_of_three (verb.now ∷ one.now ∷ other.now ∷ []) }
 {
     if verb == "gen" {
-        generated(number, name)
+        generated(one, other)
     } else if verb == "plan" {
-        planned(number, name)
+        planned(one, other)
+    } else if verb == "ship" {
+        shipped(one, other)
     } else {
         None
     }
 }
 
-/// `gen N SCRIPT` and `plan K LIST`
-fn gen_or_plan(words: &[&str]) -> Option<Job>
-    ensures { result ≡ gen_or_plan (words_of words.now) }
+/// `gen N SCRIPT`, `plan K LIST` and `ship PRIMARY STANDBY`
+fn three(words: &[&str]) -> Option<Job>
+    ensures { result ≡ job_of_three (words_of words.now) }
 {
     match words {
-        [verb, number, name] => of_three(verb, number, name),
+        [verb, one, other] => of_three(verb, one, other),
         _ => None,
     }
 }
@@ -245,7 +270,7 @@ pub(crate) fn of_cell(alloc: Global, cell: u8, words: &[&str]) -> Result<Option<
 {
     match cell {
         1 => Ok(named(words)),
-        2 => Ok(gen_or_plan(words)),
+        2 => Ok(three(words)),
         3 => Ok(backup(words)),
         4 => restore(alloc, words),
         5 => Ok(asking(words, Ask::Lock)),
