@@ -1,10 +1,14 @@
 -- The chains of the tables that the catalogue names, slot by slot and page by page.
-use Rattle.std.proofs.Common.{◌≡◌, ℕ, ◌+◌, ◌-◌, ◌*◌, ◌/◌, ◌<◌, ◌≤◌, List, [], ◌∷◌, ◌++◌, length, refl, sym, ap, subst, ◌∙◌, arith, append_assoc, length-append, Bool, true, false, Some, None}
-use Rattle.nb_check.proofs.Common.{append-nil, part, Refusal, Page, Image, page_at, Cause, first_cause, broken_at, Chain, Catalogue, History, RowsFrom, Slot, Spot, is_used, first_in, slots_from, slots_in, spots_on, spots_of, spots, pages_of, found_pages, used, table_chains, chains, pages_of_all, reached, slots_step, chains_cause, chains_on, none_some, some_none}
+use Rattle.std.proofs.Common.{◌≡◌, ℕ, ◌+◌, ◌-◌, ◌*◌, ◌/◌, ◌<◌, ◌≤◌, List, [], ◌∷◌, ◌++◌, length, refl, sym, ap, subst, ◌∙◌, arith, append_assoc, length-append, Bool, true, false, Some, None, Result, Ok, Err}
+use Rattle.nb_check.proofs.Common.{append-nil, part, Refusal, Page, Image, page_at, Cause, first_cause, broken_at, Chain, Catalogue, History, RowsFrom, Slot, Spot, is_used, first_in, slots_from, slots_in, spots_on, spots_of, spots, pages_of, found_pages, used, table_chains, chains, pages_of_all, reached, slots_step, walk, Walks, chains_cause, chains_on, none_some, some_none}
 use Rattle.nb_check.specs.declared.set.Marks.{Marks}
 use Rattle.nb_check.specs.Marks.{IsReached}
 use Rattle.nb_check.proofs.MarkLaws.{reached_none, reached_both}
+use Rattle.nb_check.specs.Most.{chains_most}
+use Rattle.nb_host.specs.declared.refusals.Refusal.TheVariants.{NotDatabase}
+use Rattle.nb_model.proofs.ChainWalks.{found_is}
 use Rattle.nb_model.proofs.GrowthTurns.{spots_both}
+use Rattle.nb_walk.proofs.WalkLaws.{behind}
 
 -- the chains in slots
 pub chains_in : List Slot → List Chain
@@ -182,6 +186,14 @@ lists_last image listed before after old now count slot far l =
     let all : chains_on listed ≡ l.front = l.are ∙ ap (λ (n : ℕ). l.front ++ chains_in (slots_from n (32 + 256 * slot) listed)) none ∙ append-nil l.front in
     subst (λ (cs : List Chain). AreOut image cs before after old now) (sym all) l.out
 
+-- what was read so far is no more than all chains of the page take
+pub lists_few : (image : Image) (listed : Page) (before after : Marks) (old now count slot : ℕ) → Lists image listed before after old now count slot → now ≤ old + length (pages_of_all image (chains_on listed))
+lists_few image listed before after old now count slot l =
+    let rest : List Chain = chains_in (slots_from (count - slot) (32 + 256 * slot) listed) in
+    let all : length (pages_of_all image (chains_on listed)) ≡ length (pages_of_all image l.front) + length (pages_of_all image rest) =
+    ap (λ (cs : List Chain). length (pages_of_all image cs)) l.are ∙ ap length (pages_append image l.front rest) ∙ length-append (pages_of_all image l.front) (pages_of_all image rest) in
+    let few = l.out.few in omega (arith, all, few)
+
 -- The tables that the pages of the catalogue so far name.
 pub tables_begun : (image : Image) (set : Marks) (reads : ℕ) → AreOut image (chains_of_pages image []) set set (reads + 0) reads
 tables_begun image set reads =
@@ -220,6 +232,35 @@ tables_broken image ps p rest listed r found at formed broken =
     ∙ cause_behind image (chains_of_pages image ps) (chains_of_pages image (p ∷ rest)) formed ∙ ap (chains_cause image) (chains_first image p rest)
     ∙ cause_front image (chains_on (page_at image p)) (chains_of_pages image rest) r (ap (λ (page : Page). chains_cause image (chains_on page)) (sym at) ∙ broken)
 
+-- The catalogue is of the form, and these are its first pages: what was read of them and of the tables that they name leaves the reads of the others.
+pub tables_few : (image : Image) (seen rest : List ℕ) (old now : ℕ) → found_pages Catalogue image ≡ seen ++ rest → now ≤ old + length seen + length (pages_of_all image (chains_of_pages image seen))
+    → now + length rest + length (pages_of_all image (chains_of_pages image rest)) ≤ old + length (found_pages Catalogue image) + length (pages_of_all image (tables image))
+tables_few image seen rest old now is so =
+    let long : length (found_pages Catalogue image) ≡ length seen + length rest = ap length is ∙ length-append seen rest in
+    let all : tables image ≡ chains_of_pages image seen ++ chains_of_pages image rest = sym (tables_are image) ∙ ap (chains_of_pages image) is ∙ chains_both image seen rest in
+    let pages : length (pages_of_all image (tables image)) ≡ length (pages_of_all image (chains_of_pages image seen)) + length (pages_of_all image (chains_of_pages image rest)) =
+    ap (λ (cs : List Chain). length (pages_of_all image cs)) all ∙ ap length (pages_append image (chains_of_pages image seen) (chains_of_pages image rest))
+    ∙ length-append (pages_of_all image (chains_of_pages image seen)) (pages_of_all image (chains_of_pages image rest)) in
+    omega (arith, long, pages, so)
+
+-- the same, where the next of them is read, and some of the tables that it names
+pub listed_few : (image : Image) (seen : List ℕ) (p : ℕ) (rest : List ℕ) (listed : Page) (old before mid now more : ℕ) → found_pages Catalogue image ≡ seen ++ (p ∷ rest) → listed ≡ page_at image p → before ≤ old + length seen + length (pages_of_all image (chains_of_pages image seen))
+    → mid ≤ before + 1 → now ≤ mid + length (pages_of_all image (chains_on listed)) + more → now ≤ old + length (found_pages Catalogue image) + length (pages_of_all image (tables image)) + more
+listed_few image seen p rest listed old before mid now more is at so one few =
+    let all = tables_few image seen (p ∷ rest) old before is so in
+    let here : length (pages_of_all image (chains_of_pages image (p ∷ rest))) ≡ length (pages_of_all image (chains_on listed)) + length (pages_of_all image (chains_of_pages image rest)) =
+    ap (λ (cs : List Chain). length (pages_of_all image cs)) (chains_first image p rest ∙ ap (λ (page : Page). chains_on page ++ chains_of_pages image rest) (sym at))
+    ∙ ap length (pages_append image (chains_on listed) (chains_of_pages image rest)) ∙ length-append (pages_of_all image (chains_on listed)) (pages_of_all image (chains_of_pages image rest)) in
+    omega (arith, all, here, one, few)
+
+-- a walk over a chain of the form has come by its first pages
+pub seen_first : (chain : Chain) (image : Image) (P : List ℕ → Type 0) (left number : ℕ) (walks : Walks chain image P left number) → broken_at (pages_of chain image) ≡ None → (rest : List ℕ) × (found_pages chain image ≡ walks.seen ++ rest)
+seen_first chain image P left number walks formed = by (walk left chain image number) walks.are
+  where
+    by : (r : Result (List ℕ) ℕ) → pages_of chain image ≡ behind walks.seen r → (rest : List ℕ) × (found_pages chain image ≡ walks.seen ++ rest)
+    by (Ok ps) are = (ps, found_is chain image (walks.seen ++ ps) are)
+    by (Err p) are = absurd (none_some (NotDatabase p) (sym formed ∙ ap broken_at are))
+
 -- The catalogue, the history, and then the tables.
 pub first_broken : (image : Image) (r : Refusal) → broken_at (pages_of Catalogue image) ≡ Some r → chains_cause image (chains image) ≡ Some r
 unfolding chains
@@ -254,3 +295,11 @@ reached_long image =
 pub reached_few : (image : Image) (old one two now : ℕ) → one ≤ old + length (found_pages Catalogue image) → two ≤ one + length (found_pages History image)
     → now ≤ two + length (found_pages Catalogue image) + length (pages_of_all image (tables image)) → now ≤ old + length (found_pages Catalogue image) + length (reached image)
 reached_few image old one two now first second third = (let all = reached_long image in omega (arith, first, second, third, all))
+
+-- and where one of them is broken
+pub reached_within : (image : Image) (old one two now more : ℕ) → one ≤ old + length (found_pages Catalogue image) → two ≤ one + length (found_pages History image)
+    → now ≤ two + length (found_pages Catalogue image) + length (pages_of_all image (tables image)) + more → now ≤ old + chains_most image + more
+reached_within image old one two now more first second third = (let all = reached_long image in omega (arith, first, second, third, all))
+
+pub second_within : (image : Image) (old one now more : ℕ) → one ≤ old + length (found_pages Catalogue image) → now ≤ one + more → now ≤ old + chains_most image + more
+second_within image old one now more first second = omega (arith, first, second)

@@ -4,3 +4,4 @@ pub mod Walks
 pub mod Laws
 pub mod Marks
 pub mod Findings
+pub mod Most

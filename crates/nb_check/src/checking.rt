@@ -19,6 +19,7 @@ ghost use Rattle.nb_model.specs.Facts.{unsound};
 ghost use Rattle.nb_model.specs.Leaks.{leaked, reached};
 ghost use Rattle.nb_check.specs.Passes.{HoldsTaken, AreSized};
 ghost use Rattle.nb_check.specs.Findings.{said_of};
+ghost use Rattle.nb_check.specs.Most.{check_most};
 ghost use Rattle.nb_check.specs.Sets.{has, room_of};
 ghost use Rattle.nb_model.specs.Danger.{in_danger};
 ghost use Rattle.nb_model.specs.Checks.{check_cause, check_turn, reclaim_turn, reclaimed, unsound_by};
@@ -90,7 +91,8 @@ pub struct Findings {
 /// and which are free, or which two chains reach. It changes nothing but which pages are in memory.
 ///
 /// Each page takes one read at most, page 0 and the first two inventory pages two; the pages of the chains take one more, and those of
-/// the catalogue two more. The memory, two bits for each page, is taken before the first read.
+/// the catalogue two more. A chain that is broken takes no more reads than the database has pages, and none is walked over after it. The memory,
+/// two bits for each page, is taken before the first read.
 ///
 /// The refusals are `Unsound` of the lowest fact that fails and of the lowest page at which it does, and `NotDatabase` of the first page that
 /// breaks the form of a chain: of the catalogue, the history, and then of the tables in the catalogue's order.
@@ -106,6 +108,7 @@ pub fn check<H: Host>(alloc: Global, host: &mut H, engine: &mut Engine) -> Resul
     ensures sound { (t : Trail) → IsTrue H.tells → IsOpen (H.world host.old) engine.old t → OnOk result (IsSoundImage t.base.image) }
     ensures once { (t : Trail) → IsTrue H.tells → IsOpen (H.world host.old) engine.old t
         → OnOk result ((H.world host.new).reads ≤ (H.world host.old).reads + engine.old.files.count + 3 + length (found_pages Catalogue t.base.image) + length (reached t.base.image)) }
+    ensures within { (t : Trail) → IsTrue H.tells → IsOpen (H.world host.old) engine.old t → (H.world host.new).reads ≤ (H.world host.old).reads + check_most engine.old.files.count t.base.image }
     ensures early { (t : Trail) → IsTrue H.tells → IsOpen (H.world host.old) engine.old t → IsSome (unsound t.base.image) → (H.world host.new).reads ≤ (H.world host.old).reads + engine.old.files.count + 3 }
     ensures cause { CountsDevice result (H.faults host.old) (H.faults host.new) }
 {
@@ -160,6 +163,7 @@ pub fn reclaim<H: Host>(alloc: Global, host: &mut H, engine: &mut Engine) -> Res
     ensures goes { Goes engine.old engine.new }
     ensures once { (t : Trail) → IsTrue H.tells → IsOpen (H.world host.old) engine.old t
         → OnOk result ((H.world host.new).reads ≤ (H.world host.old).reads + engine.old.files.count + 3 + length (found_pages Catalogue t.base.image) + length (reached t.base.image) + 2 * length (leaked t.base.image)) }
+    ensures within { (t : Trail) → IsTrue H.tells → IsOpen (H.world host.old) engine.old t → (H.world host.new).reads ≤ (H.world host.old).reads + check_most engine.old.files.count t.base.image + 2 * length (leaked t.base.image) }
     ensures cause { CountsDevice result (H.faults host.old) (H.faults host.new) }
     // Where memory is wanted a prefix of the pages was given back, and not all, if there were any.
     ensures short { (s : Seen) (t : Trail) → IsTrue H.tells → t.base ≡ s.base → IsOpen (H.world host.old) engine.old t

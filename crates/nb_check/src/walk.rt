@@ -10,6 +10,7 @@ ghost use Rattle.nb_state.specs.Open.{IsOpen};
 ghost use Rattle.nb_state.specs.Looks.{Looks};
 ghost use Rattle.nb_model.specs.Leaks.{reached};
 ghost use Rattle.nb_check.specs.Marks.{IsReached};
+ghost use Rattle.nb_check.specs.Most.{chains_most};
 ghost use Rattle.nb_model.specs.Checks.{chains_cause};
 ghost use Rattle.nb_check.specs.Walks.{chains_on};
 ghost use Rattle.nb_walk.specs.Walks.{chain_by};
@@ -21,7 +22,8 @@ use nb_host::{Fault, Host, Refusal};
 use nb_walk::{Chain, first_page, slot_at, slot_count, use_of};
 
 /// Marks the pages of a chain as reached. The refusal is `NotDatabase` of the first page that breaks the form: a chain that leads back
-/// into itself has more pages than the database. Each page of the chain takes one read at most.
+/// into itself has more pages than the database. Each page of the chain takes one read at most, and where it is broken there are no more reads
+/// than pages of the database.
 fn mark_chain<H: Host>(
     host: &mut H,
     engine: &mut Engine,
@@ -35,6 +37,7 @@ fn mark_chain<H: Host>(
     ensures sized { length page.new ≡ length page.old }
     ensures looks { Looks H.tells (H.world host.old) (H.world host.new) engine.old engine.new }
     ensures once { (t : Trail) → IsTrue H.tells → IsOpen (H.world host.old) engine.old t → OnOk result ((H.world host.new).reads ≤ (H.world host.old).reads + length (found_pages (chain_by chain) t.base.image)) }
+    ensures within { IsTrue H.tells → (H.world host.new).reads ≤ (H.world host.old).reads + engine.old.files.count }
     ensures cause { CountsDevice result (H.faults host.old) (H.faults host.new) }
     ensures takes_none { IfErr result (λ fault. fault ≢ Memory) }
 {
@@ -68,6 +71,8 @@ fn mark_listed<H: Host>(
     ensures sized { length page.new ≡ length page.old }
     ensures looks { Looks H.tells (H.world host.old) (H.world host.new) engine.old engine.new }
     ensures once { (t : Trail) → IsTrue H.tells → IsOpen (H.world host.old) engine.old t → OnOk result ((H.world host.new).reads ≤ (H.world host.old).reads + length (pages_of_all t.base.image (chains_on listed.now))) }
+    ensures within { (t : Trail) → IsTrue H.tells → IsOpen (H.world host.old) engine.old t
+        → (H.world host.new).reads ≤ (H.world host.old).reads + length (pages_of_all t.base.image (chains_on listed.now)) + engine.old.files.count }
     ensures cause { CountsDevice result (H.faults host.old) (H.faults host.new) }
     ensures takes_none { IfErr result (λ fault. fault ≢ Memory) }
 {
@@ -104,6 +109,8 @@ fn mark_tables<H: Host>(
     ensures looks { Looks H.tells (H.world host.old) (H.world host.new) engine.old engine.new }
     ensures once { (t : Trail) → IsTrue H.tells → IsOpen (H.world host.old) engine.old t → broken_at (pages_of Catalogue t.base.image) ≡ None
         → OnOk result ((H.world host.new).reads ≤ (H.world host.old).reads + length (found_pages Catalogue t.base.image) + length (pages_of_all t.base.image (table_chains (used (spots Catalogue t.base.image))))) }
+    ensures within { (t : Trail) → IsTrue H.tells → IsOpen (H.world host.old) engine.old t → broken_at (pages_of Catalogue t.base.image) ≡ None
+        → (H.world host.new).reads ≤ (H.world host.old).reads + length (found_pages Catalogue t.base.image) + length (pages_of_all t.base.image (table_chains (used (spots Catalogue t.base.image)))) + engine.old.files.count }
     ensures cause { CountsDevice result (H.faults host.old) (H.faults host.new) }
     ensures takes_none { IfErr result (λ fault. fault ≢ Memory) }
 {
@@ -136,6 +143,7 @@ pub(crate) fn mark_reached<H: Host>(
     ensures reached { (t : Trail) → IsTrue H.tells → IsOpen (H.world host.old) engine.old t → OnOk result (IsReached marks.old (reached t.base.image) marks.new) }
     ensures looks { Looks H.tells (H.world host.old) (H.world host.new) engine.old engine.new }
     ensures once { (t : Trail) → IsTrue H.tells → IsOpen (H.world host.old) engine.old t → OnOk result ((H.world host.new).reads ≤ (H.world host.old).reads + length (found_pages Catalogue t.base.image) + length (reached t.base.image)) }
+    ensures within { (t : Trail) → IsTrue H.tells → IsOpen (H.world host.old) engine.old t → (H.world host.new).reads ≤ (H.world host.old).reads + chains_most t.base.image + engine.old.files.count }
     ensures cause { CountsDevice result (H.faults host.old) (H.faults host.new) }
     ensures takes_none { IfErr result (λ fault. fault ≢ Memory) }
 {

@@ -2,6 +2,8 @@
 use Rattle.std.proofs.Common.{◌≡◌, ℕ, suc, ◌+◌, ◌-◌, ◌<◌, ◌≤◌, List, [], ◌∷◌, ◌++◌, length, get_or, drop, refl, sym, ap, subst, ◌∙◌, arith, append_assoc, Some, None, Option, Result, Ok, Err, false, ◌==◌}
 use Rattle.nb_fold.proofs.Common.{true≢false, append-nil, drop_all, File, Files, Fault, Refused, Device, Memory, Refusal, Cause, Contents, read_level, level_link, not_behind, head_of, LevelHead, TestedAlone, AddSays, AreAlike, AreChained, IsAdded, IsLast, open_reads, first_size, Held, IsGiven, IsOpened, AreOpened, AreOfPages, chained, file_after, files_after, not_after, with_files}
 use Rattle.nb_chain.specs.Level.{WholeSays, LevelRefused, IsWhole}
+use Rattle.nb_chain.specs.Most.{level_most}
+use Rattle.nb_fold.specs.Most.{open_most}
 use Rattle.nb_chain.specs.Next.{tip_link}
 use Rattle.nb_chain.specs.declared.tip.Tip.{Tip}
 
@@ -180,3 +182,11 @@ opened_all files all k sources before after past so_far =
       opened = subst (λ (ns : List (List ℕ)). AreOpened files ns sources so_far.contents) (sym names) so_far.opened;
       reads = so_far.reads;
     }
+
+-- one file more was read to its end, and begun once more
+pub open_next : (files now : Files) (all left : List (List ℕ)) (name : List ℕ) (from : List (List ℕ)) (before mid after : ℕ) → now ≡ files → from ≡ name ∷ left → mid + open_most files from ≤ before + open_most files all → after ≤ mid + (level_most (now name) + 2)
+    → after + open_most files left ≤ before + open_most files all
+open_next files now all left name from before mid after same named so_far read =
+    let most : open_most files from ≡ level_most (files name) + 2 + open_most files left = ap (open_most files) named in
+    let one : after ≤ mid + (level_most (files name) + 2) = subst (λ (f : Files). after ≤ mid + (level_most (f name) + 2)) same read in
+    omega (arith, most, so_far, one)

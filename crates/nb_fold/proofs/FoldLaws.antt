@@ -1,11 +1,12 @@
 -- What a fold is known by before its file is made, and what it leaves.
-use Rattle.std.proofs.Common.{◌≡◌, ◌≢◌, inl, inr, ⊎_elim, ℕ, suc, ◌+◌, ◌-◌, ◌*◌, ◌<◌, ◌≤◌, List, [], ◌∷◌, length, get_or, refl, sym, ap, subst, ◌∙◌, arith, true, false, Some, None, Option, Result, Ok, Err}
+use Rattle.std.proofs.Common.{◌≡◌, ◌≢◌, inl, inr, ⊎_elim, ℕ, suc, ◌+◌, ◌-◌, ◌*◌, ◌<◌, ◌≤◌, List, [], ◌∷◌, length, get_or, refl, sym, ap, subst, ◌∙◌, arith, true, false, Bool, Some, None, Option, Result, Ok, Err}
 use Rattle.nb_fold.proofs.Common.{AllByRecursion, and_parts, is_page_size, most_pages, File, Files, World, Leaves, LeavesAll, Fault, Refused, Device, Memory, Refusal, FileExists, Only, NoNames, Remade, GaveNothing, rested, kept_then, nothing_joined, Quiet, LevelHead, head_of, Head, Contents, AreOfSize, level_bytes, LevelWriting, IsKept, IsUnfinishedOr, AreChained, open_reads, FoldAnswers, FoldLeft, Folds, fold_reads, bytes_for, first_head, folded, folded_head, last_head, pages_of_each, AllOfSize, AllRise, AreApart, MakesOr, pages_left, Held, AllWait, AreOfPages, AreOpened, IsOpened, IsTaken, due, due_by, chained, fold_verdict, HasPages, level_pages, err_not_ok}
 use Rattle.nb_fields.specs.Free.{is_free_file}
 use Rattle.nb_change.proofs.MomentLaws.{left_before}
 use Rattle.nb_page.specs.Free.{is_free_name}
 use Rattle.nb_model.proofs.FreeLaws.{free_no_level}
 use Rattle.nb_fold.specs.declared.folded.Folded.{Folded}
+use Rattle.nb_fold.specs.Most.{fold_most, open_most, read_on_most}
 use Rattle.nb_fold.specs.Prepared.{IsPrepared}
 use Rattle.nb_fold.proofs.FoldedLaws.{folded_rises, folded_sizes}
 
@@ -114,11 +115,28 @@ reads_all : (cs : List Contents) → open_reads cs + pages_left (pages_of_each c
 reads_all [] = refl
 reads_all (c ∷ cs) = let rest = reads_all cs in omega (arith, rest)
 
+-- where the files were begun
+pub opened_within : (old mid : Files) (out : List ℕ) (names : List (List ℕ)) (before first after : ℕ) → is_free_name old out ≡ true → mid ≡ old → first ≤ before + 1 → after ≤ first + open_most mid names → after ≤ before + (1 + open_most old names)
+opened_within old mid out names before first after free same once opened =
+    let more : after ≤ first + open_most old names = subst (λ (f : Files). after ≤ first + open_most f names) same opened in
+    omega (arith, once, more)
+
+-- which is all that is read, or the files are read on from there
+pub most_free : (files : Files) (out : List ℕ) (names : List (List ℕ)) → is_free_name files out ≡ true → fold_most files out names ≡ 1 + (open_most files names + read_on_most (chained files names))
+most_free files out names free = ap (λ (b : Bool). 1 + elim b as (λ x. ℕ) [ true ↦ open_most files names + read_on_most (chained files names) | false ↦ 0 ]) free
+
+pub most_folded : (files : Files) (out : List ℕ) (names : List (List ℕ)) (cs : List Contents) → fold_verdict files out names ≡ Ok cs → fold_most files out names ≡ 1 + (open_most files names + pages_left (pages_of_each cs))
+most_folded files out names cs accepted = by (is_free_name files out) refl
+  where
+    by : (free : Bool) → is_free_name files out ≡ free → fold_most files out names ≡ 1 + (open_most files names + pages_left (pages_of_each cs))
+    by true is = most_free files out names is ∙ ap (λ (r : Result (List Contents) Refusal). 1 + (open_most files names + read_on_most r)) (sym (verdict_free files out names is) ∙ accepted)
+    by false is = absurd (err_not_ok (FileExists out) cs (fold_verdict files out names) (verdict_taken files out names is) accepted)
+
 -- All is known that the fold needs.
 pub prepared : (old mid new : World) (out : List ℕ) (names : List (List ℕ)) (ss : List Held) (file : LevelWriting) → is_free_name old.files out ≡ true → Quiet old mid → mid.reads ≤ old.reads + 1 → AreChained mid.files names mid.reads new.reads ss → Quiet mid new
-    → 0 < length ss → file.name ≡ out → is_page_size file.head.page_size ≡ true → ((cs : List Contents) → AreOpened mid.files names ss cs → head_of file.head ≡ folded_head cs) → AreOfPages file.head.page_size ss → IsPrepared old new out names ss file
+    → new.reads ≤ mid.reads + open_most mid.files names → 0 < length ss → file.name ≡ out → is_page_size file.head.page_size ≡ true → ((cs : List Contents) → AreOpened mid.files names ss cs → head_of file.head ≡ folded_head cs) → AreOfPages file.head.page_size ss → IsPrepared old new out names ss file
 unfolding folded is_free_name
-prepared old mid new out names ss file free quiet once chain quiet2 some named size head alike =
+prepared old mid new out names ss file free quiet once chain quiet2 within some named size head alike =
     let cs = chain.contents in
     let opened = chain.opened in
     let headed = head cs opened in
@@ -144,8 +162,10 @@ prepared old mid new out names ss file free quiet once chain quiet2 some named s
         waits = subst (λ (f : Files). AllWait f ss (pages_of_each cs)) (sym quiet2.still.files) (all_waiting mid.files names ss cs opened);
         rises = all_rise mid.files names ss cs opened;
         apart = subst (λ (n : List ℕ). AreApart n ss) (sym named) apart.0;
-        reads = let all = reads_all cs in let few = chain.reads in omega (arith, all, few, once);
+        reads = omega arith;
       };
+      opened = opened_within old.files mid.files out names old.reads mid.reads new.reads free same once within;
+      reads = let all = reads_all cs in let few = chain.reads in omega (arith, all, few, once);
       apart = apart.1;
     }
 

@@ -59,6 +59,10 @@ module _ (w : World) (file : LevelWriting) (sources : List Held) (whole : List N
         reads = omega (arith, folding.reads);
       }
 
+  -- where files are read on after the page of that number, also where one of them fails
+  pub reads_on : (n : ℕ) (mid new : World) → mid.reads ≡ w.reads → new.reads ≤ mid.reads + counts_at n sources → new.reads ≤ most
+  reads_on n mid new same reads = let left = left_after w.files n sources folding.coming folding.waits in omega (arith, folding.reads, reads, same, left)
+
   -- this page comes next
   module _ (n : ℕ) (page : Page) (below : n < most_pages) (least : IsLeast n sources) (is : waiting_page n sources ≡ Some page) where
     rise : AllRise n folding.coming

@@ -1,6 +1,7 @@
 pub mod Folding
 pub mod Verdict
 pub mod Fold
+pub mod Most
 pub mod Sources
 pub mod Merging
 pub mod Checking

@@ -12,6 +12,7 @@ ghost use Rattle.nb_page.specs.Quiet.{Quiet};
 ghost use Rattle.nb_fold.specs.Checking.{AreAlike, first_size};
 ghost use Rattle.nb_fold.specs.Fold.{Folds};
 ghost use Rattle.nb_fold.specs.Folding.{folded_head};
+ghost use Rattle.nb_fold.specs.Most.{fold_most};
 ghost use Rattle.nb_fold.specs.Prepared.{IsPrepared};
 ghost use Rattle.nb_fold.specs.Sources.{AreOfPages, AreOpened, due};
 ghost use Rattle.nb_fold.specs.Verdict.{fold_verdict};
@@ -55,7 +56,7 @@ fn folded_head(sources: &[Source]) -> LevelHead
 fn check_out<H: Host>(host: &mut H, out: &Name) -> Result<(), Fault>
     ensures free { IsTrue H.tells → OnOk result (is_free_name (H.world host.old).files out.now ≡ true) }
     ensures taken { IsTrue H.tells → (refusal : Refusal) → result ≡ Err (Refused refusal) → (is_free_name (H.world host.old).files out.now ≡ false) × (refusal ≡ FileExists out.now) }
-    ensures once { IsTrue H.tells → OnOk result ((H.world host.new).reads ≤ (H.world host.old).reads + 1) }
+    ensures once { IsTrue H.tells → (H.world host.new).reads ≤ (H.world host.old).reads + 1 }
     ensures quiet { Quiet (H.world host.old) (H.world host.new) }
     ensures cause { CountsDevice result (H.faults host.old) (H.faults host.new) }
 {
@@ -76,6 +77,7 @@ fn prepare<H: Host>(
     requires few { length files.now ≤ 9 }
     ensures ready { IsTrue H.tells → IfOk result (λ plan. IsPrepared (H.world host.old) (H.world host.new) out.now files.now plan.0.items plan.1) }
     ensures refused { IsTrue H.tells → (refusal : Refusal) → result ≡ Err (Refused refusal) → fold_verdict (H.world host.old).files out.now files.now ≡ Err refusal }
+    ensures within { IsTrue H.tells → (H.world host.new).reads ≤ (H.world host.old).reads + fold_most (H.world host.old).files out.now files.now }
     ensures name { IfOk result (λ plan. plan.1.name ≡ out.now) }
     ensures sizes { IfOk result (λ plan. AreOfPages plan.1.head.page_size plan.0.items) }
     ensures fresh { IfOk result (λ plan. plan.1.written ≡ 0) }
@@ -103,8 +105,8 @@ fn prepare<H: Host>(
 /// that answers `Memory`: all memory is taken before the file is made.
 ///
 /// A crash, and an answer of `Device`, leave the file as it was, or such that nothing takes it for a backup, or whole. No other file is
-/// touched. Each file is read twice, once to its end to check it and once beside the others. It takes the memory for two pages a file, and
-/// for a run of 16.
+/// touched. Whatever it answers, each file is read twice at most, page by page: once to its end to check it and once beside the others. It
+/// takes the memory for two pages a file, and for a run of 16.
 pub fn fold<H: Host>(
     alloc: Global,
     host: &mut H,
@@ -114,6 +116,7 @@ pub fn fold<H: Host>(
     requires some { 2 ≤ length files.now }
     requires few { length files.now ≤ 9 }
     ensures folds { IsTrue H.tells → Folds result (H.world host.old) (H.world host.new) out.now files.now }
+    ensures within { IsTrue H.tells → (H.world host.new).reads ≤ (H.world host.old).reads + fold_most (H.world host.old).files out.now files.now }
     ensures cause { CountsDevice result (H.faults host.old) (H.faults host.new) }
 {
     let (mut sources, mut file) = prepare(alloc, host, files, out)?;

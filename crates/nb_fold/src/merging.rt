@@ -63,6 +63,7 @@ fn fold_page<H: Host>(
     ensures folds { IsTrue H.tells → (whole : List Numbered) (most : ℕ) → IsFolding (H.world host.old) file.old sources.old whole most → IfOk result (λ more. FoldsOn more (H.world host.new) file.new sources.new whole most) }
     ensures sure { IsTrue H.tells → (whole : List Numbered) (most : ℕ) → IsFolding (H.world host.old) file.old sources.old whole most → IsTaken result (λ more. Unit {0}) }
     ensures makes { IsTrue H.tells → (whole : List Numbered) (most : ℕ) → IsFolding (H.world host.old) file.old sources.old whole most → Makes (H.world host.old) (H.world host.new) file.old.name IsUnfinished }
+    ensures within { IsTrue H.tells → (whole : List Numbered) (most : ℕ) → IsFolding (H.world host.old) file.old sources.old whole most → (H.world host.new).reads ≤ most }
     ensures sizes { AreOfPages file.old.head.page_size sources.new }
     ensures same { file.new ≡ record file.old { written = file.new.written; run = file.new.run } }
     ensures falls { IfOk result (λ more. FallsOn more file.old file.new sources.old sources.new) }
@@ -89,6 +90,7 @@ pub(crate) fn merge<H: Host>(
     ensures folds { IsTrue H.tells → (whole : List Numbered) (most : ℕ) → IsFolding (H.world host.old) file.old sources.old whole most → OnOk result (HasFolded (H.world host.new) file.new whole most) }
     ensures sure { IsTrue H.tells → (whole : List Numbered) (most : ℕ) → IsFolding (H.world host.old) file.old sources.old whole most → IsTaken result (λ done. Unit {0}) }
     ensures makes { IsTrue H.tells → (whole : List Numbered) (most : ℕ) → IsFolding (H.world host.old) file.old sources.old whole most → Makes (H.world host.old) (H.world host.new) file.old.name IsUnfinished }
+    ensures within { IsTrue H.tells → (whole : List Numbered) (most : ℕ) → IsFolding (H.world host.old) file.old sources.old whole most → (H.world host.new).reads ≤ most }
     ensures same { file.new ≡ record file.old { written = file.new.written; run = file.new.run } }
     ensures gave { GaveNothing (H.world host.old) (H.world host.new) }
     ensures cause { CountsDevice result (H.faults host.old) (H.faults host.new) }

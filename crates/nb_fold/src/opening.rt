@@ -1,4 +1,4 @@
-ghost use Rattle.std.specs.Prelude.{◌≡◌, ◌+◌, ◌<◌, length, IsTrue, IfOk, OnOk, Option, Err};
+ghost use Rattle.std.specs.Prelude.{◌≡◌, ◌+◌, ◌<◌, ◌≤◌, length, IsTrue, IfOk, OnOk, Option, Err};
 ghost use Rattle.nb_host.specs.Causes.{CountsDevice, FaultCount};
 ghost use Rattle.nb_model.specs.Levels.{Contents};
 ghost use Rattle.nb_level.specs.Heads.{head_of};
@@ -6,6 +6,8 @@ ghost use Rattle.nb_page.specs.Quiet.{Quiet};
 ghost use Rattle.nb_model.specs.Causes.{TestedAlone};
 ghost use Rattle.nb_host.specs.declared.faults.Fault.TheVariants.{Refused};
 ghost use Rattle.nb_host.specs.declared.refusals.Refusal.{Refusal};
+ghost use Rattle.nb_chain.specs.Most.{level_most};
+ghost use Rattle.nb_fold.specs.Most.{open_most};
 ghost use Rattle.nb_fold.specs.Verdict.{chained, not_after};
 ghost use Rattle.nb_fold.specs.Checking.{AddSays, AreAlike, AreChained, IsLast, first_size};
 
@@ -41,6 +43,7 @@ fn add<H: Host>(
     ensures answer { IsTrue H.tells → (last : Option Contents) → IsLast sources.old.items last → AddSays (H.world host.old).files name.now last sources.old.items sources.new.items (H.world host.old).reads (H.world host.new).reads result }
     ensures alike { AreAlike sources.old.items → OnOk result (AreAlike sources.new.items) }
     ensures one { OnOk result (length sources.new.items ≡ length sources.old.items + 1) }
+    ensures within { IsTrue H.tells → (H.world host.new).reads ≤ (H.world host.old).reads + (level_most ((H.world host.old).files name.now) + 2) }
     ensures quiet { Quiet (H.world host.old) (H.world host.new) }
     ensures cause { CountsDevice result (H.faults host.old) (H.faults host.new) }
 {
@@ -62,6 +65,7 @@ pub(crate) fn open_all<H: Host>(
     ensures refused { IsTrue H.tells → (refusal : Refusal) → result ≡ Err (Refused refusal) → chained (H.world host.old).files files.now ≡ Err refusal }
     ensures alike { IfOk result (λ sources. AreAlike sources.items) }
     ensures all { IfOk result (λ sources. length sources.items ≡ length files.now) }
+    ensures within { IsTrue H.tells → (H.world host.new).reads ≤ (H.world host.old).reads + open_most (H.world host.old).files files.now }
     ensures quiet { Quiet (H.world host.old) (H.world host.new) }
     ensures cause { CountsDevice result (H.faults host.old) (H.faults host.new) }
 {

@@ -43,7 +43,7 @@ pub(crate) fn write<H: Host>(
     ensures makes { IsTrue H.tells → (whole : List Numbered) (most : ℕ) → IsReady (H.world host.old) file.old sources.old whole most → MakesOr (H.world host.old) (H.world host.new) out.now (IsUnfinishedOr (level_bytes 102 (head_of file.old.head) whole)) }
     ensures done { IsTrue H.tells → (whole : List Numbered) (most : ℕ) → IsReady (H.world host.old) file.old sources.old whole most → OnOk result (IsKept (H.world host.new) out.now (level_bytes 102 (head_of file.old.head) whole)) }
     ensures pages { IsTrue H.tells → (whole : List Numbered) (most : ℕ) → IsReady (H.world host.old) file.old sources.old whole most → OnOk result (file.new.written ≡ length whole) }
-    ensures reads { IsTrue H.tells → (whole : List Numbered) (most : ℕ) → IsReady (H.world host.old) file.old sources.old whole most → OnOk result ((H.world host.new).reads ≤ most) }
+    ensures within { IsTrue H.tells → (whole : List Numbered) (most : ℕ) → IsReady (H.world host.old) file.old sources.old whole most → (H.world host.new).reads ≤ most }
     ensures sure { IsTrue H.tells → (whole : List Numbered) (most : ℕ) → IsReady (H.world host.old) file.old sources.old whole most → IsTaken result (λ done. Unit {0}) }
     ensures head { file.new.head ≡ file.old.head }
     ensures gave { GaveNothing (H.world host.old) (H.world host.new) }

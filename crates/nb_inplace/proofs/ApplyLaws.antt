@@ -1,5 +1,5 @@
 -- What a merge changes and leaves, from the tests on.
-use Rattle.std.proofs.Common.{◌/◌, take, ◌≡◌, ◌≢◌, ◌⊎◌, inl, inr, ⊎_elim, ℕ, mul-le-mul_left, ◌*◌, ◌<◌, ◌≤◌, List, [], ◌∷◌, ◌++◌, length, refl, sym, ap, subst, ◌∙◌, arith, true, Some, None, Result, Ok, Err, Contains}
+use Rattle.std.proofs.Common.{◌/◌, take, ◌≡◌, ◌≢◌, ◌⊎◌, inl, inr, ⊎_elim, ℕ, mul-le-mul_left, ◌+◌, ◌*◌, ◌<◌, ◌≤◌, List, [], ◌∷◌, ◌++◌, length, refl, sym, ap, subst, ◌∙◌, arith, true, Some, None, Result, Ok, Err, Contains}
 use Rattle.nb_inplace.proofs.Common.{mul-div_cancel, eqb-true, take-append-le, is_header, state_of, size_of, size_facts, File, Files, bytes_of, World, Leaves, LeavesAll, IsDurable, Fault, Refused, Device, Memory, Refusal, Changes, Only, NoNames, Remade, GaveNothing, rested, kept_then, nothing_joined, header_in, Header, Quiet, Page, Image, Numbered, first_page, image_size, cut, image_in, trimmed, overwritten, in_place, Head, Contents, joined, read_level, HoldsMain, delta_name, main_page, IsOfSize, as_standby, merged, formed, no_cause, header-long, header-other, same-header, same-number, trimmed-append_zeros, trimmed-other, cut-joined, length-joined, IsLaid, laid, image_in-is, owner_main, header_no_level, trimmed_alike, trimmed_page, Reading, still_to_come, level-headed, Standby, IsFitFor, AcceptSays, pages_of, IsHalfIn, IsMergedTo, ApplyLeft, ApplyAnswers, Applies, applying_page, IsBetween, IsHalf, IsTaken, IsHalfFile, merged_pages, IsHalfOr, IsMergedFile, KeepsMerged, IsPlan, ReadySays, IsWholeStandby, stamp_cause, IsMergeable, level_pages, some_same, err_not_ok}
 use Rattle.nb_change.proofs.MomentLaws.{left_before}
 use Rattle.nb_change.proofs.SettledLaws.{durable_is}
@@ -13,6 +13,7 @@ use Rattle.nb_inplace.proofs.StampLaws.{since_image}
 use Rattle.nb_inplace.proofs.VerdictLaws.{answered, verdict_by}
 use Rattle.nb_chain.specs.Most.{RefusedReads}
 use Rattle.nb_inplace.proofs.MostLaws.{taken_refuses}
+use Rattle.nb_inplace.specs.Most.{accepted_most, apply_most, merge_most, refused_most}
 
 -- 1. Nothing was changed.
 module _ (old new : World) (standby name : List ℕ) (quiet : Quiet old new) where
@@ -288,3 +289,12 @@ module _ (old : World) (standby name : List ℕ) (s : Standby) (reader : Reading
       apply_takes n same durable result done before most after =
           subst (λ (k : ℕ). ByPlan k (λ records ps. IsTaken result (KeepsMerged new standby k records ps)) → RefusedReads result before most after) same
           (λ its_done. taken_refuses ℕ result (KeepsMerged new standby size c.pages pages) before most after (its_done c.head.guid pages c.pages plan_then durable)) done
+
+      -- what it reads
+      pub apply_within : (n : ℕ) → size ≡ n → IsDurable mid standby (mid.files standby) → ByPlan n (λ records ps. new.reads ≤ mid.reads + merge_most n records ps) → mid.reads ≤ old.reads + refused_most files standby name → new.reads ≤ old.reads + apply_most files standby name
+      apply_within n same durable within ready =
+          let merge : new.reads ≤ mid.reads + merge_most size c.pages pages =
+          subst (λ (k : ℕ). ByPlan k (λ records ps. new.reads ≤ mid.reads + merge_most k records ps) → new.reads ≤ mid.reads + merge_most size c.pages pages) same (λ its. its c.head.guid pages c.pages plan_then durable) within in
+          let most : accepted_most (bytes_of (files standby)) (in_place files standby name) ≡ merge_most size c.pages pages =
+          ap (λ (f : File). accepted_most (bytes_of f) (in_place files standby name)) fit.there ∙ ap (accepted_most fit.bytes) m.accepted ∙ ap (λ (k : ℕ). merge_most k c.pages (pages_of fit.bytes)) size_is ∙ ap (merge_most size c.pages) file_pages in
+          omega (arith, merge, most, ready)

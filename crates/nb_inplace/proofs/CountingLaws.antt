@@ -1,7 +1,8 @@
 -- Counting the pages of a standby's image from its file's end.
 use Rattle.std.proofs.Common.{◌≡◌, ℕ, zero, suc, ◌+◌, ◌-◌, ◌*◌, ◌<◌, ◌≤◌, List, [], ◌∷◌, length, drop, refl, sym, ap, ◌∙◌, arith, mul-le-mul_right, add-mul, Bool, true, false, Some}
 use Rattle.nb_inplace.proofs.Common.{is_zeros, File, bytes_of, ReadsPage, Page, Image, page_at, trimmed, joined, IsOfSize, length-joined, without_blank}
-use Rattle.nb_chain.proofs.CountLaws.{length_trimmed, found_filled, found_blank}
+use Rattle.nb_chain.proofs.CountLaws.{end_within, length_trimmed, found_filled, found_blank}
+use Rattle.nb_inplace.specs.Most.{count_most}
 use Rattle.nb_restore.proofs.PageLaws.{read_whole}
 
 -- a page that is there is read whole
@@ -43,3 +44,9 @@ module _ (image : Image) where
   -- and page 0 is counted always
   pub count_first : (count : ℕ) → count ≡ 1 → blank 0 ≡ false → without_blank blank (length image) ≡ without_blank blank count → count ≡ length (trimmed image)
   count_first count one filled so_far = sym (length_trimmed image ∙ so_far ∙ found_filled blank count 0 one filled)
+
+  -- What was read from the end on, once the pages past `count` are known to be blank.
+  pub count_within : (count before here after : ℕ) → here + count ≤ before + length image → without_blank blank (length image) ≡ without_blank blank count → after ≤ here + 1 → after ≤ before + count_most image
+  count_within count before here after so_far same read =
+      let most : after + without_blank blank (length image) ≤ before + length image + 1 = end_within blank count (length image) before here after so_far same read in
+      omega (arith, most, length_trimmed image)

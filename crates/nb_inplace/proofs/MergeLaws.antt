@@ -1,11 +1,12 @@
 -- A merge from its plan on: it is begun, records are written, pages are counted, and page 0 comes last.
-use Rattle.std.proofs.Common.{◌≡◌, inl, inr, ⊎_elim, ℕ, ◌*◌, ◌≤◌, List, [], ◌∷◌, length, drop, refl, sym, ap, subst, ◌∙◌, arith, length-drop, Bool, true, false, Some, Ok, IsTrue}
+use Rattle.std.proofs.Common.{◌≡◌, inl, inr, ⊎_elim, ℕ, ◌+◌, ◌*◌, ◌≤◌, List, [], ◌∷◌, length, drop, refl, sym, ap, subst, ◌∙◌, arith, length-drop, Bool, true, false, Some, Ok, IsTrue}
 use Rattle.nb_inplace.proofs.Common.{is_zeros, is_header, size_of, is_page_size, most_pages, size_facts, File, Files, bytes_of, with_page, World, Leaves, LeavesAll, PageLeft, Changes, Only, NoNames, Moved, Remade, rested, weaker_has, composed, kept_on, remade_on, moved_from, remade_weaker, Quiet, Page, Image, Numbered, page_at, first_page, trimmed, written_at, overwritten, joined, Link, IsOfSize, standby_page, as_standby, header-long, header-other, all-drop, Reading, still_to_come, length-written, Holds, Overwrites, IsKept, all_over-one, HasHead, head_all, IsWhole, IsHalfFile, KeepsHalf, merged_pages, IsHalfOr, IsMergedFile, KeepsMerged, begun_file, pages_with, IsPlan, first_and_rest}
 use Rattle.nb_inplace.proofs.ControlLaws.{applying-long, applying-size, applying-header, standby-long}
 use Rattle.nb_inplace.proofs.EndLaws.{merged_whole}
 use Rattle.nb_inplace.proofs.FileLaws.{first_put, half_begun, begun_left, ended_left}
 use Rattle.nb_inplace.proofs.FirstLaws.{HasFirst}
 use Rattle.nb_inplace.proofs.PagesLaws.{over_first}
+use Rattle.nb_inplace.specs.Most.{count_most}
 
 -- how many pages there are with the records written over
 length_over : (size : ℕ) (rs : List Numbered) (image : Image) → length (overwritten size rs image) ≡ pages_with rs (length image)
@@ -182,6 +183,15 @@ module _ (old : World) (standby : List ℕ) (size count : ℕ) (is_begun : Bool)
         holds = subst (Holds size first noted merged_over) same holds;
         counted = counted first merged_over holds.reads (subst (λ k. IsOfSize k (first ∷ drop 1 merged_over)) (sym size_is) (first_long, all-drop (λ (p : Page). length p ≡ size) 1 merged_over holds.sizes)) long (some_over all long) first_over;
       }
+
+  -- what the count reads
+  pub counted_within : (begun now : World) → Changes old begun (Only standby) (Remade old standby Half) → IsKept begun standby (begun_file is_begun (old.files standby) first) → (noted : Page) → Overwrites size records (begun.files standby) (now.files standby) first noted
+      → (all long before after : ℕ) → all ≡ pages_with records count → long ≡ size → ((start : Page) (image : Image) → now.files standby ≡ Some (joined (start ∷ drop 1 image)) → IsOfSize long (start ∷ drop 1 image) → length image ≡ all → after ≤ before + count_most image)
+      → after ≤ before + count_most (overwritten size records ps)
+  counted_within begun now first_part kept noted over all long before after all_is size_is counted =
+      let holds : Holds size first noted merged_over (now.files standby) = records_hold begun first_part kept noted now over in
+      subst (λ (x : Image). after ≤ before + count_most x) over_is
+      (counted first merged_over holds.reads (subst (λ k. IsOfSize k (first ∷ drop 1 merged_over)) (sym size_is) (first_long, all-drop (λ (p : Page). length p ≡ size) 1 merged_over holds.sizes)) (pages_over all all_is))
 
   -- less is said while it isn't ended
   pub part_left : (now : World) → Changes old now (Only standby) (Remade old standby Half) → Changes old now (Only standby) (Remade old standby (IsHalfOr size records ps first))

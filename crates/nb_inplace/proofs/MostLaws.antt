@@ -1,11 +1,11 @@
--- How much is read before a merge writes.
-use Rattle.std.proofs.Common.{◌≡◌, ℕ, ◌+◌, ◌*◌, ◌/◌, ◌<◌, ◌≤◌, ⊎_elim, List, length, true, refl, sym, ap, subst, ◌∙◌, arith, add-mul, mul-le-mul_right, IsTrue, ◌==◌, Some, Result, Ok, Err}
-use Rattle.std.proofs.lemmas.Bool.{or_cases}
-use Rattle.nb_inplace.proofs.Common.{eqb-true, is_page_size, File, Files, bytes_of, Fault, Refused, Device, Memory}
+-- How much a merge reads.
+use Rattle.std.proofs.Common.{◌≡◌, ℕ, ◌+◌, ◌*◌, ◌/◌, ◌<◌, ◌≤◌, ⊎_elim, List, length, true, false, Bool, refl, sym, ap, subst, ◌∙◌, arith, add-mul, mul-le-mul_right, IsTrue, ◌==◌, Some, Result, Ok, Err}
+use Rattle.std.proofs.lemmas.Bool.{or_cases, true≢false}
+use Rattle.nb_inplace.proofs.Common.{eqb-true, is_page_size, applying_state, state_of, File, Files, bytes_of, Fault, Refused, Device, Memory}
 use Rattle.nb_host.specs.Answers.{IsTaken}
 use Rattle.nb_chain.specs.Most.{RefusedReads, level_most}
 use Rattle.nb_restore.specs.Most.{piece_length, pieces_in}
-use Rattle.nb_inplace.specs.Most.{refused_most}
+use Rattle.nb_inplace.specs.Most.{apply_most, refused_most, stamps_most, standby_most}
 
 -- a piece is whole pages
 whole_is : (size n : ℕ) → 262144 / n * n ≡ 262144 → (size == n) ≡ true → 262144 / size * size ≡ 262144
@@ -36,16 +36,25 @@ accept_within files now name before first second after same look start read =
     let more : after ≤ second + level_most (files name) = subst (λ (f : Files). after ≤ second + level_most (f name)) same read in
     omega (arith, look, start, more)
 
+-- a standby whose merge wasn't begun is tested
+pub stamps_tested : (is_begun : Bool) (len before after : ℕ) → is_begun ≡ false → after ≤ before + pieces_in len → after ≤ before + stamps_most is_begun len
+stamps_tested true len before after is read = absurd (true≢false is)
+stamps_tested false len before after is read = read
+
 -- and then the standby, by pieces
-pub refused_within : (files : Files) (standby name bytes : List ℕ) (pages size before middle after : ℕ) → files standby ≡ Some bytes → length bytes ≡ pages * size → middle ≤ before + (2 + level_most (files name)) → after ≤ middle + (1 + pieces_in (pages * size))
-    → after ≤ before + refused_most files standby name
-refused_within files standby name bytes pages size before middle after there long accept ready =
-    let is : length (bytes_of (files standby)) ≡ pages * size = ap (λ (f : File). length (bytes_of f)) there ∙ long in
-    let pieces : pieces_in (length (bytes_of (files standby))) ≡ pieces_in (pages * size) = ap pieces_in is in
-    omega (arith, pieces, accept, ready)
+pub refused_within : (files : Files) (standby name bytes : List ℕ) (is_begun : Bool) (pages size before middle after : ℕ) → files standby ≡ Some bytes → is_begun ≡ (state_of bytes == applying_state) → length bytes ≡ pages * size → middle ≤ before + (2 + level_most (files name))
+    → after ≤ middle + (1 + stamps_most is_begun (pages * size)) → after ≤ before + refused_most files standby name
+refused_within files standby name bytes is_begun pages size before middle after there begun long accept ready =
+    let tests : standby_most (bytes_of (files standby)) ≡ stamps_most is_begun (pages * size) =
+    ap (λ (f : File). standby_most (bytes_of f)) there ∙ ap (λ (t : Bool). stamps_most t (length bytes)) (sym begun) ∙ ap (stamps_most is_begun) long in
+    omega (arith, tests, accept, ready)
 
 pub accept_refused : (files : Files) (standby name : List ℕ) (before after : ℕ) → after ≤ before + (2 + level_most (files name)) → after ≤ before + refused_most files standby name
 accept_refused files standby name before after accept = omega (arith, accept)
+
+-- before it writes a merge reads no more than a refused one
+pub unwritten_within : (files : Files) (standby name : List ℕ) (before after : ℕ) → after ≤ before + refused_most files standby name → after ≤ before + apply_most files standby name
+unwritten_within files standby name before after read = omega (arith, read)
 
 -- what is taken refuses nothing
 pub taken_refuses : (T : Type 0) (result : Result T Fault) (P : T → Type 0) (before most after : ℕ) → IsTaken result P → RefusedReads result before most after

@@ -1,4 +1,4 @@
-ghost use Rattle.std.specs.Prelude.{◌≡◌, ◌*◌, IsTrue, List, OnOk, length, ℕ};
+ghost use Rattle.std.specs.Prelude.{◌≡◌, ◌+◌, ◌*◌, ◌≤◌, IsTrue, List, OnOk, length, ℕ};
 ghost use Rattle.nb_change.specs.Changes.{Changes, Only, Remade};
 ghost use Rattle.nb_host.specs.Answers.{IsTaken};
 ghost use Rattle.nb_host.specs.Causes.{CountsDevice, CountsFault};
@@ -10,7 +10,7 @@ ghost use Rattle.nb_chain.specs.Most.{RefusedReads};
 ghost use Rattle.nb_restore.specs.Target.{IsKept};
 ghost use Rattle.nb_inplace.specs.Apply.{Applies};
 ghost use Rattle.nb_inplace.specs.Merging.{IsHalfOr, KeepsMerged, begun_file};
-ghost use Rattle.nb_inplace.specs.Most.{refused_most};
+ghost use Rattle.nb_inplace.specs.Most.{apply_most, merge_most, refused_most};
 ghost use Rattle.nb_inplace.specs.Plan.{IsPlan};
 ghost use Rattle.nb_inplace.specs.Standby.{IsWholeStandby};
 
@@ -41,6 +41,7 @@ fn begin<H: Host>(
     ensures done { IsTrue H.tells → IsDurable (H.world host.old) standby.now ((H.world host.old).files standby.now)
         → OnOk result (IsKept (H.world host.new) standby.now (begun_file is_begun ((H.world host.old).files standby.now) first.now)) }
     ensures gave { GaveNothing (H.world host.old) (H.world host.new) }
+    ensures no_read { (H.world host.new).reads ≡ (H.world host.old).reads }
     ensures cause { CountsFault result (H.faults host.old) (H.faults host.new) }
 {
     if is_begun {
@@ -69,6 +70,8 @@ fn merge<H: Host>(
         → Changes (H.world host.old) (H.world host.new) (Only standby.now) (Remade (H.world host.old) standby.now (IsHalfOr (length page.old) records ps first.old)) }
     ensures done { IsTrue H.tells → (guid : List ℕ) (ps : List Page) (records : List Numbered) → IsPlan (H.world host.old).files standby.now (length page.old) found.now.pages found.now.is_begun reader.old first.old guid ps records
         → IsDurable (H.world host.old) standby.now ((H.world host.old).files standby.now) → IsTaken result (KeepsMerged (H.world host.new) standby.now (length page.old) records ps) }
+    ensures within { IsTrue H.tells → (guid : List ℕ) (ps : List Page) (records : List Numbered) → IsPlan (H.world host.old).files standby.now (length page.old) found.now.pages found.now.is_begun reader.old first.old guid ps records
+        → IsDurable (H.world host.old) standby.now ((H.world host.old).files standby.now) → (H.world host.new).reads ≤ (H.world host.old).reads + merge_most (length page.old) records ps }
     ensures gave { GaveNothing (H.world host.old) (H.world host.new) }
     ensures cause { CountsDevice result (H.faults host.old) (H.faults host.new) }
 {
@@ -101,8 +104,9 @@ fn merge<H: Host>(
 /// with the first stamp of a page that was written since the restore. A refused call changes nothing. Neither does one that answers
 /// `Memory`: all memory is taken before the first write.
 ///
-/// The level file is read twice, once to check it and once to write its pages. Unless it is half merged the standby is read once, by pieces
-/// of 256 KiB. A call that is refused reads neither again.
+/// Whatever it answers, the level file is read twice at most, once to check it and once to write its pages, page by page. Unless it is half
+/// merged the standby is read once, by pieces of 256 KiB; of the merged one it reads the pages of zeros at the end and the one before them. A
+/// call that is refused reads neither again.
 pub fn apply<H: Host>(
     alloc: Global,
     host: &mut H,
@@ -111,6 +115,7 @@ pub fn apply<H: Host>(
 ) -> Result<u32, Fault>
     ensures applies { IsTrue H.tells → Applies result (H.world host.old) (H.world host.new) standby.now file.now }
     ensures refused { IsTrue H.tells → RefusedReads result (H.world host.old).reads (refused_most (H.world host.old).files standby.now file.now) (H.world host.new).reads }
+    ensures within { IsTrue H.tells → (H.world host.new).reads ≤ (H.world host.old).reads + apply_most (H.world host.old).files standby.now file.now }
     ensures cause { CountsDevice result (H.faults host.old) (H.faults host.new) }
 {
     let mut piece = vec![in alloc; 0; PIECE]?;

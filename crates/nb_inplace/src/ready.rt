@@ -8,9 +8,10 @@ ghost use Rattle.nb_model.specs.Levels.{joined};
 ghost use Rattle.nb_model.specs.Sound.{IsOfSize};
 ghost use Rattle.nb_page.specs.Quiet.{Quiet};
 ghost use Rattle.nb_restore.specs.Copied.{IsDone};
-ghost use Rattle.nb_restore.specs.Most.{piece_length, pieces_in};
+ghost use Rattle.nb_restore.specs.Most.{piece_length};
 ghost use Rattle.nb_model.specs.Causes.{TestedByReads};
 ghost use Rattle.nb_inplace.specs.Half.{applying_page};
+ghost use Rattle.nb_inplace.specs.Most.{stamps_most};
 ghost use Rattle.nb_inplace.specs.Standby.{IsWholeStandby};
 ghost use Rattle.nb_inplace.specs.Ready.{ReadySays};
 ghost use Rattle.nb_inplace.specs.Tests.{stamp_cause};
@@ -34,7 +35,7 @@ fn settle<H: Host>(
     requires whole { IsWholeStandby found.now }
     requires piece { length piece.old ≡ piece_length }
     ensures test { IsTrue H.tells → (ps : List Page) → (H.world host.old).files standby.now ≡ Some (joined ps) → IsOfSize found.now.header.page_size ps → length ps ≡ found.now.pages → TestedByReads result (stamp_cause found.now file.now scn ps) }
-    ensures within { IsTrue H.tells → (H.world host.new).reads ≤ (H.world host.old).reads + pieces_in (found.now.pages * found.now.header.page_size) }
+    ensures within { IsTrue H.tells → (H.world host.new).reads ≤ (H.world host.old).reads + stamps_most found.now.is_begun (found.now.pages * found.now.header.page_size) }
     ensures kept { IsTrue H.tells → OnOk result (IsDurable (H.world host.new) standby.now ((H.world host.old).files standby.now)) }
     ensures quiet { Quiet (H.world host.old) (H.world host.new) }
     ensures cause { CountsDevice result (H.faults host.old) (H.faults host.new) }
@@ -86,7 +87,7 @@ pub(crate) fn make_ready<H: Host>(
     requires piece { length piece.old ≡ piece_length }
     ensures answer { IsTrue H.tells → (ps : List Page) → (H.world host.old).files standby.now ≡ Some (joined ps) → IsOfSize found.now.header.page_size ps → length ps ≡ found.now.pages
         → ReadySays (stamp_cause found.now file.now head.now.previous_scn ps) (applying_page head.now.guid (first_page ps)) first.new result }
-    ensures within { IsTrue H.tells → (H.world host.new).reads ≤ (H.world host.old).reads + (1 + pieces_in (found.now.pages * found.now.header.page_size)) }
+    ensures within { IsTrue H.tells → (H.world host.new).reads ≤ (H.world host.old).reads + (1 + stamps_most found.now.is_begun (found.now.pages * found.now.header.page_size)) }
     ensures kept { IsTrue H.tells → OnOk result (IsDurable (H.world host.new) standby.now ((H.world host.old).files standby.now)) }
     ensures quiet { Quiet (H.world host.old) (H.world host.new) }
     ensures cause { CountsDevice result (H.faults host.old) (H.faults host.new) }

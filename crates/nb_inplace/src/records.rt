@@ -1,5 +1,5 @@
 // The pages of a level file are written over those of a standby.
-ghost use Rattle.std.specs.Prelude.{◌≡◌, ◌≢◌, ◌<◌, ◌≤◌, [], ◌∷◌, IfOk, IsTrue, List, Ok, OnOk, Contains, length};
+ghost use Rattle.std.specs.Prelude.{◌≡◌, ◌≢◌, ◌+◌, ◌<◌, ◌≤◌, [], ◌∷◌, IfOk, IsTrue, List, Ok, OnOk, Contains, length};
 ghost use Rattle.nb_change.specs.Changes.{Changes, Only, Moved};
 ghost use Rattle.nb_host.specs.Answers.{IsTaken};
 ghost use Rattle.nb_host.specs.Causes.{CountsDevice, CountsFault};
@@ -29,6 +29,7 @@ fn put_page<H: Host>(
         → Changes (H.world host.old) (H.world host.new) (Only standby.now) (Moved (H.world host.old) standby.now (KeepsHalf (length page.now) records)) }
     ensures pages { IsTrue H.tells → OnOk result (Overwrites (length page.now) ((number, page.now) ∷ []) ((H.world host.old).files standby.now) ((H.world host.new).files standby.now) first.old first.new) }
     ensures gave { GaveNothing (H.world host.old) (H.world host.new) }
+    ensures no_read { (H.world host.new).reads ≡ (H.world host.old).reads }
     ensures cause { CountsFault result (H.faults host.old) (H.faults host.new) }
 {
     if number == 0 {
@@ -56,6 +57,8 @@ pub(crate) fn write_records<H: Host>(
     ensures pages { IsTrue H.tells → (records : List Numbered) → reader.old.name ≢ standby.now → still_to_come (bytes_of ((H.world host.old).files reader.old.name)) reader.old ≡ Ok records
         → IsTaken result (λ count. (count ≡ pages_with records pages) × Overwrites (length page.old) records ((H.world host.old).files standby.now) ((H.world host.new).files standby.now) first.old first.new) }
     ensures most { IfOk result (λ count. count ≤ most_pages) }
+    ensures within { IsTrue H.tells → (records : List Numbered) → reader.old.name ≢ standby.now → still_to_come (bytes_of ((H.world host.old).files reader.old.name)) reader.old ≡ Ok records
+        → (H.world host.new).reads ≤ (H.world host.old).reads + length records + 1 }
     ensures gave { GaveNothing (H.world host.old) (H.world host.new) }
     ensures cause { CountsDevice result (H.faults host.old) (H.faults host.new) }
 {

@@ -1,5 +1,5 @@
 use Rattle.std.proofs.Common.{◌≡◌, ℕ, List, [], length, sym, ap, subst, ◌∙◌, arith, IsTrue}
-use Rattle.nb_check.proofs.Common.{is_page_size, quiet_joined, Leaked, Marks, Findings, said_of, Page, image_size, says, chains, all_from, goes_nowhere, seeing, valued_does, tested_does, tested_on, unsound, leaked, unsound_by, chains_cause, check_cause, check_turn, looks_then}
+use Rattle.nb_check.proofs.Common.{is_page_size, quiet_joined, Leaked, Marks, Findings, Held, said_of, Page, image_size, says, chains, all_from, goes_nowhere, seeing, valued_does, tested_does, tested_on, unsound, leaked, unsound_by, chains_cause, check_cause, check_turn, looks_then}
 use Rattle.nb_check.proofs.CauseLaws.{unsound_fails, chain_fails, check_free, check_refused, check_says}
 use Rattle.nb_check.proofs.MarkLaws.{danger_pages}
 use Rattle.nb_check.proofs.ReportLaws.{leaked_pages}
@@ -96,3 +96,20 @@ returns-in_err-mark_reached-clause-looks g c = looks_then c.in_ok-marks.ensures.
 
 pub returns-clause-looks : goal.returns-clause-looks
 returns-clause-looks g c = looks_then c.in_ok-marks.ensures.looks c.in_ok-mark_reached.ensures.looks
+
+pub returns-in_err-marks-clause-within : goal.returns-in_err-marks-clause-within
+returns-in_err-marks-clause-within g c t tells is = let once = c.taken_data.ensures.once tells in omega (arith, once)
+
+pub returns-in_err-mark_reached-clause-within : goal.returns-in_err-mark_reached-clause-within
+returns-in_err-mark_reached-clause-within g c t tells is =
+    let found = c.in_ok-marks.ensures in
+    let reads = c.taken_data.ensures.once tells in
+    let more = c.mark_reached.ensures.within t tells (found.looks.opened t tells is) in
+    omega (arith, reads, more, ap (λ (h : Held). h.files.count) found.looks.same)
+
+pub returns-clause-within : goal.returns-clause-within
+returns-clause-within g c t tells is =
+    let found = c.in_ok-marks.ensures in
+    let reads = c.taken_data.ensures.once tells in
+    let more = c.mark_reached.ensures.within t tells (found.looks.opened t tells is) in
+    omega (arith, reads, more, ap (λ (h : Held). h.files.count) found.looks.same)

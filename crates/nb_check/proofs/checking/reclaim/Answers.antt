@@ -117,3 +117,20 @@ no_memory n e = cc
 
 pub returns-clause-on_memory : goal.returns-clause-on_memory
 returns-clause-on_memory g c other memory = absurd (no_memory _ memory)
+
+pub returns-in_err-findings-clause-within : goal.returns-in_err-findings-clause-within
+returns-in_err-findings-clause-within g c t tells is = let reads = c.check.ensures.within t tells is in omega (arith, reads)
+
+pub returns-in_err-give_back-clause-within : goal.returns-in_err-give_back-clause-within
+returns-in_err-give_back-clause-within g c t tells is =
+    let found = c.in_ok-findings.ensures in
+    let reads = found.once t tells is in
+    let more = c.give_back.ensures.once t tells (found.looks.opened t tells is) (found.leaked t tells is) in
+    omega (arith, reads, more)
+
+pub returns-clause-within : goal.returns-clause-within
+returns-clause-within g c t tells is =
+    let found = c.in_ok-findings.ensures in
+    let reads = found.once t tells is in
+    let more = c.give_back.ensures.once t tells (found.looks.opened t tells is) (found.leaked t tells is) in
+    omega (arith, reads, more)

@@ -73,3 +73,12 @@ returns-in_err-next-clause-looks g c = looks_then c.loop-left.invariant.looks c.
 
 pub returns-then-next-eq0-clause-looks : goal.returns-then-next-eq0-clause-looks
 returns-then-next-eq0-clause-looks g c = looks_then c.loop-left.invariant.looks c.in_ok-next.ensures.looks
+
+pub returns-in_err-next-clause-within : goal.returns-in_err-next-clause-within
+returns-in_err-next-clause-within g c tells = let l = c.loop-left in omega (arith, l.invariant.once tells, c.chain_read.ensures.once tells, c.loop-left-test.true, l.invariant.few)
+
+pub returns-then-next-eq0-clause-within : goal.returns-then-next-eq0-clause-within
+returns-then-next-eq0-clause-within g c tells = let l = c.loop-left in omega (arith, l.invariant.once tells, c.chain_read.ensures.once tells, c.loop-left-test.true, l.invariant.few)
+
+pub returns-clause-within : goal.returns-clause-within
+returns-clause-within g c tells = let l = c.loop-left in omega (arith, l.invariant.once tells)

@@ -1,6 +1,6 @@
 use Rattle.std.proofs.Common.{◌≡◌, ◌≢◌, ℕ, ◌+◌, ◌*◌, ◌≤◌, length, refl, sym, ap, subst, ◌∙◌, arith, true, false, slice_index}
 use Rattle.nb_check.proofs.Common.{part, broken_at, RowsFrom, Slot, is_used, first_in, pages_of, found_pages, chains_cause, eq_no, eq_yes, tested_on, Held, IsReached, chains_on, slot_inside, looks_begun, looks_then}
-use Rattle.nb_check.proofs.ListLaws.{lists_first, lists_free, lists_used, lists_broken, lists_last}
+use Rattle.nb_check.proofs.ListLaws.{lists_few, lists_first, lists_free, lists_used, lists_broken, lists_last}
 use Rattle.nb_check.proofs.walk.mark_listed.Goals as goal
 
 -- whether a slot is used, by its first byte
@@ -88,3 +88,15 @@ returns-clause-once g c t tells is =
 
 pub returns-in_err-mark_chain-clause-looks : goal.returns-in_err-mark_chain-clause-looks
 returns-in_err-mark_chain-clause-looks g c = looks_then c.loop-slot.invariant.looks c.in_err-mark_chain.ensures.looks
+
+pub returns-in_err-mark_chain-clause-within : goal.returns-in_err-mark_chain-clause-within
+returns-in_err-mark_chain-clause-within g c t tells is =
+    let l = c.loop-slot in
+    let so_far = lists_few t.base.image c.args.listed.now c.args.marks.now l.marks (g.H.Host.world c.args.host.now).reads (g.H.Host.world l.host).reads c.slot_count-count.result l.slot (l.invariant.lists t tells is) in
+    omega (arith, so_far, c.mark_chain.ensures.within tells, ap (λ (h : Held). h.files.count) l.invariant.looks.same)
+
+pub returns-clause-within : goal.returns-clause-within
+returns-clause-within g c t tells is =
+    let l = c.loop-slot in
+    let so_far = lists_few t.base.image c.args.listed.now c.args.marks.now l.marks (g.H.Host.world c.args.host.now).reads (g.H.Host.world l.host).reads c.slot_count-count.result l.slot (l.invariant.lists t tells is) in
+    omega (arith, so_far)

@@ -1,6 +1,6 @@
 use Rattle.std.proofs.Common.{ap, arith}
 use Rattle.nb_check.proofs.Common.{broken_at, Catalogue, History, pages_of, chains_cause, chains, Held, tested_on, tested_by_name, on_ok_then, looks_then}
-use Rattle.nb_check.proofs.ListLaws.{tables, first_broken, second_broken, rest_cause, reached_out, reached_few}
+use Rattle.nb_check.proofs.ListLaws.{tables, first_broken, second_broken, second_within, rest_cause, reached_out, reached_few, reached_within}
 use Rattle.nb_check.proofs.walk.mark_reached.Goals as goal
 
 pub returns-in_err-mark_chain-clause-test : goal.returns-in_err-mark_chain-clause-test
@@ -56,3 +56,21 @@ returns-in_err-mark_chain-2-clause-looks g c = looks_then c.in_ok-mark_chain.ens
 
 pub returns-clause-looks : goal.returns-clause-looks
 returns-clause-looks g c = looks_then (looks_then c.in_ok-mark_chain.ensures.looks c.in_ok-mark_chain-2.ensures.looks) c.mark_tables.ensures.looks
+
+pub returns-in_err-mark_chain-clause-within : goal.returns-in_err-mark_chain-clause-within
+returns-in_err-mark_chain-clause-within g c t tells is = let first = c.mark_chain.ensures.within tells in omega (arith, first)
+
+pub returns-in_err-mark_chain-2-clause-within : goal.returns-in_err-mark_chain-2-clause-within
+returns-in_err-mark_chain-2-clause-within g c t tells is =
+    let first = c.in_ok-mark_chain.ensures in
+    let few = second_within t.base.image _ _ _ c.mark_chain.new.engine.files.count (first.once t tells is) (c.mark_chain-2.ensures.within tells) in
+    omega (arith, few, ap (λ (h : Held). h.files.count) first.looks.same)
+
+pub returns-clause-within : goal.returns-clause-within
+returns-clause-within g c t tells is =
+    let first = c.in_ok-mark_chain.ensures in
+    let second = c.in_ok-mark_chain-2.ensures in
+    let one = first.looks.opened t tells is in
+    let few =
+    reached_within t.base.image _ _ _ _ c.mark_chain-2.new.engine.files.count (first.once t tells is) (second.once t tells one) (c.mark_tables.ensures.within t tells (second.looks.opened t tells one) (first.test t tells is)) in
+    omega (arith, few, ap (λ (h : Held). h.files.count) first.looks.same, ap (λ (h : Held). h.files.count) second.looks.same)

@@ -1,6 +1,6 @@
 use Rattle.std.proofs.Common.{◌≡◌, ℕ, List, [], ◌+◌, length, refl, sym, ap, subst, ◌∙◌, arith, ◌++◌, ◌≢◌, ◌-◌, ◌∷◌, None, IsTrue}
 use Rattle.nb_check.proofs.Common.{Image, page_at, Catalogue, Chain, next_in, found_pages, pages_of, chains_cause, Held, IsOpen, tested_on, not_linked, chains_on, so, walks_first, walks_broken, walks_split, walks_next, walks_all, walks_over, Walks, Trail, broken_at, none_some, Marks, looks_begun, looks_then}
-use Rattle.nb_check.proofs.ListLaws.{AreOut, chains_of_pages, tables, tables_begun, tables_more, tables_are, tables_broken}
+use Rattle.nb_check.proofs.ListLaws.{AreOut, chains_of_pages, listed_few, seen_first, tables, tables_begun, tables_few, tables_more, tables_are, tables_broken}
 use Rattle.nb_check.proofs.walk.mark_tables.Goals as goal
 use Rattle.nb_check.proofs.walk.mark_tables.Goals.{In_ok-mark_listed}
 
@@ -125,3 +125,36 @@ returns-in_err-next-clause-looks g c = looks_then c.loop-left.invariant.looks c.
 
 pub returns-then-next-eq0-clause-looks : goal.returns-then-next-eq0-clause-looks
 returns-then-next-eq0-clause-looks g c = looks_then (looks_then c.loop-left.invariant.looks c.in_ok-next.ensures.looks) c.in_ok-mark_listed.ensures.looks
+
+pub returns-in_err-next-clause-within : goal.returns-in_err-next-clause-within
+returns-in_err-next-clause-within g c t tells is formed =
+    let l = c.loop-left in
+    let image = t.base.image in
+    let reads : ℕ = (g.H.Host.world c.args.host.now).reads in
+    let was = l.invariant.walks t tells is formed in
+    let first = seen_first Catalogue image (Out image c.args.marks.now l.marks reads (g.H.Host.world l.host).reads) l.left l.number was formed in
+    let few = tables_few image was.seen first.0 reads (g.H.Host.world l.host).reads first.1 was.is.few in
+    omega (arith, few, c.chain_read.ensures.once tells, was.long, c.loop-left-test.true, is.files.agrees.count)
+
+pub returns-in_err-mark_listed-clause-within : goal.returns-in_err-mark_listed-clause-within
+returns-in_err-mark_listed-clause-within g c t tells is formed =
+    let l = c.loop-left in
+    let image = t.base.image in
+    let reads : ℕ = (g.H.Host.world c.args.host.now).reads in
+    let still = l.invariant.looks.opened t tells is in
+    let was = l.invariant.walks t tells is formed in
+    let walks = so Catalogue image (Out image c.args.marks.now l.marks reads (g.H.Host.world l.host).reads) l.left l.number c.loop-left-test.true was in
+    let split = walks_split Catalogue image (Out image c.args.marks.now l.marks reads (g.H.Host.world l.host).reads) l.left l.number c.loop-left-test.true was (c.in_ok-next.ensures.test t tells still) formed in
+    let few =
+    listed_few image walks.seen l.number split.0 c.chain_read.new.page reads (g.H.Host.world l.host).reads (g.H.Host.world c.chain_read.new.host).reads (g.H.Host.world c.mark_listed.new.host).reads c.chain_read.new.self.files.count split.1
+    (c.in_ok-next.ensures.page t tells still) walks.is.few (c.chain_read.ensures.once tells) (c.mark_listed.ensures.within t tells (c.in_ok-next.ensures.looks.opened t tells still)) in
+    omega (arith, few, ap (λ (h : Held). h.files.count) l.invariant.looks.same, ap (λ (h : Held). h.files.count) c.in_ok-next.ensures.looks.same)
+
+pub returns-then-next-eq0-clause-within : goal.returns-then-next-eq0-clause-within
+returns-then-next-eq0-clause-within g c t tells is formed = let few = (all g (goal.at.returns-then-next-eq0-clause-within g c).In_ok-mark_listed t tells is formed c.if-next-eq0.true).few in omega (arith, few)
+
+pub returns-clause-within : goal.returns-clause-within
+returns-clause-within g c t tells is formed =
+    let l = c.loop-left in
+    let reads : ℕ = (g.H.Host.world c.args.host.now).reads in
+    absurd (none_some _ (sym formed ∙ walks_over Catalogue t.base.image (Out t.base.image c.args.marks.now l.marks reads (g.H.Host.world l.host).reads) l.left l.number (omega (arith, c.loop-left-test.false)) (l.invariant.walks t tells is formed)))

@@ -1,6 +1,6 @@
 use Rattle.std.proofs.Common.{refl, ap, arith, Bool}
 use Rattle.nb_fold.proofs.Common.{LevelWriting, IsUnfinished, IsTaken, fails_alike, passed}
-use Rattle.nb_fold.proofs.MergeLaws.{falls_by, folds_end, folds_on, makes_none, makes_quiet, may_take, waits_mid}
+use Rattle.nb_fold.proofs.MergeLaws.{falls_by, folds_end, folds_on, makes_none, makes_quiet, may_take, reads_on, waits_mid}
 use Rattle.nb_fold.proofs.merging.fold_page.Goals as goal
 
 pub returns-in-None-clause-folds : goal.returns-in-None-clause-folds
@@ -64,3 +64,17 @@ returns-in_err-pass_all-clause-sizes g c = c.pass_all.ensures.sizes c.args.file.
 
 pub returns-clause-sizes : goal.returns-clause-sizes
 returns-clause-sizes g c = c.pass_all.ensures.sizes c.args.file.now.head.page_size c.requires.sizes
+
+pub returns-in-None-clause-within : goal.returns-in-None-clause-within
+returns-in-None-clause-within g c tells whole most folding = let reads = folding.reads in omega (arith, reads)
+
+pub returns-in_err-gather-clause-within : goal.returns-in_err-gather-clause-within
+returns-in_err-gather-clause-within g c tells whole most folding = let reads = folding.reads in omega (arith, reads, c.gather.ensures.log.reads)
+
+pub returns-in_err-pass_all-clause-within : goal.returns-in_err-pass_all-clause-within
+returns-in_err-pass_all-clause-within g c tells whole most folding =
+    reads_on (g.H.Host.world c.args.host.now) c.args.file.now c.args.sources.now whole most folding c.in-Some.next.0 (g.H.Host.world c.gather.new.host) (g.H.Host.world c.pass_all.new.host) c.gather.ensures.log.reads (c.pass_all.ensures.reads tells)
+
+pub returns-clause-within : goal.returns-clause-within
+returns-clause-within g c tells whole most folding =
+    reads_on (g.H.Host.world c.args.host.now) c.args.file.now c.args.sources.now whole most folding c.in-Some.next.0 (g.H.Host.world c.gather.new.host) (g.H.Host.world c.pass_all.new.host) c.gather.ensures.log.reads (c.pass_all.ensures.reads tells)

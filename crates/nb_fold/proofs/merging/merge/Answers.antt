@@ -55,3 +55,9 @@ returns-in_err-fold_page-clause-makes g c tells whole most folding =
     let loop = c.loop.invariant in
     makes_then _ (g.H.Host.world c.loop.host) _ _ IsUnfinished (g.met.H.Host.reads_left _ tells _) (loop.makes tells whole most folding)
     (subst (λ (n : List ℕ). Makes (g.H.Host.world c.loop.host) (g.H.Host.world c.fold_page.new.host) n IsUnfinished) (ap (λ (f : LevelWriting). f.name) loop.same) (c.fold_page.ensures.makes tells whole most (loop.folding tells whole most folding)))
+
+pub returns-in_err-fold_page-clause-within : goal.returns-in_err-fold_page-clause-within
+returns-in_err-fold_page-clause-within g c tells whole most folding = c.fold_page.ensures.within tells whole most (c.loop.invariant.folding tells whole most folding)
+
+pub returns-clause-within : goal.returns-clause-within
+returns-clause-within g c tells whole most folding = c.fold_page.ensures.within tells whole most (c.loop.invariant.folding tells whole most folding)

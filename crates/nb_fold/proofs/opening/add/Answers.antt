@@ -1,4 +1,4 @@
-use Rattle.std.proofs.Common.{◌<◌, List, sym, ap, subst, ◌∙◌, length}
+use Rattle.std.proofs.Common.{◌<◌, List, sym, ap, subst, ◌∙◌, length, arith}
 use Rattle.nb_fold.proofs.Common.{Files, head_of, LevelHead, AddSays, AreAlike, IsLast, first_size, Held, IsOpened, passed}
 use Rattle.nb_fold.proofs.AddLaws.{add_unread, add_unopened, add_apart, add_done, alike_more}
 use Rattle.nb_fold.proofs.opening.add.Goals as goal
@@ -41,3 +41,18 @@ returns-clause-alike g c alike =
     (alike_more c.args.sources.now.items c.in_ok-source.source alike
     (λ some all. ap (λ (h : LevelHead). h.page_size) (sym c.head.ensures.value)
     ∙ c.in_ok-goes_on_from.ensures.size (subst (λ (ss : List Held). 0 < length ss) (sym c.deref.ensures.value) some) (subst AreAlike (sym c.deref.ensures.value) all) ∙ ap first_size c.deref.ensures.value))
+
+pub returns-in_err-source-clause-within : goal.returns-in_err-source-clause-within
+returns-in_err-source-clause-within g c tells = let whole = c.whole.ensures.within tells in let start = c.start.ensures.reads tells in omega (arith, whole, start)
+
+pub returns-in_err-goes_on_from-clause-within : goal.returns-in_err-goes_on_from-clause-within
+returns-in_err-goes_on_from-clause-within g c tells = let whole = c.whole.ensures.within tells in let start = c.start.ensures.reads tells in omega (arith, whole, start)
+
+pub returns-in_err-push-clause-within : goal.returns-in_err-push-clause-within
+returns-in_err-push-clause-within g c tells = let whole = c.whole.ensures.within tells in let start = c.start.ensures.reads tells in omega (arith, whole, start)
+
+pub returns-clause-within : goal.returns-clause-within
+returns-clause-within g c tells = let whole = c.whole.ensures.within tells in let start = c.start.ensures.reads tells in omega (arith, whole, start)
+
+pub returns-in_err-whole-clause-within : goal.returns-in_err-whole-clause-within
+returns-in_err-whole-clause-within g c tells = let whole = c.whole.ensures.within tells in omega (arith, whole)

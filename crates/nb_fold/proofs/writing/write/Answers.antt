@@ -51,10 +51,22 @@ returns-clause-pages g c tells whole most ready =
     let done = c.in_ok-merge.ensures.folds tells whole most folding in
     ap (λ (f : LevelWriting). f.written) c.close.ensures.same ∙ done.has.counted
 
-pub returns-clause-reads : goal.returns-clause-reads
-returns-clause-reads g c tells whole most ready =
+pub returns-in_err-begin-clause-within : goal.returns-in_err-begin-clause-within
+returns-in_err-begin-clause-within g c tells whole most ready = let reads = ready.reads in omega (arith, reads, c.begin.ensures.reads)
+
+pub returns-in_err-merge-clause-within : goal.returns-in_err-merge-clause-within
+returns-in_err-merge-clause-within g c tells whole most ready =
     let first = c.begin.ensures.makes tells ready.may.formed in
-    let folding = folding_made _ _ _ _ c.requires.name _ _ _ ready first (c.in_ok-begin.ensures.begun tells c.requires.empty c.requires.fresh) c.begin.ensures.reads in
-    let done = c.in_ok-merge.ensures.folds tells whole most folding in
-    let same = c.close.ensures.log.reads in
-    omega (arith, done.reads, same)
+    c.merge.ensures.within tells whole most (folding_made _ _ _ _ c.requires.name _ _ _ ready first (c.in_ok-begin.ensures.begun tells c.requires.empty c.requires.fresh) c.begin.ensures.reads)
+
+pub returns-in_err-close-clause-within : goal.returns-in_err-close-clause-within
+returns-in_err-close-clause-within g c tells whole most ready =
+    let first = c.begin.ensures.makes tells ready.may.formed in
+    let merged = c.merge.ensures.within tells whole most (folding_made _ _ _ _ c.requires.name _ _ _ ready first (c.in_ok-begin.ensures.begun tells c.requires.empty c.requires.fresh) c.begin.ensures.reads) in
+    omega (arith, merged, c.close.ensures.log.reads)
+
+pub returns-clause-within : goal.returns-clause-within
+returns-clause-within g c tells whole most ready =
+    let first = c.begin.ensures.makes tells ready.may.formed in
+    let merged = c.merge.ensures.within tells whole most (folding_made _ _ _ _ c.requires.name _ _ _ ready first (c.in_ok-begin.ensures.begun tells c.requires.empty c.requires.fresh) c.begin.ensures.reads) in
+    omega (arith, merged, c.close.ensures.log.reads)
