@@ -1,6 +1,15 @@
 -- What the calls of the engine make of a turn.
 use Rattle.std.proofs.Common.{◌≡◌, ◌≢◌, ◌⊎◌, inl, inr, ℕ, List, [], ◌∷◌, ◌++◌, length, drop, replicate, refl, sym, ap, subst, ◌∙◌, arith, Result, Ok, Err, IsErr, IsErrAnd, IfErr, Option, Some, None, Contains, true, false}
 use Rattle.nb_session.proofs.Common.{slice_index_or, true≢false, append-nil, append_cancel_left, World, IsTimely, Fault, Refused, Device, Memory, Quiet, Changes, Reached, reached_first, GaveNothing, weaker, weakened, Reply, Done, CacheShown, Statement, BeginBackup, Sync, ShowCache, Foretells, WasGiven, MadeFile, Turn, Begins, Seen, Given, Outcome, next_guid, next_hold, without_hold, says, begin_turn, cache_turn, Now, Event, base_now, outcome, event_of, is_sync, files_made, Step, steps_in, after_steps, made, settles, Stroke, Trail, StandsIn, settled, after_stroke, first_turn, IsOnce, left_by, pages_once, steps_plain, after_settling, OfFiles, Strikes, after_strokes, Held, IsOpen, but_pages, name_of, WhereEnded, Answers, Does, GaveAtMost, where_ended, none_yet, scn_is, SaysNone, DoesBegin, Says, Grows, shown_by, Touched, TurnLeft, AreKept, Acts, MayAct, IsReady, has_only_told, Replies, some_said, only_told, quiet_begun, AreWhole, Files}
+use Rattle.nb_session.proofs.FilesLaws.{files_as, files_makes, files_nothing, grows_sized, untouched_quiet, files_quiet}
+use Rattle.nb_session.specs.Files.{TurnLeaves, is_end, is_finish}
+use Rattle.nb_session.specs.Replies.{HasEnded}
+use Rattle.nb_base.specs.Takes.{StrikesIn}
+use Rattle.nb_base.specs.Stays.{GrowsWithin}
+use Rattle.nb_fields.specs.States.{stalled_state}
+use Rattle.nb_model.specs.Image.{image_state}
+use Rattle.nb_model.specs.Account.{Base}
+use Rattle.nb_model.proofs.TurnCases.{begin_either}
 use Rattle.nb_base.proofs.TouchLaws.{strikes_in}
 use Rattle.nb_model.specs.Well.{is_on_pages}
 use Rattle.nb_session.proofs.EventLaws.{strokes_are_steps, told_reply}
@@ -68,9 +77,9 @@ left_lacks old new name t ss files whole none left = record {
 -- The answer of one call, said of another.
 module _ {T S : Type 0} (reply : T → Option Reply) (other : S → Option Reply) (old new : World) (a b : Held) (t : Trail) (now : Now) (session : ℕ) (turn : Turn) (files : List MadeFile) where
   by_fault : (fault : Fault) → Acts reply (Err fault) old new a b t now session turn files → Acts other (Err fault) old new a b t now session turn files
-  by_fault (Refused refusal) acts = record { says = acts.says; left = acts.left; opened = acts.opened; running = acts.running; given = acts.given; kept = acts.kept; unchanged = acts.unchanged; short = acts.short; name = acts.name; cap = acts.cap }
-  by_fault Device acts = record { says = acts.says; left = acts.left; opened = acts.opened; running = acts.running; given = acts.given; kept = acts.kept; unchanged = acts.unchanged; short = acts.short; name = acts.name; cap = acts.cap }
-  by_fault Memory acts = record { says = acts.says; left = acts.left; opened = acts.opened; running = acts.running; given = acts.given; kept = acts.kept; unchanged = acts.unchanged; short = acts.short; name = acts.name; cap = acts.cap }
+  by_fault (Refused refusal) acts = record { says = acts.says; left = acts.left; opened = acts.opened; running = acts.running; given = acts.given; kept = acts.kept; unchanged = acts.unchanged; short = acts.short; files = acts.files; name = acts.name; cap = acts.cap }
+  by_fault Device acts = record { says = acts.says; left = acts.left; opened = acts.opened; running = acts.running; given = acts.given; kept = acts.kept; unchanged = acts.unchanged; short = acts.short; files = acts.files; name = acts.name; cap = acts.cap }
+  by_fault Memory acts = record { says = acts.says; left = acts.left; opened = acts.opened; running = acts.running; given = acts.given; kept = acts.kept; unchanged = acts.unchanged; short = acts.short; files = acts.files; name = acts.name; cap = acts.cap }
 
   -- it is passed on at the exit of a `?`
   pub may_passed : (fault : Fault) (result : Result S Fault) → IsErr result × IsErrAnd result (λ e. e ≡ fault) → MayAct reply (Err fault) old new a b t now session turn files → MayAct other result old new a b t now session turn files
@@ -84,14 +93,14 @@ module _ {T S : Type 0} (reply : T → Option Reply) (other : S → Option Reply
   may_then_memory value fault (Err e) none memory is may =
       subst (λ (f : Fault). MayAct other (Err f) old new a b t now session turn files) (sym (is.1 ∙ memory)) (record {
         grows = may.grows;
-        acts = λ told. let acts = may.acts told in record { says = tt; left = acts.left; opened = tt; running = tt; given = tt; kept = tt; unchanged = acts.unchanged; short = left_lacks old new (name_of a) t _ files _ none acts.left; name = acts.name; cap = acts.cap };
+        acts = λ told. let acts = may.acts told in record { says = tt; left = acts.left; opened = tt; running = tt; given = tt; kept = tt; unchanged = acts.unchanged; short = left_lacks old new (name_of a) t _ files _ none acts.left; files = files_as (is_end turn) _ _ old new (name_of a) t _ (λ (m : ⊥ × (is_finish turn ≡ true)). absurd m.0) acts.files; name = acts.name; cap = acts.cap };
       })
 
   -- the same value, said otherwise
   pub may_value : (value : T) (said : S) → reply value ≡ other said → MayAct reply (Ok value) old new a b t now session turn files → MayAct other (Ok said) old new a b t now session turn files
   may_value value said same may = record {
     grows = may.grows;
-    acts = λ told. let acts = may.acts told in record { says = acts.says ∙ same; left = acts.left; opened = acts.opened; running = acts.running; given = acts.given; kept = acts.kept; unchanged = acts.unchanged; short = tt; name = acts.name; cap = acts.cap };
+    acts = λ told. let acts = may.acts told in record { says = acts.says ∙ same; left = acts.left; opened = acts.opened; running = acts.running; given = acts.given; kept = acts.kept; unchanged = acts.unchanged; short = tt; files = acts.files; name = acts.name; cap = acts.cap };
   }
 
 -- the trail after a turn that waits for nothing
@@ -118,6 +127,7 @@ nothing_acts reply w held t now session turn timely ready =
         kept = tt;
         unchanged = λ told. refl;
         short = record { few = []; rest = (outcome session turn now).strokes; whole = refl; short = λ none. none; left = weaker w w _ _ still.moments (λ files said left. left.has) };
+        files = files_nothing turn w (name_of held) t _ (quiet_begun w timely);
         name = refl;
         cap = refl;
       };
@@ -145,6 +155,7 @@ does_acts reply result old new a b t now session statement it is plain on none o
         kept = where_ended result _ (kept_none new event (ap (λ (x : Outcome). x.made) first ∙ once.made));
         unchanged = idle_unchanged old new o.reply event (ap (λ (x : Outcome). x.reply) same) does.idle;
         short = subst (λ (x : Outcome). WhereMemory result (LacksLast old new (name_of a) t x.strokes)) same short;
+        files = subst (λ (x : Outcome). TurnLeaves (HasEnded result) old new (name_of a) t (Begins statement) x.strokes) same (files_makes (HasEnded result) old new a t (Begins statement) o.strokes refl ready.opened does.makes.left does.makes.long);
         name = does.makes.goes.name;
         cap = does.makes.goes.cap;
       };
@@ -186,14 +197,17 @@ replied_err reply fault (Ok said) is = absurd is.1
 replied_err reply fault (Err e) is = is.1
 
 -- `sync`
-module _ (old new : World) (a b : Held) (t : Trail) (now : Now) (session : ℕ) (statement : Statement) (is : statement ≡ Sync) (ready : IsReady old a t now) (same : but_pages b ≡ but_pages a) (struck : Strikes old new (name_of a) t [])
-    (gave : GaveNothing old new) where
+module _ (old new : World) (a b : Held) (t : Trail) (now : Now) (session : ℕ) (statement : Statement) (is : statement ≡ Sync) (ready : IsReady old a t now) (same : but_pages b ≡ but_pages a) (struck : StrikesIn old new a.files.state (name_of a) t [])
+    (grown : GrowsWithin old new (name_of a) a.files.page_size t []) (gave : GaveNothing old new) where
   sync_turn : outcome session (Begins statement) now ≡ says (seen_now now) Done []
   unfolding first_turn
   sync_turn = outcome_is session statement now ∙ ap (first_turn (seen_now now) session) is
 
   sync_left : Changes old new (Touched (name_of a) []) (TurnLeft old (name_of a) t (outcome session (Begins statement) now).strokes [] (files_made (event_of session (Begins statement) (outcome session (Begins statement) now) ∷ [])))
-  sync_left = strikes_left old new (name_of a) t _ (event_of session (Begins statement) (outcome session (Begins statement) now)) (ap (λ (x : Outcome). x.made) sync_turn) (subst (λ (x : Outcome). Strikes old new (name_of a) t x.strokes) (sym sync_turn) struck)
+  sync_left = strikes_left old new (name_of a) t _ (event_of session (Begins statement) (outcome session (Begins statement) now)) (ap (λ (x : Outcome). x.made) sync_turn) (subst (λ (x : Outcome). Strikes old new (name_of a) t x.strokes) (sym sync_turn) (strikes_in old new a.files.state (name_of a) t [] struck))
+
+  sync_files : (ended : Type 0) → TurnLeaves ended old new (name_of a) t (Begins statement) (outcome session (Begins statement) now).strokes
+  sync_files ended = subst (λ (x : Outcome). TurnLeaves ended old new (name_of a) t (Begins statement) x.strokes) (sym sync_turn) (files_makes ended old new a t (Begins statement) [] refl ready.opened struck grown)
 
   sync_steps : (o : Outcome) → o.strokes ≡ [] → settled t.base ≡ after_steps t (steps_in (event_of session (Begins statement) o))
   unfolding made
@@ -218,6 +232,7 @@ module _ (old new : World) (a b : Held) (t : Trail) (now : Now) (session : ℕ) 
       kept = kept_none new (event_of session (Begins statement) (outcome session (Begins statement) now)) (ap (λ (x : Outcome). x.made) sync_turn);
       unchanged = sync_told;
       short = tt;
+      files = sync_files _;
       name = ap (λ (h : Held). name_of h) same;
       cap = ap (λ (h : Held). h.cap) same;
     };
@@ -226,7 +241,7 @@ module _ (old new : World) (a b : Held) (t : Trail) (now : Now) (session : ℕ) 
   pub sync_failed : {T : Type 0} (reply : T → Option Reply) → MayAct reply (Err Device) old new a b t now session (Begins statement) []
   sync_failed reply = record {
     grows = grows_none old new gave;
-    acts = λ told. record { says = tt; left = sync_left; opened = tt; running = tt; given = tt; kept = tt; unchanged = sync_told; short = tt; name = ap (λ (h : Held). name_of h) same; cap = ap (λ (h : Held). h.cap) same };
+    acts = λ told. record { says = tt; left = sync_left; opened = tt; running = tt; given = tt; kept = tt; unchanged = sync_told; short = tt; files = sync_files _; name = ap (λ (h : Held). name_of h) same; cap = ap (λ (h : Held). h.cap) same };
   }
 
 -- A value that was given, where the first of these were, is the next one of them.
@@ -243,6 +258,18 @@ module _ {A : Type 0} (none : A) (old new given first later : List A) (is : new 
 pub grows_at_most : (old new : World) (guid : List ℕ) → length guid ≡ 16 → GaveAtMost old new guid → new.times ≡ old.times → Grows old new
 grows_at_most old new guid sixteen (inl none) times = grows_none old new (record { guids = none; times = times })
 grows_at_most old new guid sixteen (inr gave) times = record { ids = guid ∷ []; clock = []; gave = record { guids = gave; times = times ∙ sym (append-nil old.times) }; sixteen = (sixteen, tt) }
+
+-- In the stalled state no backup begins.
+begin_files : (ended : Type 0) (old new : World) (a : Held) (t : Trail) (statement : Statement) (s : Seen) → IsOpen old a t → t.base ≡ s.base → (has_only_told (begin_turn s).reply ≡ true → Quiet old new)
+    → GrowsWithin old new (name_of a) a.files.page_size t (begin_turn s).strokes → TurnLeaves ended old new (name_of a) t (Begins statement) (begin_turn s).strokes
+begin_files ended old new a t statement s is same idle grows = record {
+  frozen = λ stalled plain. untouched_quiet old new (name_of a) (idle (refused (sym (ap (λ (b : Base). image_state b.image) same) ∙ stalled)));
+  gone = λ merged. absurd (true≢false (sym merged.1));
+  long = grows_sized old new a t (begin_turn s).strokes is grows;
+}
+  where
+    refused : image_state s.base.image ≡ stalled_state → has_only_told (begin_turn s).reply ≡ true
+    refused = begin_either (λ o. image_state s.base.image ≡ stalled_state → has_only_told o.reply ≡ true) s (λ r stalled. refl) (λ may stalled. absurd (omega (arith, may.normal, stalled)))
 
 -- `alter database begin backup`
 module _ (result : Result ℕ Fault) (old new : World) (a b : Held) (t : Trail) (now : Now) (session : ℕ) (statement : Statement) (is : statement ≡ BeginBackup) (ready : IsReady old a t now) (cap : b.cap ≡ a.cap) (guid : List ℕ) (sixteen : length guid ≡ 16) (asked : GaveAtMost old new guid) (sure : IfErr result (λ fault. fault ≢ Memory))
@@ -287,6 +314,7 @@ module _ (result : Result ℕ Fault) (old new : World) (a b : Held) (t : Trail) 
           kept = where_ended result _ (kept_none new (event_of session (Begins statement) this) (sym (ap (λ (x : Outcome). x.made) same) ∙ begin_made (seen_now now)));
           unchanged = idle_unchanged old new (begin_turn (seen_now now)).reply (event_of session (Begins statement) this) (ap (λ (x : Outcome). x.reply) same) does.idle;
           short = not_wanted result _ sure;
+          files = subst (λ (x : Outcome). TurnLeaves (HasEnded result) old new (name_of a) t (Begins statement) x.strokes) same (begin_files (HasEnded result) old new a t statement (seen_now now) ready.opened ready.base does.idle does.long);
           name = does.name;
           cap = cap;
         };
@@ -330,6 +358,7 @@ module _ (w : World) (held : Held) (t : Trail) (now : Now) (session : ℕ) (stat
       kept = kept_none w (event_of session (Begins statement) (outcome session (Begins statement) now)) (ap (λ (x : Outcome). x.made) shows);
       unchanged = λ told. refl;
       short = tt;
+      files = files_quiet _ w w (name_of held) t (Begins statement) _ refl (quiet_begun w timely);
       name = refl;
       cap = refl;
     };

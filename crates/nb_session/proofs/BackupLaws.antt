@@ -1,6 +1,15 @@
 -- The turns of a backup.
 use Rattle.std.proofs.Common.{◌≡◌, ◌⊎◌, inl, inr, ⊎_elim, ℕ, zero, suc, ◌-◌, ◌<◌, List, [], ◌∷◌, ◌++◌, length, replicate, refl, sym, ap, subst, ◌∙◌, arith, Bool, Result, Ok, Err, IsErr, IfErr, Some, None, true, false, Contains}
-use Rattle.nb_session.proofs.Common.{slice_index_or, append-nil, is_free_file, stalled_state, Files, is_delta, World, Leaves, Fault, Refused, Device, Memory, RunError, Refusal, Changes, Remade, weakened, reached_first, Reply, Level, Statement, BackupSince, Base, Room, room_in, close_backup, is_free_entry, Foretells, WasGiven, HasItsEntry, IsAt, IsGoing, IsMaking, Image, image_scn, file_of, count_in, MadeFile, kept_of, making, delta_name, Turn, Begins, Copies, ClosesBackup, Ends, Backing, Given, Seen, Outcome, DoesNothing, next_guid, next_time, without_guid, without_time, Now, Event, base_now, outcome, is_sync, event_of, Stroke, base_after, Trail, StandsIn, after_stroke, first_turn, turn, no_main, started, OfFiles, after_strokes, IsNoRefusal, Held, IsOpen, name_of, Goes, WhereEnded, GaveAtMost, Progress, More, Finished, after_base, where_ended, gave_none, file_count, file_next, file_written, whole_file, IsEmpty, IsUnfinishedOr, Backed, IsBackingUp, IsStarted, OfStart, StartLeft, StartMakes, StartsBackup, KnowsFree, Left, Same, Other, Taken, Backup, End, Told, Says, Grows, shown_by, Touched, TurnLeft, Acts, MayAct, FitsAsked, IsBackup, file_asked, copy_first, copy_rest, left_refused, left_task, task_first, task_rest, IsReady, IsApart, TaskGoes, EndsEarly, begun_in, left_making, touching, IsBehind, Turns, has_only_told, only_told, one_held, blank_free, blank_empty, some_none, files_made, AreWhole}
+use Rattle.nb_session.proofs.Common.{slice_index_or, append-nil, is_free_file, stalled_state, Files, is_delta, World, Leaves, Fault, Refused, Device, Memory, RunError, Refusal, Changes, Remade, weakened, reached_first, Reply, Level, Statement, BackupSince, Base, Room, room_in, close_backup, is_free_entry, Foretells, WasGiven, HasItsEntry, IsAt, IsGoing, IsMaking, Image, image_scn, file_of, count_in, MadeFile, kept_of, making, delta_name, Turn, Begins, Copies, ClosesBackup, Ends, Backing, Given, Seen, Outcome, DoesNothing, next_guid, next_time, without_guid, without_time, Now, Event, base_now, outcome, is_sync, event_of, Stroke, base_after, Trail, StandsIn, after_stroke, first_turn, turn, no_main, started, OfFiles, after_strokes, IsNoRefusal, Held, IsOpen, name_of, Goes, WhereEnded, GaveAtMost, Progress, More, Finished, after_base, where_ended, gave_none, file_count, file_next, file_written, whole_file, IsEmpty, IsUnfinishedOr, Backed, IsBackingUp, IsStarted, OfStart, StartLeft, StartMakes, StartsBackup, KnowsFree, Left, Same, Other, Taken, Backup, End, Told, Says, Grows, shown_by, Touched, TurnLeft, Acts, MayAct, FitsAsked, IsBackup, file_asked, copy_first, copy_rest, left_refused, left_task, task_first, task_rest, IsReady, IsApart, TaskGoes, EndsEarly, begun_in, left_making, touching, IsBehind, Turns, has_only_told, only_told, one_held, blank_free, blank_empty, some_none, files_made, AreWhole, true≢false}
+use Rattle.nb_model.proofs.TurnCases.{backup_either, since_either}
+use Rattle.nb_session.proofs.FilesLaws.{files_other, grows_sized, untouched_quiet}
+use Rattle.nb_session.specs.Files.{TurnLeaves}
+use Rattle.nb_session.specs.Replies.{HasEnded}
+use Rattle.nb_session.proofs.ReadyLaws.{apart_files}
+use Rattle.nb_change.specs.Changes.{Only}
+use Rattle.nb_fields.specs.States.{stalled_state}
+use Rattle.nb_model.specs.Image.{image_state}
+use Rattle.nb_base.proofs.StaysLaws.{delta-other}
 use Rattle.nb_model.specs.declared.reply.Reply.TheVariants.{Refused as RefusedBy}
 use Rattle.nb_model.specs.declared.statement.Statement.TheVariants.{Backup as BackupTo}
 use Rattle.nb_copy.specs.Closing.{OfBackup, GaveTimeAtMost, CloseLeft, CopiesOn, CloseDone, BackupTurn, BackupCounts}
@@ -101,6 +110,13 @@ no_delta held name plain same = no_main (name_of held) name plain (sym same)
 pub knows_free : {sound : Bool} (w : World) (held : Held) (t : Trail) (now : Now) (name : List ℕ) → IsReady w held t now → IsGoing sound now → is_delta name ≡ false → KnowsFree 0 w.files (seen_now now) name
 knows_free w held t now name ready going plain normal = ready.known name plain (none_runs now going (λ place number some runs. omega (arith, some, sym normal ∙ runs.state)) name)
 
+-- in the stalled state no backup begins: it is refused
+starts_normal : (s : Seen) (session : ℕ) (x : Statement) → IsBackup x → image_state s.base.image ≡ stalled_state → has_only_told (first_turn s session x).reply ≡ true
+unfolding first_turn
+starts_normal s session (BackupTo level name) asks stalled = backup_either (λ o. has_only_told o.reply ≡ true) s session level name (λ r. refl) (λ ask is may. absurd (omega (arith, may.may.normal, stalled)))
+starts_normal s session (BackupSince guid name) asks stalled = since_either (λ o. has_only_told o.reply ≡ true) s session guid name (λ r. refl) (λ ask is may. absurd (omega (arith, may.may.normal, stalled)))
+starts_normal s session other asks stalled = absurd asks
+
 -- The start of a backup, by its turn.
 module _ (old new : World) (a b : Held) (t : Trail) (now : Now) (session : ℕ) (x : Statement) (asks : IsBackup x) (ready : IsReady old a t now) where
   abbrev begins : Outcome
@@ -193,6 +209,14 @@ module _ (old new : World) (a b : Held) (t : Trail) (now : Now) (session : ℕ) 
     start_given (Err Device) does told = tt
     start_given (Err Memory) does told = tt
 
+    -- in the stalled state none begins
+    start_files : StartsBackup result old new a b t (file_asked x) (next_guid now.given) begins → TurnLeaves (HasEnded result) old new db t (Begins x) begins.strokes
+    start_files does = record {
+      frozen = λ stalled plain. untouched_quiet old new db (does.idle (starts_normal (seen_now now) session x asks (sym (ap (λ (b : Base). image_state b.image) ready.base) ∙ stalled)));
+      gone = λ merged. absurd (true≢false (sym merged.1));
+      long = grows_sized old new a t begins.strokes ready.opened does.long;
+    }
+
     pub start_acts : length guid ≡ 16 → b.cap ≡ a.cap → MayAct (λ copier. None) result old new a b t now session (Begins x) begun
     start_acts sixteen cap = record {
       grows = grows_at_most old new guid sixteen given_one times_are;
@@ -207,6 +231,7 @@ module _ (old new : World) (a b : Held) (t : Trail) (now : Now) (session : ℕ) 
             kept = where_ended result _ (kept_none new event (sym (ap (λ (o : Outcome). o.made) same) ∙ start_made (seen_now now) session x asks));
             unchanged = idle_unchanged old new begins.reply event (ap (λ (o : Outcome). o.reply) same) does.idle;
             short = subst (λ (o : Outcome). WhereMemory result (LacksLast old new db t o.strokes)) same (wanted_map result (early_lacks old new a b t begins.strokes) does.stops);
+            files = subst (λ (o : Outcome). TurnLeaves (HasEnded result) old new db t (Begins x) o.strokes) same (start_files does);
             name = does.name;
             cap = cap;
           };
@@ -332,17 +357,26 @@ module _ (old new : World) (a b : Held) (t : Trail) (now : Now) (session : ℕ) 
     copy_told zero told = unsaid (event_of session last (outcome session last now)) (ap (λ (x : Outcome). x.reply) (close_is session copier.backing now) ∙ close_reply (seen_now now) copier.backing) told
     copy_told (suc left) told = unsaid (event_of session Copies (outcome session Copies now)) (ap (λ (x : Outcome). x.reply) (page_is session now)) told
 
+    -- a page goes into its file alone, and a close changes the difference file too: the main file is frozen
+    off_file : OfBackup name (name_of a) (name_of a) → ⊥
+    off_file (inl same) = apart_files a name apart (inl (sym same))
+    off_file (inr own) = delta-other (name_of a) own
+
+    turn_files : {ended : Type 0} (result : Result Progress Fault) (left : ℕ) → left ≡ rest → Does result → TurnLeaves ended old new (name_of a) t (copy_first left last) (outcome session (copy_first left last) now).strokes
+    turn_files {ended} result zero none does = files_other ended old new (OfBackup name (name_of a)) _ (name_of a) t last _ refl does.left off_file
+    turn_files {ended} result (suc left) some does = files_other ended old new (Only name) _ (name_of a) t Copies _ refl (does.alone (omega (arith, some))) (λ same. apart_files a name apart (inl (sym same)))
+
     -- it fails
-    failed : (fault : Fault) → IsNoRefusal fault → (left : ℕ) → WhereMemory {T = Progress} (Err fault) (LacksLast old new (name_of a) t (outcome session (copy_first left last) now).strokes) → Leaving (copy_first left last)
+    failed : (fault : Fault) → IsNoRefusal fault → (left : ℕ) → TurnLeaves (HasEnded {T = Progress} (Err fault)) old new (name_of a) t (copy_first left last) (outcome session (copy_first left last) now).strokes → WhereMemory {T = Progress} (Err fault) (LacksLast old new (name_of a) t (outcome session (copy_first left last) now).strokes) → Leaving (copy_first left last)
         → Acts {T = Progress} (λ progress. None) (Err fault) old new a b t now session (copy_first left last) files
-    failed (Refused refusal) none left short struck = absurd none
-    failed Device none left short struck = record { says = tt; left = struck; opened = tt; running = tt; given = tt; kept = tt; unchanged = λ told. absurd (copy_told left told); short = short; name = goes.name; cap = goes.cap }
-    failed Memory none left short struck = record { says = tt; left = struck; opened = tt; running = tt; given = tt; kept = tt; unchanged = λ told. absurd (copy_told left told); short = short; name = goes.name; cap = goes.cap }
+    failed (Refused refusal) none left leaves short struck = absurd none
+    failed Device none left leaves short struck = record { says = tt; left = struck; opened = tt; running = tt; given = tt; kept = tt; unchanged = λ told. absurd (copy_told left told); short = short; files = leaves; name = goes.name; cap = goes.cap }
+    failed Memory none left leaves short struck = record { says = tt; left = struck; opened = tt; running = tt; given = tt; kept = tt; unchanged = λ told. absurd (copy_told left told); short = short; files = leaves; name = goes.name; cap = goes.cap }
 
     -- a page is copied
-    copied : CopiesOn old new a b copier later t → Leaving Copies
+    copied : CopiesOn old new a b copier later t → TurnLeaves (Unit {0}) old new (name_of a) t Copies (outcome session Copies now).strokes → Leaving Copies
         → Acts (λ (progress : Progress). None) (Ok More) old new a b t now session Copies files
-    copied does left =
+    copied does leaves left =
         let o = page_is session now in
         record {
           says = ap (λ (x : Outcome). x.reply) o;
@@ -353,14 +387,15 @@ module _ (old new : World) (a b : Held) (t : Trail) (now : Now) (session : ℕ) 
           kept = kept_none new (event_of session Copies (outcome session Copies now)) (ap (λ (x : Outcome). x.made) o);
           unchanged = λ told. absurd (copy_told 1 told);
           short = tt;
+          files = leaves;
           name = goes.name;
           cap = goes.cap;
         }
 
     -- the file is whole, and the row is written
     closed : Foretells now.given [] old new → CloseDone old new a b copier later t (next_time now.given) (close_backup (seen_now now) copier.backing).strokes → new.guids ≡ old.guids
-        → Leaving last → Acts (λ (progress : Progress). None) (Ok Finished) old new a b t now session last files
-    closed told does guids left =
+        → TurnLeaves (Unit {0}) old new (name_of a) t last (outcome session last now).strokes → Leaving last → Acts (λ (progress : Progress). None) (Ok Finished) old new a b t now session last files
+    closed told does guids leaves left =
         let o = close_is session copier.backing now in
         record {
           says = ap (λ (x : Outcome). x.reply) o ∙ close_reply (seen_now now) copier.backing;
@@ -378,16 +413,17 @@ module _ (old new : World) (a b : Held) (t : Trail) (now : Now) (session : ℕ) 
           kept = made_by new (event_of session last (outcome session last now)) (name, whole) last_made (kept_one new name whole does.kept);
           unchanged = λ told. absurd (copy_told zero told);
           short = tt;
+          files = leaves;
           name = goes.name;
           cap = goes.cap;
         }
 
     acts_by : (result : Result Progress Fault) (left : ℕ) → left ≡ rest → Foretells now.given (shown_by (copy_first left last) a) old new → BackupCounts result copier later → Does result → Acts (λ progress. None) result old new a b t now session (copy_first left last) files
     acts_by (Ok More) zero none told counts does = absurd (omega (arith, none, counts.0))
-    acts_by (Ok More) (suc left) some told counts does = copied does.answer (turn_left (Ok More) (suc left) some does)
-    acts_by (Ok Finished) zero none told counts does = closed told does.answer does.guids (turn_left (Ok Finished) zero none does)
+    acts_by (Ok More) (suc left) some told counts does = copied does.answer (turn_files (Ok More) (suc left) some does) (turn_left (Ok More) (suc left) some does)
+    acts_by (Ok Finished) zero none told counts does = closed told does.answer does.guids (turn_files (Ok Finished) zero none does) (turn_left (Ok Finished) zero none does)
     acts_by (Ok Finished) (suc left) some told counts does = absurd (omega (arith, some, counts.0))
-    acts_by (Err fault) left is told counts does = failed fault does.sure left (turn_short (Err fault) left is does) (turn_left (Err fault) left is does)
+    acts_by (Err fault) left is told counts does = failed fault does.sure left (turn_files (Err fault) left is does) (turn_short (Err fault) left is does) (turn_left (Err fault) left is does)
 
     -- where one time was given, or none
     module _ (result : Result Progress Fault) (turns : (given : Given) → GaveTimeAtMost old new (next_time given) → BackupTurn result old new a b copier later t (next_time given) (close_backup (seen_with now given) copier.backing).strokes)

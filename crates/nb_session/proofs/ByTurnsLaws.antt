@@ -1,6 +1,7 @@
 -- What turns taken one by one leave of the files.
 use Rattle.std.proofs.Common.{◌≡◌, ◌⊎◌, inl, inr, ℕ, zero, suc, ◌-◌, true, List, [], ◌∷◌, ◌++◌, length, take, refl, sym, ap, subst, ◌∙◌, Bool, false, Result, Ok, Err, IsErr}
 use Rattle.nb_session.proofs.Common.{World, LeavesAll, IsTimely, RunError, weaker, MadeFile, Now, Played, one_turn, play, steps_of, after_steps, Trail, OfFiles, Held, name_of, Told, Touched, InTurn, EndsBy, LeavesOthers, touching_by, Plays, PlaysInTurn, told_events, told_turns, IsSaid, output_no_event, append-nil, StopLeft}
+use Rattle.nb_session.specs.Files.{LeavesFiles}
 use Rattle.nb_model.specs.Outcomes.{Turn}
 use Rattle.nb_model.specs.Run.{event_of, outcome, take_turn}
 use Rattle.nb_session.specs.ByTurns.{ByTurns, EndsInLast, OfLast, SaidInLast, GoesByTurns, ending_of}
@@ -40,11 +41,11 @@ said_none old said is =
     take_none (suc n) = refl
 
 -- A turn that only tells something leaves all files as they read.
-next_still : (ran_out : Type 0) (old new : World) (name : List ℕ) (t : Trail) (now : Now) (session : ℕ) → EndsNext ran_out old new name t now session → list_all only_told (one_turn session now).0 ≡ true → new.files ≡ old.files
+next_still : (ran_out ended : Type 0) (old new : World) (name : List ℕ) (t : Trail) (now : Now) (session : ℕ) → EndsNext ran_out ended old new name t now session → list_all only_told (one_turn session now).0 ≡ true → new.files ≡ old.files
 unfolding one_turn take_turn
-next_still ran_out old new name t now session ends = by (slice_index_or now.todo (session - 1) []) ends
+next_still ran_out ended old new name t now session ends = by (slice_index_or now.todo (session - 1) []) ends
   where
-    by : (turns : List Turn) → EndsFirst ran_out old new name t now session turns → list_all only_told (take_turn session turns now).0 ≡ true → new.files ≡ old.files
+    by : (turns : List Turn) → EndsFirst ran_out ended old new name t now session turns → list_all only_told (take_turn session turns now).0 ≡ true → new.files ≡ old.files
     by [] none told = absurd none
     by (turn ∷ rest) ends told = ends.unchanged (one_told (event_of session turn (outcome session turn now)) told)
 
@@ -62,7 +63,7 @@ module _ {H : Type 0} (world : H → World) (timely : (h : H) → IsTimely (worl
   named_then (x ∷ order) old new before after t now named (inr taken) =
       named_then order taken.0 new taken.1 after (after_steps t (steps_of (one_turn x now).0)) (one_turn x now).1 taken.2.plays.done.ready.named taken.3
 
-  turns_by : (order : List ℕ) (old new : H) (before after : Held) (t : Trail) (now : Now) → name_of before ≡ now.name → InTurn world how order old new before after t now → ByTurns world (told_events how) order old new now
+  turns_by : (order : List ℕ) (old new : H) (before after : Held) (t : Trail) (now : Now) → name_of before ≡ now.name → InTurn world how order old new before after t now → ByTurns world (told_events how) order old new t now
   turns_by [] old new before after t now named same = same.0
   turns_by (x ∷ order) old new before after t now named (inl idle) = inl (idle.0, turns_by order old new before after t now named idle.1)
   turns_by (x ∷ order) old new before after t now named (inr taken) = inr (
@@ -71,7 +72,8 @@ module _ {H : Type 0} (world : H → World) (timely : (h : H) → IsTimely (worl
       said = taken.2.plays.done.said;
       leaves = subst (λ (n : List ℕ). LeavesOthers (world old) (world taken.0) (Touched n (touching_by x now))) named
           (plays_leave (Ok taken.2.refused) (world old) (world taken.0) before taken.1 t now (told_turns how (one_turn x now)) (touching_by x now) (timely taken.0) (reads taken.0) taken.2.plays);
-      unchanged = next_still ⊥ (world old) (world taken.0) (name_of before) t now x taken.2.ends;
+      unchanged = next_still ⊥ (Unit {0}) (world old) (world taken.0) (name_of before) t now x taken.2.ends;
+      ends = subst (λ (n : List ℕ). EndsNext ⊥ (Unit {0}) (world old) (world taken.0) n t now x) named taken.2.ends;
     },
     turns_by order taken.0 new taken.1 after (after_steps t (steps_of (one_turn x now).0)) (one_turn x now).1 taken.2.plays.done.ready.named taken.3,
   )
@@ -87,18 +89,18 @@ module _ {H : Type 0} (world : H → World) (timely : (h : H) → IsTimely (worl
   -- the last thing that is done
   last_leaves : (result : Result Bool RunError) (rest : List ℕ) (old new : H) (before after : Held) (t : Trail) (now : Now) → name_of before ≡ now.name → EndsBy result how rest (world old) (world new) before after t now
       → LeavesOthers (world old) (world new) (OfLast rest now)
-  last_leaves (Ok refused) [] old new before after t now named plays = out_leaves (Ok false) old new before after t now named plays
+  last_leaves (Ok refused) [] old new before after t now named plays = out_leaves (Ok false) old new before after t now named plays.0
   last_leaves (Ok refused) (x ∷ rest) old new before after t now named plays = absurd plays
-  last_leaves (Err stop) [] old new before after t now named plays = out_leaves (Err stop) old new before after t now named plays
+  last_leaves (Err stop) [] old new before after t now named plays = out_leaves (Err stop) old new before after t now named plays.0
   last_leaves (Err stop) (x ∷ rest) old new before after t now named ends =
       subst (λ (n : List ℕ). LeavesOthers (world old) (world new) (Touched n (touching_by x now))) named
       (plays_leave (Err stop) (world old) (world new) before after t now (told_turns how (one_turn x now)) (touching_by x now) (timely new) (reads new) ends.0)
 
   last_said : (result : Result Bool RunError) (rest : List ℕ) (old new : H) (before after : Held) (t : Trail) (now : Now) → EndsBy result how rest (world old) (world new) before after t now
       → SaidInLast (told_events how) rest now (world old) (world new)
-  last_said (Ok refused) [] old new before after t now plays = said_none (world old) (world new).said (plays_say (Ok false) (world old) (world new) before after t now ([], now) [] (timely new) (reads new) plays)
+  last_said (Ok refused) [] old new before after t now plays = said_none (world old) (world new).said (plays_say (Ok false) (world old) (world new) before after t now ([], now) [] (timely new) (reads new) plays.0)
   last_said (Ok refused) (x ∷ rest) old new before after t now plays = absurd plays
-  last_said (Err stop) [] old new before after t now plays = said_none (world old) (world new).said (plays_say (Err stop) (world old) (world new) before after t now ([], now) [] (timely new) (reads new) plays)
+  last_said (Err stop) [] old new before after t now plays = said_none (world old) (world new).said (plays_say (Err stop) (world old) (world new) before after t now ([], now) [] (timely new) (reads new) plays.0)
   last_said (Err stop) (x ∷ rest) old new before after t now ends =
       plays_say (Err stop) (world old) (world new) before after t now (told_turns how (one_turn x now)) (touching_by x now) (timely new) (reads new) ends.0
 
@@ -109,10 +111,10 @@ module _ {H : Type 0} (world : H → World) (timely : (h : H) → IsTimely (worl
   last_early (Err stop) rest old new before after t now ends = inl refl
 
   last_ends : (result : Result Bool RunError) (rest : List ℕ) (old new : World) (before after : Held) (t : Trail) (now : Now) → name_of before ≡ now.name → EndsBy result how rest old new before after t now → EndsInLast (RanOut result) rest t now old new
-  last_ends (Ok refused) [] old new before after t now named plays = tt
+  last_ends (Ok refused) [] old new before after t now named plays = subst (λ (n : List ℕ). LeavesFiles false ⊥ old new n t []) named plays.1
   last_ends (Ok refused) (x ∷ rest) old new before after t now named plays = absurd plays
-  last_ends (Err stop) [] old new before after t now named plays = tt
-  last_ends (Err stop) (x ∷ rest) old new before after t now named ends = subst (λ (n : List ℕ). EndsNext (RanOut {T = Bool} (Err stop)) old new n t now x) named ends.1
+  last_ends (Err stop) [] old new before after t now named plays = subst (λ (n : List ℕ). LeavesFiles false ⊥ old new n t []) named plays.1
+  last_ends (Err stop) (x ∷ rest) old new before after t now named ends = subst (λ (n : List ℕ). EndsNext (RanOut {T = Bool} (Err stop)) ⊥ old new n t now x) named ends.1
 
   -- all turns
   pub goes_by : (result : Result Bool RunError) (old new : H) (before after : Held) (t : Trail) (now : Now) (schedule : List ℕ) → name_of before ≡ now.name → PlaysInTurn world result old new before after t how now schedule

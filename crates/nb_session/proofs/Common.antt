@@ -40,7 +40,7 @@ pub use Rattle.nb_model.proofs.StandsLaws.{delta_named, delta_same, entry_other,
 pub use Rattle.nb_model.proofs.StatusLaws.{status_or, status_plain}
 pub use Rattle.nb_model.proofs.StepsLaws.{acked_steps_behind, acked_steps_front, acked_steps_most, acked_steps_none, after_no_step, after_settling, after_steps_append, steps_append, steps_behind, steps_front, steps_length, steps_none, steps_one, steps_plain, steps_seen, strokes_front, strokes_within, turns_before, turns_behind, turns_front, turns_most}
 pub use Rattle.nb_model.proofs.TodoLaws.{IsSingle, begin_single, one_turn_idle}
-pub use Rattle.nb_model.proofs.TurnCases.{IsFrom, IsOnce, MayStart, backup_either, begin_either, copy_either, end_either, left_by, left_guids, pages_once, refused, since_either, started, statement_cases, turn_holds}
+pub use Rattle.nb_model.proofs.TurnCases.{IsFrom, IsOnce, MayStart, activate_either, backup_either, begin_either, copy_either, end_either, left_by, left_guids, pages_once, refused, since_either, started, statement_cases, turn_holds}
 pub use Rattle.nb_model.specs.Account.{Ask, Base, IsBase, Plain}
 unfoldable pub use Rattle.nb_model.specs.Backups.{close_backup, close_copy, copy_turn, room_in}
 pub use Rattle.nb_model.specs.Backups.{Room}
@@ -61,7 +61,7 @@ pub use Rattle.nb_model.specs.Outcomes.{Backing, Begins, ClosesBackup, ClosesCop
 unfoldable pub use Rattle.nb_model.specs.Output.{status_of}
 pub use Rattle.nb_model.specs.Output.{output, status_after}
 pub use Rattle.nb_model.specs.Owner.{delta_name}
-unfoldable pub use Rattle.nb_model.specs.Pages.{begin_turn, cache_turn, delta_count, end_scn, end_strokes, end_turn, ends_by, header_turn, write_turn}
+unfoldable pub use Rattle.nb_model.specs.Pages.{activate_turn, activated, begin_turn, cache_turn, delta_count, end_scn, end_strokes, end_turn, ends_by, header_turn, write_turn}
 unfoldable pub use Rattle.nb_model.specs.Run.{account_after, files_made, one_turn, outcome, play, replies_of, rounds, stands_then, strokes_of, take_turn, with_made}
 pub use Rattle.nb_model.specs.Run.{AreFinished, Event, Now, Played, all_sessions, base_now, begun, event_of, is_sync}
 unfoldable pub use Rattle.nb_model.specs.Steps.{acked_turns, after_step, after_steps, made, steps_of}
@@ -72,9 +72,9 @@ unfoldable pub use Rattle.nb_model.specs.Trail.{after_stroke}
 pub use Rattle.nb_model.specs.Trail.{StandsIn, Trail, settled}
 unfoldable pub use Rattle.nb_model.specs.Turns.{first_turn, turn}
 pub use Rattle.nb_model.specs.declared.reply.Reply.{Reply}
-pub use Rattle.nb_model.specs.declared.reply.Reply.TheVariants.{CacheShown, Done, Freed, HeaderShown, ImageShown, Leaked, Level, PageMade, Pages, PagesShown, Rows, Scn, Value}
+pub use Rattle.nb_model.specs.declared.reply.Reply.TheVariants.{Activated, CacheShown, Done, Freed, HeaderShown, ImageShown, Leaked, Level, PageMade, Pages, PagesShown, Rows, Scn, Value}
 pub use Rattle.nb_model.specs.declared.statement.Statement.{Statement}
-pub use Rattle.nb_model.specs.declared.statement.Statement.TheVariants.{BackupSince, BeginBackup, CopyTo, EndBackup, ShowCache, Sync}
+pub use Rattle.nb_model.specs.declared.statement.Statement.TheVariants.{Activate, BackupSince, BeginBackup, CopyTo, EndBackup, ShowCache, Sync}
 pub use Rattle.nb_page.proofs.BlankLaws.{blank_free}
 pub use Rattle.nb_page.proofs.QuietLaws.{quiet_begun}
 unfoldable pub use Rattle.nb_page.specs.Free.{has_delta, is_free_name}
@@ -84,13 +84,13 @@ pub use Rattle.nb_script.specs.Asked.{IsAskable, IsFurther}
 pub use Rattle.nb_script.specs.Fits.{FitsAsked, IsFile, IsSession}
 pub use Rattle.nb_script.specs.Scripts.{Plan}
 pub use Rattle.nb_session.specs.Acts.{Acts, AreKept, AreSixteen, AreWhole, Grows, MadeLeft, MayAct, Says, Touched, TurnLeft, shown_by}
-pub use Rattle.nb_session.specs.Askers.{Asker, HasTodo, IsBackup, IsFit, IsMerging, IsOneTurn, KeepsOthers, TaskFits, any_refused, copy_first, copy_rest, file_asked, first_askers, fresh_asker, left_of, left_refused, left_task, merge_first, merge_rest, task_first, task_left, task_rest, task_todo, todo_of}
+pub use Rattle.nb_session.specs.Askers.{Asker, HasTodo, IsBackup, IsEnd, IsFit, IsMerging, IsOneTurn, KeepsOthers, TaskFits, any_refused, copy_first, copy_rest, file_asked, first_askers, fresh_asker, left_of, left_refused, left_task, merge_first, merge_rest, task_first, task_left, task_rest, task_todo, todo_of}
 unfoldable pub use Rattle.nb_session.specs.HowFar.{begun_turns, open_turns}
 pub use Rattle.nb_session.specs.HowFar.{open_steps}
 pub use Rattle.nb_session.specs.InTurn.{EndsBy, HasNone, InTurn, RunsInTurn, TakesOne}
 pub use Rattle.nb_session.specs.Others.{IsAdded, LeavesOthers, OthersLeft}
 pub use Rattle.nb_session.specs.Ready.{IsApart, IsReady, TaskGoes}
-pub use Rattle.nb_session.specs.Replies.{HasEnded, Replies, header_of, is_refusal, only_told, some_said}
+pub use Rattle.nb_session.specs.Replies.{HasEnded, Replies, end_reply, header_of, is_refusal, only_told, some_said}
 pub use Rattle.nb_session.specs.Says.{EndsEarly, FrontSaid, SaysLine}
 pub use Rattle.nb_session.specs.Steps.{GoesFurther, IsBehind, Steps, TakesNext, Turns, as_played, begun_first, begun_in, left_making, shown_first, shown_next, touching, touching_by}
 pub use Rattle.nb_session.specs.Stops.{IsSaid, PlayedOut, Plays, StopLeft}

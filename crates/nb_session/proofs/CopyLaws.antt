@@ -1,6 +1,8 @@
 -- The turns of a copy of the frozen file.
 use Rattle.std.proofs.Common.{◌≡◌, inl, inr, ℕ, zero, suc, ◌-◌, ◌≤◌, List, [], ◌∷◌, ◌++◌, length, replicate, refl, sym, ap, subst, ◌∙◌, arith, true≢false, Bool, Result, Ok, Err, IsErr, IfOk, Option, Some, None, Contains, true, false}
 use Rattle.nb_session.proofs.Common.{slice_index_or, append-nil, stalled_state, Files, is_delta, World, Leaves, Fault, Refused, Device, HostFault, RunError, Refusal, Changes, Only, Remade, GaveNothing, weakened, reached_first, Reply, Pages, CopyTo, Base, copy_turn, close_copy, is_free_entry, Runs, IsAt, IsGoing, IsMaking, Image, image_state, joined, MadeFile, making, Turn, Begins, Copies, ClosesCopy, Seen, Outcome, passes, Now, Event, base_now, outcome, event_of, files_made, Stroke, base_after, steps_in, after_steps, Trail, StandsIn, after_stroke, first_turn, turn, copy_either, OfFiles, after_strokes, Held, IsOpen, name_of, Progress, More, Finished, where_ended, none_yet, gave_none, open_quiet, open_running, IsKept, IsUnfinishedOr, Copying, IsCopying, CopiesFile, IsCopyingTo, StartsCopy, IsCopyStarted, KnowsUnused, Left, Same, Copy, Told, Says, Touched, TurnLeft, AreKept, MayAct, copy_first, copy_rest, left_refused, left_task, task_first, task_rest, IsReady, IsApart, TaskGoes, SaysLine, touching, IsBehind, Turns, told_line, told_reply, has_only_told, only_told, one_held, none_some, some_none, AreWhole}
+use Rattle.nb_session.proofs.FilesLaws.{files_other, files_quiet}
+use Rattle.nb_session.specs.Files.{TurnLeaves}
 use Rattle.nb_model.specs.declared.reply.Reply.TheVariants.{Refused as RefusedBy}
 use Rattle.nb_copy.specs.Turns.{CopyCounts}
 use Rattle.nb_copy.proofs.ClosingLaws.{stands}
@@ -125,6 +127,7 @@ module _ (old new : World) (a b : Held) (t : Trail) (now : Now) (session : ℕ) 
           kept = where_ended result _ (kept_none new event (sym (ap (λ (o : Outcome). o.made) same) ∙ begin_made (seen_now now) session name));
           unchanged = λ told. starts.quiet.still.files;
           short = wanted_any result (lacks_none old new (name_of a) t this.strokes (sym (ap (λ (o : Outcome). o.strokes) same) ∙ begin_strokes (seen_now now) session name) (none_yet old new a t this.strokes starts.quiet ready.opened));
+          files = files_quiet _ old new (name_of a) t (Begins (CopyTo name)) this.strokes refl starts.quiet;
           name = named;
           cap = cap;
         };
@@ -249,6 +252,11 @@ module _ (old mid : World) (a b : Held) (t : Trail) (now : Now) (session : ℕ) 
 
   -- the file alone is touched
   module _ (changes : Changes old mid (Only copy.name) (Remade old copy.name (IsUnfinishedOr whole))) (gave : GaveNothing old mid) where
+    -- it touches neither file of the database
+    leaves_files : {ended : Type 0} (left : ℕ) → TurnLeaves ended old mid (name_of a) t (copy_first left last) (outcome session (copy_first left last) now).strokes
+    leaves_files {ended} zero = files_other ended old mid (Only copy.name) _ (name_of a) t last _ refl changes (λ same. apart_files a copy.name apart (inl (sym same)))
+    leaves_files {ended} (suc left) = files_other ended old mid (Only copy.name) _ (name_of a) t Copies _ refl changes (λ same. apart_files a copy.name apart (inl (sym same)))
+
     -- it fails
     pub copy_fails : (left : ℕ) → b ≡ a → MayAct (copy_said pages) (Err Device) old mid a b t now session (copy_first left last) files
     copy_fails left same = record {
@@ -262,6 +270,7 @@ module _ (old mid : World) (a b : Held) (t : Trail) (now : Now) (session : ℕ) 
         kept = tt;
         unchanged = λ told. absurd (copy_told left told);
         short = tt;
+        files = leaves_files left;
         name = ap (λ (h : Held). name_of h) same;
         cap = ap (λ (h : Held). h.cap) same;
       };
@@ -284,6 +293,7 @@ module _ (old mid : World) (a b : Held) (t : Trail) (now : Now) (session : ℕ) 
             kept = kept_none mid (event_of session Copies (outcome session Copies now)) (ap (λ (x : Outcome). x.made) o);
             unchanged = λ told. absurd (copy_told (suc left) told);
             short = tt;
+            files = leaves_files (suc left);
             name = ap (λ (h : Held). name_of h) same;
             cap = ap (λ (h : Held). h.cap) same;
           };
@@ -307,6 +317,7 @@ module _ (old mid : World) (a b : Held) (t : Trail) (now : Now) (session : ℕ) 
                 (kept_one mid copy.name whole kept);
             unchanged = λ told. absurd (copy_told zero told);
             short = tt;
+            files = leaves_files zero;
             name = ap (λ (h : Held). name_of h) same;
             cap = ap (λ (h : Held). h.cap) same;
           };

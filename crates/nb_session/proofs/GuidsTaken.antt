@@ -1,6 +1,6 @@
 -- Which GUIDs turns take of those that may be given: one for each backup that they begin, in order.
 use Rattle.std.proofs.Common.{◌≡◌, ◌≢◌, ◌⊎◌, inl, inr, ℕ, ◌-◌, List, [], ◌∷◌, ◌++◌, drop, replicate, Bool, true, false, refl, sym, ap, subst, ◌∙◌, append_assoc, ◌==◌, Some}
-use Rattle.nb_session.proofs.Common.{AllByRecursion, slice_index_or, append-nil, append_cancel_right, stalled_state, World, Refusal, Reply, Statement, Ask, room_in, close_backup, close_copy, WasGiven, IsMaking, IsNamed, image_state, Turn, Begins, Copies, ClosesBackup, ClosesCopy, Ends, Merges, Finishes, Outcome, Seen, Given, next_guid, ends_by, end_strokes, Now, Played, outcome, one_turn, play, stands_then, strokes_of, Stroke, page, begin, first_turn, turn, making_turn, one_cases, strokes_of-append, MayStart, refused, started, statement_cases, begin_either, end_either, backup_either, since_either, copy_either, pages_once, left_guids}
+use Rattle.nb_session.proofs.Common.{AllByRecursion, slice_index_or, append-nil, append_cancel_right, stalled_state, World, Refusal, Reply, Statement, Ask, room_in, close_backup, close_copy, WasGiven, IsMaking, IsNamed, image_state, Turn, Begins, Copies, ClosesBackup, ClosesCopy, Ends, Merges, Finishes, Outcome, Seen, Given, next_guid, ends_by, end_strokes, Now, Played, outcome, one_turn, play, stands_then, strokes_of, Stroke, page, begin, first_turn, turn, making_turn, one_cases, strokes_of-append, MayStart, refused, started, statement_cases, begin_either, end_either, activate_either, backup_either, since_either, copy_either, pages_once, left_guids}
 use Rattle.nb_model.specs.NewGuids.{guids_in}
 use Rattle.nb_model.specs.Strokes.{ends}
 use Rattle.nb_model.proofs.GuidLaws.{guids_append}
@@ -53,6 +53,7 @@ module _ (session : ℕ) (now : Now) (making : IsMaking now) where
       (λ x on named. inl (pages_none (first_turn s session x).strokes (pages_only x on s session), ap (λ (g : Given). g.guids) (pages_once x on s session).given ∙ left_guids x s.given))
       (λ named. begin_either Taking s refused_takes (λ may. inr (refl, refl)))
       (λ named. end_either Taking s session refused_takes (λ may. ends_take _))
+      (λ named. activate_either Taking s session refused_takes (inl (refl, refl)) (λ may. ends_take _))
       (λ level name named. backup_either Taking s session level name refused_takes (λ ask is may. started_takes name ask may))
       (λ guid name named. since_either Taking s session guid name refused_takes (λ ask is may. started_takes name ask may))
       (λ name named. copy_either Taking s session name refused_takes (λ may. inl (refl, refl)))

@@ -9,7 +9,7 @@ pub told_trail : (told : Told) (t : Trail) (p : Played) → trail_after t (told_
 told_trail told t p = ap (after_steps t) (told_steps told p.0)
 
 -- no turn is played
-play_none : (now : Now) → play [] now ≡ ([], now)
+pub play_none : (now : Now) → play [] now ≡ ([], now)
 unfolding play
 play_none now = refl
 
@@ -19,7 +19,7 @@ unfolding play
 play_idle session order now none = ap (λ (p : Played). (p.0 ++ (play order p.1).0, (play order p.1).1)) (one_turn_idle session now none)
 
 -- what was seen after one turn and others
-play_then : (session : ℕ) (order : List ℕ) (now : Now) (t : Trail)
+pub play_then : (session : ℕ) (order : List ℕ) (now : Now) (t : Trail)
     → after_steps t (steps_of (play (session ∷ order) now).0) ≡ after_steps (after_steps t (steps_of (one_turn session now).0)) (steps_of (play order (one_turn session now).1).0)
 unfolding play
 play_then session order now t =

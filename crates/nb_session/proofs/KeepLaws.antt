@@ -6,7 +6,7 @@ use Rattle.nb_model.specs.declared.reply.Reply.TheVariants.{Refused}
 -- such a statement leaves nothing to do
 pub one_single : (statement : Statement) → IsOneTurn statement → IsSingle statement
 one_single =
-    statement_cases (λ x. IsOneTurn x → IsSingle x) (λ x on once s session. (pages_once x on s session).next) (λ once. begin_single) (λ once. absurd once) (λ level name once. absurd once) (λ guid name once. absurd once) (λ name once. absurd once)
+    statement_cases (λ x. IsOneTurn x → IsSingle x) (λ x on once s session. (pages_once x on s session).next) (λ once. begin_single) (λ once. absurd once) (λ once. absurd once) (λ level name once. absurd once) (λ guid name once. absurd once) (λ name once. absurd once)
 
 -- What is given for the begin of a backup: a GUID, unless it is refused.
 module _ (s : Seen) where

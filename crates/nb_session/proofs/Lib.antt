@@ -12,11 +12,13 @@ pub mod ToldLaws
 pub mod EventLaws
 pub mod OthersLaws
 pub mod ShortLaws
+pub mod FilesLaws
 pub mod TurnLaws
 pub mod KeepLaws
 pub mod ActLaws
 pub mod WayLaws
 pub mod MergeLaws
+pub mod ActivateLaws
 pub mod CopyLaws
 pub mod BackupLaws
 pub mod UnderWayLaws
@@ -29,6 +31,8 @@ pub mod SceneLaws
 pub mod AnyLaws
 pub mod EndLaws
 pub mod WholeLaws
+pub mod DangerLaws
+pub mod FindLaws
 pub mod OutLaws
 pub mod HeaderLaws
 pub mod ByTurnsLaws

@@ -1,6 +1,17 @@
 -- The turns of the end of a backup.
-use Rattle.std.proofs.Common.{◌≡◌, ◌≢◌, IfErr, inl, inr, ℕ, zero, suc, ◌+◌, ◌-◌, ◌<◌, List, [], ◌∷◌, ◌++◌, length, replicate, refl, sym, ap, subst, ◌∙◌, arith, true≢false, Result, Ok, Err, IsErr, Option, Some, None, Bool, true, false, not, ◌==◌}
-use Rattle.nb_session.proofs.Common.{slice_index_or, eqb_tells, append-nil, normal_state, stalled_state, World, Fault, Refused, Device, Memory, HostFault, RunError, Refusal, Reply, Scn, EndBackup, Base, Cause, first_cause, when, runs_other, IsAt, IsGoing, IsMaking, Image, image_state, Turn, Begins, Ends, Finishes, Seen, Outcome, unless, passes, end_turn, ends_by, end_scn, end_strokes, Now, base_now, outcome, event_of, Stroke, finish, on_base, base_after, Trail, first_turn, turn, end_either, Strikes, after_strokes, IsNoRefusal, Held, IsOpen, name_of, WhereEnded, GoesOn, Progress, More, Finished, after_base, where_ended, DoesEnd, Says, Acts, MayAct, IsMerging, left_refused, merge_first, merge_rest, task_todo, Left, Taken, Task, Merge, Told, IsReady, EndsEarly, IsBehind, Turns, only_told, some_none}
+use Rattle.std.proofs.Common.{◌≡◌, ◌≢◌, IfErr, inl, inr, ℕ, zero, suc, ◌+◌, ◌-◌, ◌<◌, List, [], ◌∷◌, ◌++◌, length, replicate, refl, sym, ap, subst, ◌∙◌, arith, true≢false, Result, Ok, Err, IsErr, Option, Some, None, Bool, true, false, not, ◌==◌, ◌≤◌}
+use Rattle.nb_session.proofs.Common.{slice_index_or, eqb_tells, append-nil, normal_state, stalled_state, World, Fault, Refused, Device, Memory, HostFault, RunError, Refusal, Reply, Scn, Sync, Base, Cause, first_cause, when, runs_other, IsAt, IsGoing, IsMaking, Image, image_state, Turn, Begins, Ends, Finishes, Seen, Outcome, unless, passes, end_turn, ends_by, end_scn, end_strokes, Now, base_now, outcome, event_of, is_sync, Stroke, finish, on_base, base_after, Trail, turn, end_either, Strikes, after_strokes, IsNoRefusal, Held, IsOpen, name_of, WhereEnded, GoesOn, Progress, More, Finished, after_base, where_ended, DoesEnd, Says, Acts, MayAct, IsMerging, left_refused, merge_first, merge_rest, task_todo, Left, Taken, Task, Merge, Told, IsReady, EndsEarly, IsBehind, Turns, only_told, some_none, none_some}
+use Rattle.nb_fields.specs.States.{merge_state}
+use Rattle.nb_session.proofs.FilesLaws.{grows_sized}
+use Rattle.nb_session.specs.Files.{LeavesFiles, TurnLeaves, is_end, is_finish}
+use Rattle.nb_session.specs.Replies.{HasEnded}
+use Rattle.nb_base.specs.Stays.{GrowsWithin}
+use Rattle.nb_model.specs.Owner.{delta_name}
+use Rattle.nb_model.specs.Trail.{after_stroke}
+use Rattle.nb_model.specs.Image.{image_guid, image_scn, trimmed}
+use Rattle.nb_model.proofs.TrailLaws.{trail_base}
+use Rattle.nb_model.proofs.TrimLaws.{finish_base, trimmed_length}
+use Rattle.nb_model.proofs.ControlSound.{control_long}
 use Rattle.nb_change.specs.Changes.{Only}
 use Rattle.nb_base.specs.Open.{OfFiles}
 use Rattle.nb_base.specs.Takes.{StrikesOn}
@@ -14,11 +25,16 @@ use Rattle.nb_session.proofs.ActLaws.{trail_plain, ended_map, strikes_left, kept
 use Rattle.nb_session.proofs.EventLaws.{marks_none, unsaid}
 use Rattle.nb_session.proofs.GiftLaws.{given_nothing, grows_none}
 use Rattle.nb_session.proofs.TouchingLaws.{ends_touch}
-use Rattle.nb_session.proofs.TurnLaws.{seen_now, outcome_is, turns_lost}
+use Rattle.nb_session.proofs.TurnLaws.{seen_now, turns_lost}
 use Rattle.nb_alloc.proofs.WantLaws.{not_wanted}
 use Rattle.nb_session.specs.Short.{RanOut}
 use Rattle.nb_session.proofs.WayLaws.{merge_turns, ending_at}
 use Rattle.nb_model.proofs.WholeLaws.{two_none}
+
+-- the last operation of a merge makes no image longer
+finish_shorter : (t : Trail) → length (after_stroke finish t).base.image ≤ length t.base.image
+finish_shorter t =
+    omega (arith, ap (λ (b : Base). length b.image) (trail_base finish t ∙ finish_base t.base), control_long normal_state (image_scn t.base.image) (image_guid t.base.image) (trimmed t.base.image), trimmed_length t.base.image)
 
 -- The parts of a turn that ends the stalled state.
 module _ (s : Seen) (session : ℕ) (reply : Reply) where
@@ -30,51 +46,56 @@ module _ (s : Seen) (session : ℕ) (reply : Reply) where
   unfolding ends_by
   ends_reply = refl
 
-  ends_next : (ends_by s session reply).next ≡ replicate (length s.base.diverted) MergesOne ++ Finishes reply ∷ []
-  unfolding ends_by
-  ends_next = refl
-
-  ends_running : (ends_by s session reply).running ≡ Some session
-  unfolding ends_by
-  ends_running = refl
-
-  ends_given : (ends_by s session reply).given ≡ s.given
-  unfolding ends_by
-  ends_given = refl
-
-  ends_made : (ends_by s session reply).made ≡ None
-  unfolding ends_by
-  ends_made = refl
-
 -- the end of a backup, where nothing is against it
 abbrev ending : Seen → (session : ℕ) → Outcome
 ending s session = ends_by s session (Scn (end_scn s.base.image))
 
-abbrev end_causes : Seen → (session : ℕ) → Cause
+abbrev pub end_causes : Seen → (session : ℕ) → Cause
 end_causes s session = first_cause (when (image_state s.base.image == normal_state) (WrongState 0) ∷ runs_other s.running session ∷ [])
 
-end_turn_is : (s : Seen) (session : ℕ) → end_turn s session ≡ unless s (end_causes s session) (ending s session)
+pub end_turn_is : (s : Seen) (session : ℕ) → end_turn s session ≡ unless s (end_causes s session) (ending s session)
 unfolding end_turn
 end_turn_is s session = refl
-
-end_is : (session : ℕ) (now : Now) → end_turn (seen_now now) session ≡ outcome session (Begins EndBackup) now
-unfolding first_turn
-end_is session now = sym (outcome_is session EndBackup now)
 
 -- where it says nothing yet
 end_goes : (s : Seen) (session : ℕ) → (end_turn s session).reply ≡ None → end_turn s session ≡ ending s session
 end_goes s session = end_either (λ o. o.reply ≡ None → o ≡ ending s session) s session (λ r is. absurd (some_none (RefusedBy r) is)) (λ may is. refl)
 
--- where it is refused nothing is left to do
-end_none : (s : Seen) (session : ℕ) (refusal : Refusal) → (end_turn s session).reply ≡ Some (RefusedBy refusal) → (end_turn s session).next ≡ []
-end_none s session refusal = end_either (λ o. o.reply ≡ Some (RefusedBy refusal) → o.next ≡ []) s session (λ r is. refl) (λ may is. absurd (some_none (RefusedBy refusal) (sym is ∙ ends_reply s session (Scn (end_scn s.base.image)))))
+-- A turn does the same as the first of an end, or is refused as it is, but for what it says once all is merged.
+pub record IsAlike (s : Seen) (reply : Reply) (first o : Outcome) : Type 0 where
+  pub strokes : first.strokes ≡ o.strokes
+  pub says : first.reply ≡ o.reply
+  pub running : first.running ≡ o.running
+  pub given : o.given ≡ s.given
+  pub made : o.made ≡ None
+  pub next : first.reply ≡ None → o.next ≡ replicate (length s.base.diverted) MergesOne ++ Finishes reply ∷ []
+  pub none : (refusal : Refusal) → first.reply ≡ Some (RefusedBy refusal) → o.next ≡ []
 
--- either way nothing is given, and no file is made
-end_given : (s : Seen) (session : ℕ) → (end_turn s session).given ≡ s.given
-end_given s session = end_either (λ o. o.given ≡ s.given) s session (λ r. refl) (λ may. ends_given s session (Scn (end_scn s.base.image)))
+module _ (s : Seen) (session : ℕ) (one other : Reply) where
+  begun_alike : IsAlike s other (ends_by s session one) (ends_by s session other)
+  unfolding ends_by
+  begun_alike = record { strokes = refl; says = refl; running = refl; given = refl; made = refl; next = λ quiet. refl; none = λ refusal is. absurd (none_some (RefusedBy refusal) is) }
 
-end_made : (s : Seen) (session : ℕ) → (end_turn s session).made ≡ None
-end_made s session = end_either (λ o. o.made ≡ None) s session (λ r. refl) (λ may. ends_made s session (Scn (end_scn s.base.image)))
+  -- refused by the same cause, if there is one
+  alike_by : (cause : Cause) → IsAlike s other (unless s cause (ends_by s session one)) (unless s cause (ends_by s session other))
+  unfolding unless
+  alike_by None = begun_alike
+  alike_by (Some refusal) = record { strokes = refl; says = refl; running = refl; given = refl; made = refl; next = λ quiet. absurd (some_none (RefusedBy refusal) quiet); none = λ r is. refl }
+
+  -- or not refused
+  alike_quiet : (cause : Cause) → (unless s cause (ends_by s session one)).reply ≡ None → IsAlike s other (unless s cause (ends_by s session one)) (ends_by s session other)
+  unfolding unless
+  alike_quiet None quiet = begun_alike
+  alike_quiet (Some refusal) quiet = absurd (some_none (RefusedBy refusal) quiet)
+
+-- one that ends the backup of what is seen
+abbrev pub EndsAs : Seen → (session : ℕ) → Reply → Outcome → Type 0
+EndsAs s session reply o = IsAlike s reply (end_turn s session) o
+
+pub ends_as : (s : Seen) (session : ℕ) (reply : Reply) (o : Outcome) → o ≡ unless s (end_causes s session) (ends_by s session reply) → EndsAs s session reply o
+ends_as s session reply o is =
+    subst (λ (first : Outcome). IsAlike s reply first o) (sym (end_turn_is s session))
+    (subst (IsAlike s reply (unless s (end_causes s session) (ending s session))) (sym is) (alike_by s session (Scn (end_scn s.base.image)) reply (end_causes s session)))
 
 own_runs : (session : ℕ) → runs_other (Some session) session ≡ None
 own_runs session = elim (eqb_tells session session) [
@@ -108,28 +129,53 @@ ends_is : (session : ℕ) (reply : Reply) (now : Now) → outcome session (Ends 
 unfolding outcome turn
 ends_is session reply now = refl
 
--- A turn that ends the stalled state.
-module _ (old new : World) (a b : Held) (t : Trail) (now : Now) (session : ℕ) (ready : IsReady old a t now) where
+-- after a backup, where its session runs
+ends_alike : (session : ℕ) (reply : Reply) (now : Now) → (end_turn (seen_now now) session).reply ≡ None → EndsAs (seen_now now) session reply (outcome session (Ends reply) now)
+ends_alike session reply now quiet =
+    let s = seen_now now in
+    subst (EndsAs s session reply) (sym (ends_is session reply now))
+    (subst (λ (first : Outcome). first.reply ≡ None → IsAlike s reply first (ends_by s session reply)) (sym (end_turn_is s session)) (alike_quiet s session (Scn (end_scn s.base.image)) reply (end_causes s session)) quiet)
+
+-- an end is no last turn of a merge, and no `sync`
+no_finish : (turn : Turn) → is_end turn ≡ true → is_finish turn ≡ false
+no_finish (Finishes reply) over = absurd (true≢false (sym over))
+no_finish other over = refl
+
+no_sync : (turn : Turn) → is_end turn ≡ true → is_sync turn ≡ false
+no_sync (Begins Sync) over = absurd (true≢false (sym over))
+no_sync other over = refl
+
+-- A turn that ends the stalled state, unless it is refused, and what is said once all is merged.
+module _ (old new : World) (a b : Held) (t : Trail) (now : Now) (session : ℕ) (ready : IsReady old a t now) (u : Turn) (reply : Reply) (over : is_end u ≡ true) (alike : EndsAs (seen_now now) session reply (outcome session u now)) where
   abbrev turn_of : Outcome
   turn_of = end_turn (seen_now now) session
 
-  -- the first turn of `alter database end backup`
-  pub end_acts : (result : Result ℕ Fault) → b.cap ≡ a.cap → IfErr result (λ fault. fault ≢ Memory) → DoesEnd result old new a b t (end_scn t.base.image) turn_of → MayAct (λ scn. None) result old new a b t now session (Begins EndBackup) []
+  abbrev this : Outcome
+  this = outcome session u now
+
+  -- the main file is frozen no more
+  end_files : {ended : Type 0} (ss : List Stroke) → GrowsWithin old new (name_of a) a.files.page_size t ss → TurnLeaves ended old new (name_of a) t u ss
+  end_files ss grows = record {
+    frozen = λ stalled plain. absurd (true≢false (sym over ∙ plain));
+    gone = λ merged. absurd (true≢false (sym merged.1 ∙ no_finish u over));
+    long = grows_sized old new a t ss ready.opened grows;
+  }
+
+  pub end_acts : (result : Result ℕ Fault) → b.cap ≡ a.cap → IfErr result (λ fault. fault ≢ Memory) → DoesEnd result old new a b t (end_scn t.base.image) turn_of → MayAct (λ scn. None) result old new a b t now session u []
   end_acts result cap sure does =
-      let same = end_is session now in
+      let event = event_of session u this in
       record {
         grows = grows_none old new does.gave;
         acts = λ told. record {
-          says = subst (λ (x : Outcome). Says (λ scn. None) result x.reply) same (says_none result turn_of.reply does.says);
-          left = strikes_left old new (name_of a) t _ (event_of session (Begins EndBackup) (outcome session (Begins EndBackup) now)) (sym (ap (λ (x : Outcome). x.made) same) ∙ end_made (seen_now now) session)
-              (subst (λ (x : Outcome). Strikes old new (name_of a) t x.strokes) same does.left);
-          opened = ended_map result (subst (IsOpen new b) (trail_plain t (event_of session (Begins EndBackup) (outcome session (Begins EndBackup) now)) refl))
-              (subst (λ (x : Outcome). WhereEnded result (IsOpen new b (after_strokes t x.strokes))) same does.opened);
-          running = subst (λ (x : Outcome). WhereEnded result (b.running ≡ x.running)) same does.running;
-          given = where_ended result _ (given_nothing old new now.given (outcome session (Begins EndBackup) now).given does.gave (sym (ap (λ (x : Outcome). x.given) same) ∙ end_given (seen_now now) session));
-          kept = where_ended result _ (kept_none new (event_of session (Begins EndBackup) (outcome session (Begins EndBackup) now)) (sym (ap (λ (x : Outcome). x.made) same) ∙ end_made (seen_now now) session));
-          unchanged = idle_unchanged old new turn_of.reply (event_of session (Begins EndBackup) (outcome session (Begins EndBackup) now)) (ap (λ (x : Outcome). x.reply) same) does.idle;
+          says = subst (Says (λ scn. None) result) alike.says (says_none result turn_of.reply does.says);
+          left = strikes_left old new (name_of a) t _ event alike.made (subst (Strikes old new (name_of a) t) alike.strokes does.left);
+          opened = ended_map result (subst (IsOpen new b) (trail_plain t event (no_sync u over))) (subst (λ (ss : List Stroke). WhereEnded result (IsOpen new b (after_strokes t ss))) alike.strokes does.opened);
+          running = subst (λ (r : Option ℕ). WhereEnded result (b.running ≡ r)) alike.running does.running;
+          given = where_ended result _ (given_nothing old new now.given this.given does.gave alike.given);
+          kept = where_ended result _ (kept_none new event alike.made);
+          unchanged = idle_unchanged old new turn_of.reply event alike.says does.idle;
           short = not_wanted result _ sure;
+          files = subst (TurnLeaves (HasEnded result) old new (name_of a) t u) alike.strokes (end_files turn_of.strokes does.long);
           name = does.name;
           cap = cap;
         };
@@ -142,74 +188,29 @@ module _ (old new : World) (a b : Held) (t : Trail) (now : Now) (session : ℕ) 
       ap (λ (x : Base). x.diverted) (after_base t (end_strokes (base_now now).image)) ∙ end_diverted t.base (base_now now).image ∙ ap (λ (x : Base). x.diverted) ready.base in
       ap length (sym kept) ∙ sym (ap length opened.files.agrees.entries) ∙ sym are
 
-  module _ (entries : ℕ) (are : entries ≡ length b.files.entries) (scn : ℕ) (does : DoesEnd (Ok scn) old new a b t (end_scn t.base.image) turn_of) where
-    is_ending : turn_of ≡ ending (seen_now now) session
-    is_ending = end_goes (seen_now now) session does.says
-
-    entries_are : length (base_now now).diverted ≡ entries
-    entries_are = many entries (subst (λ (ss : List Stroke). IsOpen new b (after_strokes t ss)) (ap (λ (o : Outcome). o.strokes) is_ending ∙ ends_strokes (seen_now now) session (Scn (end_scn (base_now now).image))) does.opened) are
-
-    next_is : (reply : Reply) → replicate (length (base_now now).diverted) MergesOne ++ Finishes reply ∷ [] ≡ task_todo (Some (Merge (record { left = entries; reply = reply })))
-    next_is reply = ap (λ (n : ℕ). replicate n MergesOne ++ Finishes reply ∷ []) entries_are ∙ merge_turns entries (Finishes reply)
-
-    pub end_behind : IsBehind new b session (Begins EndBackup) [] now (Some (Merge (record { left = entries; reply = Scn scn })))
-    end_behind = record {
-      next = append-nil (outcome session (Begins EndBackup) now).next ∙ sym (ap (λ (x : Outcome). x.next) (end_is session now)) ∙ ap (λ (x : Outcome). x.next) is_ending
-          ∙ ends_next (seen_now now) session (Scn (end_scn (base_now now).image)) ∙ next_is (Scn (end_scn (base_now now).image))
-          ∙ ap (λ (n : ℕ). task_todo (Some (Merge (record { left = entries; reply = Scn n })))) (ap (λ (x : Base). end_scn x.image) (sym ready.base) ∙ sym does.answer);
-      goes = tt;
-    }
-
-    -- and after a backup
-    pub ends_behind : (reply : Reply) → IsBehind new b session (Ends reply) [] now (Some (Merge (record { left = entries; reply = reply })))
-    ends_behind reply = record {
-      next = append-nil (outcome session (Ends reply) now).next ∙ ap (λ (x : Outcome). x.next) (ends_is session reply now) ∙ ends_next (seen_now now) session reply ∙ next_is reply;
-      goes = tt;
-    }
+  pub end_behind : (entries : ℕ) → entries ≡ length b.files.entries → (scn : ℕ) → DoesEnd (Ok scn) old new a b t (end_scn t.base.image) turn_of → IsBehind new b session u [] now (Some (Merge (record { left = entries; reply = reply })))
+  end_behind entries are scn does =
+      let strokes : turn_of.strokes ≡ end_strokes (base_now now).image =
+      ap (λ (o : Outcome). o.strokes) (end_goes (seen_now now) session does.says) ∙ ends_strokes (seen_now now) session (Scn (end_scn (base_now now).image)) in
+      let diverted : length (base_now now).diverted ≡ entries = many entries (subst (λ (ss : List Stroke). IsOpen new b (after_strokes t ss)) strokes does.opened) are in
+      record {
+        next = append-nil this.next ∙ alike.next does.says ∙ ap (λ (n : ℕ). replicate n MergesOne ++ Finishes reply ∷ []) diverted ∙ merge_turns entries (Finishes reply);
+        goes = tt;
+      }
 
   -- none is where it is refused
-  pub end_refused : (refusal : Refusal) → DoesEnd (Err (Refused refusal)) old new a b t (end_scn t.base.image) turn_of → (w : World) → IsBehind w b session (Begins EndBackup) [] now None
-  end_refused refusal does w = record {
-    next = append-nil (outcome session (Begins EndBackup) now).next ∙ sym (ap (λ (x : Outcome). x.next) (end_is session now)) ∙ end_none (seen_now now) session refusal does.says;
-    goes = tt;
-  }
+  pub end_refused : (refusal : Refusal) → DoesEnd (Err (Refused refusal)) old new a b t (end_scn t.base.image) turn_of → (w : World) → IsBehind w b session u [] now None
+  end_refused refusal does w = record { next = append-nil this.next ∙ alike.none refusal does.says; goes = tt }
 
-  -- The end after a backup, where its session runs.
-  module _ (reply : Reply) (quiet : turn_of.reply ≡ None) where
-    is_quiet : turn_of ≡ ending (seen_now now) session
-    is_quiet = end_goes (seen_now now) session quiet
+-- The end after a backup, where its session runs.
+module _ (old new : World) (a b : Held) (t : Trail) (now : Now) (session : ℕ) (ready : IsReady old a t now) (reply : Reply) (quiet : (end_turn (seen_now now) session).reply ≡ None) where
+  pub ends_acts : (result : Result ℕ Fault) → b.cap ≡ a.cap → IfErr result (λ fault. fault ≢ Memory) → DoesEnd result old new a b t (end_scn t.base.image) (end_turn (seen_now now) session)
+      → MayAct (λ scn. None) result old new a b t now session (Ends reply) []
+  ends_acts = end_acts old new a b t now session ready (Ends reply) reply refl (ends_alike session reply now quiet)
 
-    abbrev this : Outcome
-    this = outcome session (Ends reply) now
-
-    strokes_are : turn_of.strokes ≡ this.strokes
-    strokes_are = ap (λ (x : Outcome). x.strokes) is_quiet ∙ ends_strokes (seen_now now) session (Scn (end_scn (base_now now).image))
-        ∙ sym (ap (λ (x : Outcome). x.strokes) (ends_is session reply now) ∙ ends_strokes (seen_now now) session reply)
-
-    running_is : turn_of.running ≡ this.running
-    running_is = ap (λ (x : Outcome). x.running) is_quiet ∙ ends_running (seen_now now) session (Scn (end_scn (base_now now).image))
-        ∙ sym (ap (λ (x : Outcome). x.running) (ends_is session reply now) ∙ ends_running (seen_now now) session reply)
-
-    reply_is : turn_of.reply ≡ this.reply
-    reply_is = quiet ∙ sym (ap (λ (x : Outcome). x.reply) (ends_is session reply now) ∙ ends_reply (seen_now now) session reply)
-
-    pub ends_acts : (result : Result ℕ Fault) → b.cap ≡ a.cap → IfErr result (λ fault. fault ≢ Memory) → DoesEnd result old new a b t (end_scn t.base.image) turn_of → MayAct (λ scn. None) result old new a b t now session (Ends reply) []
-    ends_acts result cap sure does = record {
-      grows = grows_none old new does.gave;
-      acts = λ told. record {
-        says = subst (Says (λ scn. None) result) reply_is (says_none result turn_of.reply does.says);
-        left = strikes_left old new (name_of a) t _ (event_of session (Ends reply) this) (ap (λ (x : Outcome). x.made) (ends_is session reply now) ∙ ends_made (seen_now now) session reply)
-            (subst (Strikes old new (name_of a) t) strokes_are does.left);
-        opened = ended_map result (subst (IsOpen new b) (trail_plain t (event_of session (Ends reply) this) refl)) (subst (λ (ss : List Stroke). WhereEnded result (IsOpen new b (after_strokes t ss))) strokes_are does.opened);
-        running = subst (λ (r : Option ℕ). WhereEnded result (b.running ≡ r)) running_is does.running;
-        given = where_ended result _ (given_nothing old new now.given this.given does.gave (ap (λ (x : Outcome). x.given) (ends_is session reply now) ∙ ends_given (seen_now now) session reply));
-        kept = where_ended result _ (kept_none new (event_of session (Ends reply) this) (ap (λ (x : Outcome). x.made) (ends_is session reply now) ∙ ends_made (seen_now now) session reply));
-        unchanged = idle_unchanged old new turn_of.reply (event_of session (Ends reply) this) reply_is does.idle;
-        short = not_wanted result _ sure;
-        name = does.name;
-        cap = cap;
-      };
-    }
+  pub ends_behind : (entries : ℕ) → entries ≡ length b.files.entries → (scn : ℕ) → DoesEnd (Ok scn) old new a b t (end_scn t.base.image) (end_turn (seen_now now) session)
+      → IsBehind new b session (Ends reply) [] now (Some (Merge (record { left = entries; reply = reply })))
+  ends_behind = end_behind old new a b t now session ready (Ends reply) reply refl (ends_alike session reply now quiet)
 
 -- The stalled state ends after a backup whose session runs: it isn't refused.
 pub ends_quiet : {sound : Bool} (w : World) (held : Held) (t : Trail) (now : Now) (session : ℕ) → IsReady w held t now → IsGoing sound now → (reply : Reply) (more : List Turn) → slice_index_or now.todo (session - 1) [] ≡ Ends reply ∷ more
@@ -263,9 +264,22 @@ module _ (old new : World) (a b : Held) (t : Trail) (now : Now) (session : ℕ) 
   merge_told : only_told (event_of session MergesOne (outcome session MergesOne now)) ≡ true → ⊥
   merge_told told = unsaid (event_of session MergesOne (outcome session MergesOne now)) (ap (λ (x : Outcome). x.reply) (merge_is session now)) told
 
+  -- the database isn't in the stalled state
+  merge_files : (u : Turn) (ended : Type 0) (ss : List Stroke) → a.files.state ≡ merge_state → (ended × (is_finish u ≡ true) → new.files (delta_name (name_of a)) ≡ None) → GrowsWithin old new (name_of a) a.files.page_size t ss
+      → TurnLeaves ended old new (name_of a) t u ss
+  merge_files u ended ss merge gone grows = record {
+    frozen = λ stalled plain. absurd (omega (arith, stalled, merge, ready.opened.files.agrees.state));
+    gone = gone;
+    long = grows_sized old new a t ss ready.opened grows;
+  }
+
+  -- the last operation of a merge makes no image longer
+  no_longer : GrowsWithin old new (name_of a) a.files.page_size t (finish ∷ []) → GrowsWithin old new (name_of a) a.files.page_size t []
+  no_longer grows most within = grows most (within, omega (arith, within, finish_shorter t))
+
   -- it fails
-  failed : (u : Turn) (ss : List Stroke) → (only_told (event_of session u (outcome session u now)) ≡ true → ⊥) → (outcome session u now).strokes ≡ ss → (outcome session u now).made ≡ None → Strikes old new (name_of a) t ss → name_of b ≡ name_of a → Acts (merge_said reply) (Err Device) old new a b t now session u []
-  failed u ss never is none struck name = record { says = tt; left = strikes_left old new (name_of a) t _ (event_of session u (outcome session u now)) none (subst (Strikes old new (name_of a) t) (sym is) struck); opened = tt; running = tt; given = tt; kept = tt; unchanged = λ told. absurd (never told); short = tt; name = name; cap = cap }
+  failed : (u : Turn) (ss : List Stroke) → (only_told (event_of session u (outcome session u now)) ≡ true → ⊥) → (outcome session u now).strokes ≡ ss → (outcome session u now).made ≡ None → Strikes old new (name_of a) t ss → a.files.state ≡ merge_state → GrowsWithin old new (name_of a) a.files.page_size t ss → name_of b ≡ name_of a → Acts (merge_said reply) (Err Device) old new a b t now session u []
+  failed u ss never is none struck merge grows name = record { says = tt; left = strikes_left old new (name_of a) t _ (event_of session u (outcome session u now)) none (subst (Strikes old new (name_of a) t) (sym is) struck); opened = tt; running = tt; given = tt; kept = tt; unchanged = λ told. absurd (never told); short = tt; files = subst (LeavesFiles (is_end u) (⊥ × (is_finish u ≡ true)) old new (name_of a) t) (sym is) (merge_files u ⊥ ss merge (λ m. absurd m.0) grows); name = name; cap = cap }
 
   finishes : (result : Result Progress HostFault) → IsMerging session 0 a → Merges result old new a b t → Acts (merge_said reply) (merge_answer result) old new a b t now session (Finishes reply) []
   finishes (Ok More) merging merges = absurd (omega (arith, diverted 0 merging, merges.on.0))
@@ -280,10 +294,11 @@ module _ (old new : World) (a b : Held) (t : Trail) (now : Now) (session : ℕ) 
         kept = kept_none new (event_of session (Finishes reply) (outcome session (Finishes reply) now)) (ap (λ (x : Outcome). x.made) o);
         unchanged = λ told. absurd (finish_told told);
         short = tt;
+        files = subst (λ (x : Outcome). TurnLeaves (Unit {0}) old new (name_of a) t (Finishes reply) x.strokes) (sym o) (merge_files (Finishes reply) (Unit {0}) (finish ∷ []) merging.state (λ m. merges.puts) merges.long);
         name = merges.name;
         cap = cap;
       }
-  finishes (Err fault) merging merges = failed (Finishes reply) (finish ∷ []) finish_told (ap (λ (x : Outcome). x.strokes) (finish_is session reply now)) (ap (λ (x : Outcome). x.made) (finish_is session reply now)) merges.left merges.name
+  finishes (Err fault) merging merges = failed (Finishes reply) (finish ∷ []) finish_told (ap (λ (x : Outcome). x.strokes) (finish_is session reply now)) (ap (λ (x : Outcome). x.made) (finish_is session reply now)) merges.left merging.state merges.long merges.name
 
   one_left : (left : ℕ) → IsMerging session (suc left) a → a.merged < length t.base.diverted
   one_left left merging = omega (arith, diverted (suc left) merging)
@@ -303,11 +318,12 @@ module _ (old new : World) (a b : Held) (t : Trail) (now : Now) (session : ℕ) 
         kept = kept_none new (event_of session MergesOne (outcome session MergesOne now)) (ap (λ (x : Outcome). x.made) o);
         unchanged = λ told. absurd (merge_told told);
         short = tt;
+        files = subst (λ (x : Outcome). TurnLeaves (Unit {0}) old new (name_of a) t MergesOne x.strokes) (sym o) (merge_files MergesOne (Unit {0}) [] merging.state (λ m. absurd (true≢false (sym m.1))) (no_longer merges.long));
         name = merges.name;
         cap = cap;
       }
   merges_one (Ok Finished) left merging merges = absurd (omega (arith, diverted (suc left) merging, merges.on.0))
-  merges_one (Err fault) left merging merges = failed MergesOne [] merge_told (ap (λ (x : Outcome). x.strokes) (merge_is session now)) (ap (λ (x : Outcome). x.made) (merge_is session now)) (struck_one (merges.more (one_left left merging))) merges.name
+  merges_one (Err fault) left merging merges = failed MergesOne [] merge_told (ap (λ (x : Outcome). x.strokes) (merge_is session now)) (ap (λ (x : Outcome). x.made) (merge_is session now)) (struck_one (merges.more (one_left left merging))) merging.state (no_longer merges.long) merges.name
 
   pub merge_acts : (result : Result Progress HostFault) (left : ℕ) → IsMerging session left a → Merges result old new a b t
       → MayAct (merge_said reply) (merge_answer result) old new a b t now session (merge_first left (Finishes reply)) []

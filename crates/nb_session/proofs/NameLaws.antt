@@ -1,6 +1,6 @@
 -- The files that turns make have the names that their statements give.
 use Rattle.std.proofs.Common.{◌≡◌, inl, inr, ℕ, zero, suc, ◌+◌, ◌-◌, List, [], ◌∷◌, ◌++◌, map, length, replicate, get_or, refl, sym, ap, subst, ◌∙◌, arith, Contains, false, not}
-use Rattle.nb_session.proofs.Common.{AllByRecursion, slice_index_or, and_parts, eqb_tells, Contains-append_cases, get_or-map, is_delta, Reply, Statement, BackupSince, CopyTo, room_in, close_backup, close_copy, Image, MadeFile, making, Turn, Begins, Copies, ClosesBackup, ClosesCopy, Ends, Merges, Finishes, Seen, Outcome, ends_by, Now, base_now, outcome, stands_then, one_turn, play, files_made, begun, first_turn, turn, one_cases, own_todo, other_todo, event_makes, made_append, turn_makes, statement_cases, begin_either, end_either, backup_either, since_either, copy_either, pages_once, IsFurther, IsAskable, FitsAsked, IsFile, Plan, all_append, not_true}
+use Rattle.nb_session.proofs.Common.{AllByRecursion, slice_index_or, and_parts, eqb_tells, Contains-append_cases, get_or-map, is_delta, Reply, Statement, BackupSince, CopyTo, room_in, close_backup, close_copy, Image, MadeFile, making, Turn, Begins, Copies, ClosesBackup, ClosesCopy, Ends, Merges, Finishes, Seen, Outcome, ends_by, Now, base_now, outcome, stands_then, one_turn, play, files_made, begun, first_turn, turn, one_cases, own_todo, other_todo, event_makes, made_append, turn_makes, statement_cases, begin_either, end_either, activate_either, backup_either, since_either, copy_either, pages_once, IsFurther, IsAskable, FitsAsked, IsFile, Plan, all_append, not_true}
 use Rattle.nb_model.specs.declared.statement.Statement.TheVariants.{Backup}
 use Rattle.nb_session.specs.MadeNames.{AnyAsks, AnySessionAsks, Asks, ScriptMakes}
 
@@ -43,6 +43,7 @@ module _ (P : List ℕ → Type 0) where
         (λ x on named. subst Named (sym (pages_once x on s session).next) tt)
         (λ named. begin_either Leaves s (λ r. tt) (λ may. tt))
         (λ named. end_either Leaves s session (λ r. tt) (λ may. merging_names _))
+        (λ named. activate_either Leaves s session (λ r. tt) tt (λ may. merging_names _))
         (λ level name named. backup_either Leaves s session level name (λ r. tt) (λ ask is may. many (length (room_in s.base.image).draft.image) Copies _ tt named))
         (λ guid name named. since_either Leaves s session guid name (λ r. tt) (λ ask is may. many (length (room_in s.base.image).draft.image) Copies _ tt named))
         (λ name named. copy_either Leaves s session name (λ r. tt) (λ may. many (length s.base.frozen) Copies (ClosesCopy name) tt named))

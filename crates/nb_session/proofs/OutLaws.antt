@@ -1,6 +1,8 @@
 -- What waits is written out after the turns.
 use Rattle.std.proofs.Common.{◌≡◌, inl, inr, ℕ, List, [], ◌∷◌, ◌++◌, Bool, false, refl, sym, ap, subst, ◌∙◌, arith, Contains, Result, Ok, Err, IsErr, IsErrAnd}
 use Rattle.nb_session.proofs.Common.{true≢false, append-nil, decide, is_delta, World, HostFault, RunError, GaveNothing, weaker, untouched_fewer, is_free_name, IsMaking, MadeFile, AreAmong, IsNoneOf, NamesOnce, Now, Played, play, rounds, files_made, delta_name, acked_turns, steps_of, after_steps, Trail, StandsIn, made_once, output_no_event, status_no_event, delta_named, delta_same, after_no_step, acked_steps_none, Strikes, Takes, Held, IsOpen, but_pages, name_of, Told, IsReady, Plays, EndsBy, RunsInTurn, PlaysInTurn, told_turns, not_free, or_false, begun_turns, Stroke}
+use Rattle.nb_session.proofs.FilesLaws.{files_joined}
+use Rattle.nb_session.specs.Files.{LeavesFiles}
 use Rattle.nb_base.specs.Takes.{TakesOn}
 use Rattle.nb_base.specs.Touches.{WrittenIn}
 use Rattle.nb_base.proofs.TouchLaws.{strikes_in}
@@ -118,9 +120,16 @@ module _ (old mid new : World) (a b c : Held) (t : Trail) (now : Now) (plays : P
       let ready = plays.done.ready in
       then_failed old mid new a b c t now nothing [] once_none has_none false plays e (out_failed mid new b c (trail_after t nothing) now ready (struck (trail_after t nothing) ready.opened) same gave (still (trail_after t nothing) ready.opened) e)
 
+-- what is left of the two files then
+files_out : (old mid new : World) (a b : Held) (t : Trail) (now : Now) → Plays (Ok false) old mid a b t now ([], now) [] → LeavesFiles false ⊥ old mid (name_of a) t [] → ((u : Trail) → IsOpen mid b u → LeavesFiles false ⊥ mid new (name_of b) u [])
+    → LeavesFiles false ⊥ old new (name_of a) t []
+files_out old mid new a b t now plays first leaves =
+    let opened : IsOpen mid b t = subst (IsOpen mid b) (after_none t) plays.done.ready.opened in
+    files_joined old mid new (name_of a) t first (subst (λ (n : List ℕ). LeavesFiles false ⊥ mid new n t []) plays.name (leaves t opened))
+
 -- so it is behind turns that came to their end, of which none is left
 none_left : (told : Told) (rest : List ℕ) (old mid new : World) (a b c : Held) (t : Trail) (now : Now) (refused : Bool) (result : Result Bool RunError) → EndsBy (Ok refused) told rest old mid a b t now
-    → (Plays (Ok false) old mid a b t now ([], now) [] → EndsBy result told [] old new a c t now) → EndsBy result told rest old new a c t now
+    → (Plays (Ok false) old mid a b t now ([], now) [] × LeavesFiles false ⊥ old mid (name_of a) t [] → EndsBy result told [] old new a c t now) → EndsBy result told rest old new a c t now
 none_left told [] old mid new a b c t now refused result last go = go last
 none_left told (session ∷ rest) old mid new a b c t now refused result last go = absurd last
 
@@ -153,7 +162,7 @@ module _ {H : Type 0} (world : H → World) (old mid new : H) (e0 e1 e2 : Held) 
   far_now = (play first.in_turn.front now).1
 
   -- the turns one by one, and what is done last
-  runs_on : (result : Result Bool RunError) → (Plays (Ok false) (world first.in_turn.mid) (world mid) first.in_turn.between e1 far_trail far_now ([], far_now) []
+  runs_on : (result : Result Bool RunError) → (Plays (Ok false) (world first.in_turn.mid) (world mid) first.in_turn.between e1 far_trail far_now ([], far_now) [] × LeavesFiles false ⊥ (world first.in_turn.mid) (world mid) (name_of first.in_turn.between) far_trail []
       → EndsBy result told [] (world first.in_turn.mid) (world new) first.in_turn.between e2 far_trail far_now) → RunsInTurn world result old new e0 e2 t told now order
   runs_on result go = record {
     front = first.in_turn.front;
@@ -165,9 +174,9 @@ module _ {H : Type 0} (world : H → World) (old mid new : H) (e0 e1 e2 : Held) 
     last = none_left told first.in_turn.rest (world first.in_turn.mid) (world mid) (world new) first.in_turn.between e1 e2 far_trail far_now a result first.in_turn.last go;
   }
 
-  pub whole_out : ((u : Trail) → IsOpen (world mid) e1 u → Takes {T = Unit {0}} {E = HostFault} (Ok tt) (world mid) (world new) (name_of e1) (IsOpen (world new) e2) u [])
+  pub whole_out : ((u : Trail) → IsOpen (world mid) e1 u → LeavesFiles false ⊥ (world mid) (world new) (name_of e1) u []) → ((u : Trail) → IsOpen (world mid) e1 u → Takes {T = Unit {0}} {E = HostFault} (Ok tt) (world mid) (world new) (name_of e1) (IsOpen (world new) e2) u [])
       → ((u : Trail) → IsOpen (world mid) e1 u → u.earlier ≡ [] → (world new).files ≡ (world mid).files) → PlaysInTurn world (Ok a) old new e0 e2 t told now schedule
-  whole_out takes still =
+  whole_out leaves takes still =
       let ready = first.whole.plays.done.ready in
       let out = takes (trail_after t played) ready.opened in
       record {
@@ -177,13 +186,16 @@ module _ {H : Type 0} (world : H → World) (old mid new : H) (e0 e1 e2 : Held) 
               (out_played (world mid) (world new) e1 e2 (trail_after t played) played.1 ready out.left same gave (still (trail_after t played) ready.opened) out.done);
           finished = first.whole.finished;
         };
-        in_turn = runs_on (Ok a) (λ plays. last_out (world first.in_turn.mid) (world mid) (world new) first.in_turn.between e1 e2 far_trail far_now plays same gave takes still);
+        in_turn = runs_on (Ok a) (λ plays. (
+          last_out (world first.in_turn.mid) (world mid) (world new) first.in_turn.between e1 e2 far_trail far_now plays.0 same gave takes still,
+          files_out (world first.in_turn.mid) (world mid) (world new) first.in_turn.between e1 far_trail far_now plays.0 plays.1 leaves,
+        ));
         guids = λ some. gave.guids ∙ first.guids some;
       }
 
-  pub whole_stopped : (e : RunError) → ((u : Trail) → IsOpen (world mid) e1 u → Strikes (world mid) (world new) (name_of e1) u [])
+  pub whole_stopped : (e : RunError) → ((u : Trail) → IsOpen (world mid) e1 u → LeavesFiles false ⊥ (world mid) (world new) (name_of e1) u []) → ((u : Trail) → IsOpen (world mid) e1 u → Strikes (world mid) (world new) (name_of e1) u [])
       → ((u : Trail) → IsOpen (world mid) e1 u → u.earlier ≡ [] → (world new).files ≡ (world mid).files) → PlaysInTurn world (Err e) old new e0 e2 t told now schedule
-  whole_stopped e struck still =
+  whole_stopped e leaves struck still =
       let ready = first.whole.plays.done.ready in
       record {
         whole = record {
@@ -192,6 +204,9 @@ module _ {H : Type 0} (world : H → World) (old mid new : H) (e0 e1 e2 : Held) 
               (out_failed (world mid) (world new) e1 e2 (trail_after t played) played.1 ready (struck (trail_after t played) ready.opened) same gave (still (trail_after t played) ready.opened) e);
           finished = first.whole.finished;
         };
-        in_turn = runs_on (Err e) (λ plays. last_failed (world first.in_turn.mid) (world mid) (world new) first.in_turn.between e1 e2 far_trail far_now plays same gave e struck still);
+        in_turn = runs_on (Err e) (λ plays. (
+          last_failed (world first.in_turn.mid) (world mid) (world new) first.in_turn.between e1 e2 far_trail far_now plays.0 same gave e struck still,
+          files_out (world first.in_turn.mid) (world mid) (world new) first.in_turn.between e1 far_trail far_now plays.0 plays.1 leaves,
+        ));
         guids = tt;
       }

@@ -3,7 +3,7 @@ use Rattle.std.proofs.Common.{◌≡◌, ◌≢◌, inl, inr, ℕ, zero, suc, �
 use Rattle.nb_session.proofs.Common.{AllByRecursion, slice_index_or, append-nil, World, IsTimely, FaultCount, RunError, Statement, Base, Foretells, IsMaking, MadeFile, under_way, AreAmong, Turn, Begins, Given, Event, Now, Played, base_now, one_turn, play, files_made, steps_of, after_steps, Trail, making_play, one_turn_idle, Scene, scene, Kind, kind, agent_of, Rests, Moves, IsSession, Held, Task, Backup, Copy, End, Merge, Told, AreSixteen, Grows, Asker, task_todo, task_left, todo_of, HasTodo, left_of, IsFit, any_refused, HasNone, TakesOne, InTurn, IsReady, TaskGoes, as_played, shown_next, touching_by, Steps, TakesNext, Plays, told_turns, or_assoc, name_of}
 use Rattle.nb_sched.proofs.AgentLaws.{agent_there, agent_of_set}
 use Rattle.nb_session.specs.Ended.{EndsNext}
-use Rattle.nb_session.specs.Short.{RanOut}
+use Rattle.nb_session.specs.Short.{RanOut, CameToEnd}
 use Rattle.nb_session.proofs.GiftLaws.{foretold_first, foretold_then, foretold_itself, grows_none, grows_joined}
 use Rattle.nb_session.proofs.GoesLaws.{goes_on}
 use Rattle.nb_session.proofs.InTurnLaws.{in_turn_idle, in_turn_one, told_trail}
@@ -174,10 +174,10 @@ module _ {H : Type 0} (tells : Bool) (told : IsTrue tells) (world : H → World)
 
       -- what it left
       pub turn_ends : (given : Given) → AreSixteen given.guids → Foretells given (shown ++ next) (world old) (world s'.host)
-          → EndsNext (RanOut answer) (world s.host) (world s'.host) (name_of s.shared) (after_steps t (steps_of (play front (from given)).0)) (play front (from given)).1 session
+          → EndsNext (RanOut answer) (CameToEnd answer) (world s.host) (world s'.host) (name_of s.shared) (after_steps t (steps_of (play front (from given)).0)) (play front (from given)).1 session
       turn_ends given sixteen foretold =
-          subst (λ (u : Trail). EndsNext (RanOut answer) (world s.host) (world s'.host) (name_of s.shared) u (play front (from given)).1 session) (told_trail how t (play front (from given)))
-          (subst (λ (k : ℕ). EndsNext (RanOut answer) (world s.host) (world s'.host) (name_of s.shared) (trail_after t (told_turns how (play front (from given)))) (play front (from given)).1 k) mine
+          subst (λ (u : Trail). EndsNext (RanOut answer) (CameToEnd answer) (world s.host) (world s'.host) (name_of s.shared) u (play front (from given)).1 session) (told_trail how t (play front (from given)))
+          (subst (λ (k : ℕ). EndsNext (RanOut answer) (CameToEnd answer) (world s.host) (world s'.host) (name_of s.shared) (trail_after t (told_turns how (play front (from given)))) (play front (from given)).1 k) mine
           ((took given sixteen (told_first given foretold)).ends (told_then given sixteen foretold)))
 
     module _ (made : Steps tells (Ok tt) (world s.host) (world s'.host) (faults s.host) (faults s'.host) s.shared s'.shared asker moved)

@@ -1,6 +1,8 @@
 -- A turn of a session is the next that it has to do.
-use Rattle.std.proofs.Common.{◌≡◌, inl, inr, ℕ, ◌-◌, ◌<◌, List, [], ◌∷◌, ◌++◌, length, map, drop, sym, ap, subst, ◌∙◌, append_assoc, get_or-set_same, drop_of_length-le, Bool, true, false, ◌||◌, IsTrue, Result, Ok, Err, IsErr, IsErrAnd, OnOk, Option, Some, None}
+use Rattle.std.proofs.Common.{◌≡◌, inl, inr, ℕ, ◌-◌, ◌<◌, List, [], ◌∷◌, ◌++◌, length, map, drop, sym, ap, subst, ◌∙◌, append_assoc, get_or-set_same, drop_of_length-le, Bool, true, false, ◌||◌, IsTrue, Result, Ok, Err, IsErr, IsErrAnd, OnOk, Option, Some, None, refl}
 use Rattle.nb_session.proofs.Common.{slice_index_or, cases_lt, append-nil, IsDone, World, CountsDevice, CountsRun, FaultCount, Fault, Refused, Device, Memory, RunError, Statement, Base, Foretells, IsMaking, MadeFile, making, making_by, Turn, Begins, Now, Played, base_now, outcome, stands_then, take_turn, one_turn, base_after, Trail, turn_stands, Held, Task, Left, Same, Other, Taken, Asker, task_first, task_rest, task_todo, task_left, left_of, left_refused, left_task, todo_of, HasTodo, KeepsOthers, IsReady, TaskGoes, shown_by, shown_first, shown_next, begun_in, begun_first, touching, touching_by, GoesFurther, Turns, TakesNext, Steps, Plays, told_turns, or_false, name_of}
+use Rattle.nb_session.specs.Dangers.{Finds, danger_after}
+use Rattle.nb_state.specs.Open.{IsOpen}
 use Rattle.nb_host.specs.declared.faults.RunError.TheVariants.{Device as DeviceError, Memory as MemoryError}
 use Rattle.nb_session.specs.Ended.{EndsFirst, EndsNext, EndsTurn}
 use Rattle.nb_session.specs.Short.{RanOut}
@@ -46,16 +48,16 @@ module _ {T : Type 0} (refused : T → Bool) (task : T → Option Task) (old new
   told_turn = subst (λ (ts : List Turn). Foretells now.given (shown_first ts a) old new) here
 
   -- it is the next one
-  ends_next : (ran_out : Type 0) → EndsTurn ran_out old new (name_of a) t now asker.number turn → EndsNext ran_out old new (name_of a) t now asker.number
-  ends_next ran_out ends = subst (EndsFirst ran_out old new (name_of a) t now asker.number) (sym (has ∙ here)) ends
+  ends_next : (ran_out ended : Type 0) → EndsTurn ran_out ended old new (name_of a) t now asker.number turn → EndsNext ran_out ended old new (name_of a) t now asker.number
+  ends_next ran_out ended ends = subst (EndsFirst ran_out ended old new (name_of a) t now asker.number) (sym (has ∙ here)) ends
 
   -- the turn was taken
-  takes_turn : (value : T) (noted : Bool) → moved ≡ record { number = asker.number; told = asker.told; statements = rest; task = task value; refused = noted }
+  takes_turn : (value : T) (noted : Bool) (danger : Option (List ℕ)) → moved ≡ record { number = asker.number; told = asker.told; statements = rest; task = task value; refused = noted; danger = danger }
       → Turns asker.told refused task (Ok value) old new a b t now asker.number turn tail more → TakesNext (refused value) (Ok tt) old new a b t now asker moved
-  takes_turn value noted same turns = record {
+  takes_turn value noted danger same turns = record {
     grows = turns.grows;
     plays = λ told. plays_one (Ok (refused value)) (turns.plays (told_turn told));
-    ends = λ told. ends_next (RanOut {T = Unit {0}} (Ok tt)) (record { unchanged = (turns.ends (told_turn told)).unchanged; short = λ ran done. absurd ran });
+    ends = λ told. ends_next (RanOut {T = Unit {0}} (Ok tt)) (Unit {0}) (record { unchanged = (turns.ends (told_turn told)).unchanged; short = λ ran done. absurd ran; files = (turns.ends (told_turn told)).files });
     todo = λ told.
         ap (λ (x : Asker). slice_index_or (one_turn asker.number now).1.todo (x.number - 1) []) same
         ∙ ap (λ (p : Played). slice_index_or p.1.todo (asker.number - 1) []) one_is ∙ taken_todo asker.number now turn (tail ++ more) (has ∙ here)
@@ -75,7 +77,7 @@ module _ {T : Type 0} (refused : T → Bool) (task : T → Option Task) (old new
         (plays_one (Err error) (turns.plays (told_turn told)));
     ends = λ told.
         let here_ends = turns.ends (told_turn told) in
-        ends_next (RanOut {T = Unit {0}} (Err e)) (record { unchanged = here_ends.unchanged; short = λ ran done. here_ends.short (subst (λ (f : RunError). RanOut {T = T} (Err f)) is.1 ran) done });
+        ends_next (RanOut {T = Unit {0}} (Err e)) ⊥ (record { unchanged = here_ends.unchanged; short = λ ran done. here_ends.short (subst (λ (f : RunError). RanOut {T = T} (Err f)) is.1 ran) done; files = here_ends.files });
     todo = λ told. tt;
     goes = λ told. tt;
   }
@@ -115,25 +117,28 @@ module _ (tells : Bool) (old new : World) (faults faults' : FaultCount) (a b : H
         → Steps tells answer old new faults faults' a b asker moved
     step_failed error answer handed turned counts = record {
       refused = false;
-      noted = on_handed answer handed;
+      noted = on_handed (moved.refused ≡ (asker.refused || false)) answer handed;
       told = kept;
+      danger = on_handed (Finds tells old a asker.task asker.statements asker.danger moved.danger) answer handed;
       takes = λ now t told ready going has goes. takes_none refused task old new a b t now asker moved turn tail rest here has error answer false handed (turned now t told ready going (has ∙ here) goes);
       others = others;
       cause = counts_handed error T answer faults faults' handed counts;
     }
       where
-        on_handed : (answer : Result (Unit {0}) RunError) → IsErr answer × IsErrAnd answer (λ e. e ≡ error) → OnOk answer (moved.refused ≡ (asker.refused || false))
-        on_handed (Ok done) is = absurd is.1
-        on_handed (Err e) is = tt
+        on_handed : (P : Type 0) (answer : Result (Unit {0}) RunError) → IsErr answer × IsErrAnd answer (λ e. e ≡ error) → OnOk answer P
+        on_handed P (Ok done) is = absurd is.1
+        on_handed P (Err e) is = tt
 
-    step_taken : (value : T) → moved ≡ record { number = asker.number; told = asker.told; statements = rest; task = task value; refused = asker.refused || refused value } → Turned (Ok value) → faults' ≡ faults
+    step_taken : (value : T) (danger : Option (List ℕ)) → moved ≡ record { number = asker.number; told = asker.told; statements = rest; task = task value; refused = asker.refused || refused value; danger = danger }
+        → Finds tells old a asker.task asker.statements asker.danger danger → Turned (Ok value) → faults' ≡ faults
         → Steps tells (Ok tt) old new faults faults' a b asker moved
-    step_taken value same turned counts = record {
+    step_taken value danger same finds turned counts = record {
       refused = refused value;
       noted = ap (λ (x : Asker). x.refused) same;
       told = kept;
+      danger = subst (Finds tells old a asker.task asker.statements asker.danger) (sym (ap (λ (x : Asker). x.danger) same)) finds;
       takes = λ now t told ready going has goes.
-          takes_turn refused task old new a b t now asker moved turn tail rest here has value (asker.refused || refused value) same (turned now t told ready going (has ∙ here) goes);
+          takes_turn refused task old new a b t now asker moved turn tail rest here has value (asker.refused || refused value) danger same (turned now t told ready going (has ∙ here) goes);
       others = others;
       cause = counts;
     }
@@ -153,27 +158,28 @@ module _ (tells : Bool) (old new : World) (faults faults' : FaultCount) (a b : H
     went_failed error answer handed went counts =
         step_failed left_refused (left_task now_task) (task_first task) (task_rest task) asker.statements (going_on asker task is) error answer handed (came (Err error) went) counts
 
-    went_taken : (left : Left) → moved ≡ record { number = asker.number; told = asker.told; statements = asker.statements; task = left_task now_task left; refused = asker.refused || left_refused left } → Went (Ok left) → faults' ≡ faults
+    went_taken : (left : Left) → moved ≡ record { number = asker.number; told = asker.told; statements = asker.statements; task = left_task now_task left; refused = asker.refused || left_refused left; danger = asker.danger } → Went (Ok left) → faults' ≡ faults
         → Steps tells (Ok tt) old new faults faults' a b asker moved
     went_taken left same went counts =
-        step_taken left_refused (left_task now_task) (task_first task) (task_rest task) asker.statements (going_on asker task is) left same (came (Ok left) went) counts
+        step_taken left_refused (left_task now_task) (task_first task) (task_rest task) asker.statements (going_on asker task is) left asker.danger same
+        (subst (λ (x : Option Task). Finds tells old a x asker.statements asker.danger asker.danger) (sym is) refl) (came (Ok left) went) counts
 
     -- the same is under way: nothing more is noted
-    pub went_same : (left : Left) → left ≡ Same → moved ≡ record { number = asker.number; told = asker.told; statements = asker.statements; task = now_task; refused = asker.refused } → Went (Ok left) → faults' ≡ faults
+    pub went_same : (left : Left) → left ≡ Same → moved ≡ record { number = asker.number; told = asker.told; statements = asker.statements; task = now_task; refused = asker.refused; danger = asker.danger } → Went (Ok left) → faults' ≡ faults
         → Steps tells (Ok tt) old new faults faults' a b asker moved
     went_same left is same went counts =
-        went_taken left (same ∙ ap {A = Bool} {B = Asker} (λ noted. record { number = asker.number; told = asker.told; statements = asker.statements; task = now_task; refused = noted }) (sym (or_false asker.refused)) ∙ of_left (sym is)) went counts
+        went_taken left (same ∙ ap {A = Bool} {B = Asker} (λ noted. record { number = asker.number; told = asker.told; statements = asker.statements; task = now_task; refused = noted; danger = asker.danger }) (sym (or_false asker.refused)) ∙ of_left (sym is)) went counts
       where
-        of_left : {x y : Left} → x ≡ y → ◌≡◌ {A = Asker} (record { number = asker.number; told = asker.told; statements = asker.statements; task = left_task now_task x; refused = asker.refused || left_refused x })
-            (record { number = asker.number; told = asker.told; statements = asker.statements; task = left_task now_task y; refused = asker.refused || left_refused y })
-        of_left e = ap {A = Left} {B = Asker} (λ l. record { number = asker.number; told = asker.told; statements = asker.statements; task = left_task now_task l; refused = asker.refused || left_refused l }) e
+        of_left : {x y : Left} → x ≡ y → ◌≡◌ {A = Asker} (record { number = asker.number; told = asker.told; statements = asker.statements; task = left_task now_task x; refused = asker.refused || left_refused x; danger = asker.danger })
+            (record { number = asker.number; told = asker.told; statements = asker.statements; task = left_task now_task y; refused = asker.refused || left_refused y; danger = asker.danger })
+        of_left e = ap {A = Left} {B = Asker} (λ l. record { number = asker.number; told = asker.told; statements = asker.statements; task = left_task now_task l; refused = asker.refused || left_refused l; danger = asker.danger }) e
 
     -- or something else is
-    pub went_other : (left : Left) (taken : Taken) → left ≡ Other taken → moved ≡ record { number = asker.number; told = asker.told; statements = asker.statements; task = taken.task; refused = asker.refused || taken.refused } → Went (Ok left)
+    pub went_other : (left : Left) (taken : Taken) → left ≡ Other taken → moved ≡ record { number = asker.number; told = asker.told; statements = asker.statements; task = taken.task; refused = asker.refused || taken.refused; danger = asker.danger } → Went (Ok left)
         → faults' ≡ faults → Steps tells (Ok tt) old new faults faults' a b asker moved
     went_other left taken is same went counts =
         went_taken left
-        (same ∙ ap {A = Left} {B = Asker} (λ l. record { number = asker.number; told = asker.told; statements = asker.statements; task = left_task now_task l; refused = asker.refused || left_refused l }) (sym is))
+        (same ∙ ap {A = Left} {B = Asker} (λ l. record { number = asker.number; told = asker.told; statements = asker.statements; task = left_task now_task l; refused = asker.refused || left_refused l; danger = asker.danger }) (sym is))
         went counts
 
   -- the first turn of a statement
@@ -187,10 +193,13 @@ module _ (tells : Bool) (old new : World) (faults faults' : FaultCount) (a b : H
     began_failed error answer handed began counts =
         step_failed (λ (x : Taken). x.refused) (λ (x : Taken). x.task) (Begins statement) [] rest (beginning asker statement rest is first) error answer handed (λ now t told ready going at goes. began now t (map Begins rest) told ready going at) counts
 
-    pub began_taken : (taken : Taken) → moved ≡ record { number = asker.number; told = asker.told; statements = rest; task = taken.task; refused = asker.refused || taken.refused } → Began (Ok taken) → faults' ≡ faults
+    pub began_taken : (taken : Taken) (danger : Option (List ℕ)) → moved ≡ record { number = asker.number; told = asker.told; statements = rest; task = taken.task; refused = asker.refused || taken.refused; danger = danger }
+        → ((t : Trail) → IsTrue tells → IsOpen old a t → danger ≡ danger_after statement t.base.image asker.danger) → Began (Ok taken) → faults' ≡ faults
         → Steps tells (Ok tt) old new faults faults' a b asker moved
-    began_taken taken same began counts =
-        step_taken (λ (x : Taken). x.refused) (λ (x : Taken). x.task) (Begins statement) [] rest (beginning asker statement rest is first) taken same (λ now t told ready going at goes. began now t (map Begins rest) told ready going at) counts
+    began_taken taken danger same finds began counts =
+        step_taken (λ (x : Taken). x.refused) (λ (x : Taken). x.task) (Begins statement) [] rest (beginning asker statement rest is first) taken danger same
+        (subst (λ (x : Option Task). Finds tells old a x asker.statements asker.danger danger) (sym is)
+        (subst (λ (ss : List Statement). Finds tells old a None ss asker.danger danger) (sym first) finds)) (λ now t told ready going at goes. began now t (map Begins rest) told ready going at) counts
 
 -- a session that has not finished, with nothing under way, has a statement left
 pub begun_within : (asker : Asker) (all : List Statement) (next : ℕ) → (IsDone (left_of asker) → ⊥) → asker.statements ≡ drop next all → asker.task ≡ None → next < length all

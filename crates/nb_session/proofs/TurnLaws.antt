@@ -1,6 +1,9 @@
 -- One turn, by what it made of the database and by its line.
 use Rattle.std.proofs.Common.{◌≡◌, ◌<◌, ℕ, ◌-◌, List, [], ◌∷◌, ◌++◌, Bool, false, refl, sym, ap, subst, ◌∙◌, true, Result, Ok, Err, IsErr, IfOk, Option, Some, None, if◌then◌else◌}
 use Rattle.nb_session.proofs.Common.{slice_index_or, append-nil, true≢false, name_of, World, Fault, Refused, Device, Memory, Refusal, RunError, Reply, Statement, Foretells, IsMaking, line_text, MadeFile, Turn, Begins, Seen, status_after, Now, Played, base_now, outcome, take_turn, Trail, first_turn, turn, status_plain, IsSingle, IsNoRefusal, Held, Left, Other, Task, Taken, Told, Says, Grows, shown_by, Acts, MayAct, TaskFits, left_refused, left_task, task_left, IsReady, HasEnded, is_refusal, EndsEarly, SaysLine, as_played, touching, GoesFurther, IsBehind, Turns, Plays, told_line, told_reply, told_turns, false_true, IfOk-from_err}
+use Rattle.nb_session.proofs.FilesLaws.{files_as, files_said}
+use Rattle.nb_session.specs.Files.{is_end, is_finish}
+use Rattle.nb_session.specs.Short.{CameToEnd}
 use Rattle.nb_model.specs.declared.reply.Reply.TheVariants.{Refused as RefusedBy}
 use Rattle.nb_model.proofs.UsageLaws.{never_usage}
 use Rattle.nb_lines.specs.Brief.{is_brief}
@@ -15,6 +18,11 @@ pub plays_err : {T : Type 0} (refused : T → Bool) (result : Result T RunError)
     → ((e : RunError) → Plays (Err e) old new before after t now p files) → Plays (as_played refused result) old new before after t now p files
 plays_err refused (Ok value) old new before after t now p files is plays = absurd (cc (is))
 plays_err refused (Err e) old new before after t now p files is plays = plays e
+
+-- a failure is no end
+failed_none : {S : Type 0} (answer : Result S RunError) → IsErr answer → CameToEnd answer → ⊥
+failed_none (Ok value) failed came = cc (failed)
+failed_none (Err error) failed came = came
 
 -- A turn of the session that has it to do next, and `tail` and `more` after it.
 module _ {T S : Type 0} (how : Told) (reply : T → Option Reply) (result : Result T Fault) (refused : S → Bool) (task : S → Option Task) (old mid new : World) (e0 e1 : Held) (t : Trail) (now : Now) (session : ℕ)
@@ -35,7 +43,11 @@ module _ {T S : Type 0} (how : Told) (reply : T → Option Reply) (result : Resu
   turns_failed answer failed lacks = record {
     grows = may.grows;
     plays = λ told. plays_err refused answer old mid e0 e1 t now played (touching session u tail now) failed (event_failed how old mid mid e0 e1 t now session u tail more result reply (acting told) (marks told));
-    ends = λ told. record { unchanged = (acting told).unchanged; short = λ ran done. lacks (may.acts told) ran };
+    ends = λ told. record {
+      unchanged = (acting told).unchanged;
+      short = λ ran done. lacks (may.acts told) ran;
+      files = files_as (is_end u) _ _ old mid (name_of e0) t _ (λ (m : CameToEnd answer × (is_finish u ≡ true)). absurd (failed_none answer failed m.0)) (acting told).files;
+    };
     behind = λ told. IfOk-from_err answer _ failed;
   }
 
@@ -48,7 +60,7 @@ module _ {T S : Type 0} (how : Told) (reply : T → Option Reply) (result : Resu
         let acts = acting told in
         subst (λ (b : Bool). Plays (Ok b) old mid e0 e1 t now played (touching session u tail now)) (sym not_refused)
         (event_quiet how old mid mid e0 e1 t now session u tail more result reply acts (marks told) has place ready makes (quiet _ acts.says));
-    ends = λ told. record { unchanged = (acting told).unchanged; short = λ ran done. absurd ran };
+    ends = λ told. record { unchanged = (acting told).unchanged; short = λ ran done. absurd ran; files = files_as (is_end u) _ _ old mid (name_of e0) t _ (λ (m : Unit {0} × (is_finish u ≡ true)). (has, m.1)) (acting told).files };
     behind = behind;
   }
 
@@ -72,6 +84,7 @@ module _ {T S : Type 0} (how : Told) (reply : T → Option Reply) (result : Resu
           record {
             unchanged = λ only. says.still.files ∙ acts.unchanged only;
             short = λ ran done. absurd (lined (subst (λ (x : Option Reply). says_done x ≡ true) (is_said _ acts.says) done) ran);
+            files = files_said line_said mid new _ says old (is_end u) _ (name_of e0) t _ (files_as (is_end u) _ _ old mid (name_of e0) t _ (λ (m : CameToEnd answer × (is_finish u ≡ true)). absurd (failed_none answer failed m.0)) acts.files);
           };
       behind = λ told. IfOk-from_err answer _ failed;
     }
@@ -85,7 +98,11 @@ module _ {T S : Type 0} (how : Told) (reply : T → Option Reply) (result : Resu
           let acts = acting (before told) in
           let reply_is = is_said _ acts.says in
           event_said how old mid new e0 e1 t now session u tail more result reply acts (marks (before told)) has place ready makes r reply_is line_said says (refused value) said (status reply_is);
-      ends = λ told. record { unchanged = λ only. says.still.files ∙ (acting (before told)).unchanged only; short = λ ran done. absurd ran };
+      ends = λ told. record {
+        unchanged = λ only. says.still.files ∙ (acting (before told)).unchanged only;
+        short = λ ran done. absurd ran;
+        files = files_said line_said mid new _ says old (is_end u) _ (name_of e0) t _ (files_as (is_end u) _ _ old mid (name_of e0) t _ (λ (m : Unit {0} × (is_finish u ≡ true)). (has, m.1)) (acting (before told)).files);
+      };
       behind = λ told. behind (before told);
     }
 

@@ -1,6 +1,7 @@
 -- A script that is played: its schedule, and then rounds until all sessions have finished.
 use Rattle.std.proofs.Common.{◌≡◌, ℕ, zero, suc, ◌+◌, ◌-◌, ◌≤◌, List, [], ◌∷◌, ◌++◌, length, map, get_or, append_assoc, inl, inr, refl, sym, ap, subst, ◌∙◌, arith, Bool, IsTrue, true, false, Result, Ok, Err, Some, None, Contains, slice_get}
-use Rattle.nb_session.proofs.Common.{AllByRecursion, range_with_len, slice_index_or, cases_lt, append-nil, get_or_past, length-map, get_or-map, is_delta, World, IsTimely, CountsRun, FaultCount, RunError, is_free_entry, Foretells, IsMaking, MadeFile, under_way, AreAmong, Turn, Begins, Event, Now, Played, one_turn, play, rounds, all_sessions, files_made, AreFinished, begun, steps_of, after_steps, Trail, own_in_use, free_play, made_once, play-append, no_main, Scene, scene, agent_of, AllDone, TakesTurns, EndsWith, FailsBehind, IsAskable, IsSession, Plan, Held, name_of, Told, Grows, Asker, HasTodo, left_of, IsFit, any_refused, fresh_asker, first_askers, IsReady, Plays, shown_next, touching_by, PlaysInTurn, told_events, told_turns, all_append, Contains-append_left}
+use Rattle.nb_session.proofs.Common.{AllByRecursion, range_with_len, slice_index_or, cases_lt, append-nil, get_or_past, length-map, get_or-map, is_delta, World, IsTimely, CountsRun, FaultCount, RunError, is_free_entry, Foretells, IsMaking, MadeFile, under_way, AreAmong, Turn, Begins, Event, Now, Played, one_turn, play, rounds, all_sessions, files_made, AreFinished, begun, steps_of, after_steps, Trail, own_in_use, free_play, made_once, play-append, no_main, Scene, scene, agent_of, AllDone, TakesTurns, EndsWith, FailsBehind, IsAskable, IsSession, Plan, Held, name_of, Told, Grows, Asker, HasTodo, left_of, IsFit, any_refused, fresh_asker, first_askers, IsReady, Plays, shown_next, touching_by, PlaysInTurn, told_events, told_turns, all_append, Contains-append_left, quiet_begun}
+use Rattle.nb_session.proofs.FilesLaws.{files_begun}
 use Rattle.nb_sched.specs.Turns.{IsReady as AreReady}
 use Rattle.nb_sched.proofs.TurnLaws.{turns_hold}
 use Rattle.nb_session.proofs.EndLaws.{turns_end}
@@ -145,7 +146,10 @@ module _ {H : Type 0} (tells : Bool) (told : IsTrue tells) (world : H → World)
             mid = after.host;
             between = after.shared;
             taken = far.in_turn;
-            last = plays_none (world after.host) after.shared (after_steps t (steps_of p.0)) p.1 timely_then ready_then;
+            last = (
+              plays_none (world after.host) after.shared (after_steps t (steps_of p.0)) p.1 timely_then ready_then,
+              files_begun (world after.host) (name_of after.shared) (after_steps t (steps_of p.0)) (quiet_begun (world after.host) timely_then),
+            );
           };
           guids = λ some. given_taken (world old) (world after.host) order now making far.plays.done.given some;
         }

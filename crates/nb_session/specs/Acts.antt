@@ -22,7 +22,8 @@ use Rattle.nb_gather.specs.Making.{IsKept, IsUnfinishedOr}
 use Rattle.nb_state.specs.Open.{Held, IsOpen, name_of}
 use Rattle.nb_state.specs.Does.{WhereEnded}
 use Rattle.nb_engine.specs.Tries.{WhereMemory}
-use Rattle.nb_session.specs.Replies.{only_told}
+use Rattle.nb_session.specs.Replies.{HasEnded, only_told}
+use Rattle.nb_session.specs.Files.{TurnLeaves}
 use Rattle.nb_session.specs.Short.{LacksLast}
 
 -- what is to be said, if anything; a failure says nothing of it
@@ -73,7 +74,8 @@ pub record TurnLeft (old : World) (name : List ℕ) (t : Trail) (strokes : List 
 
 -- The strokes of a turn are made in order, and what it is to say is answered. Once it has ended with a value or a refusal the database is
 -- open after its steps, and the file that the turn made whole is kept for good. Where it only tells something no file has changed, also where a call of
--- the host failed in it. Where memory ran out its last operation wasn't made. As many pages may be in memory as before.
+-- the host failed in it. Where memory ran out its last operation wasn't made. What it leaves of the database's two
+-- files that no image shows is as TurnLeaves says. As many pages may be in memory as before.
 pub record Acts {T : Type 0} (reply : T → Option Reply) (result : Result T Fault) (old new : World) (before after : Held) (t : Trail) (now : Now) (session : ℕ) (turn : Turn) (made : List MadeFile) : Type 0 where
   pub says : Says reply result (outcome session turn now).reply
   pub left : Changes old new (Touched (name_of before) made)
@@ -84,6 +86,7 @@ pub record Acts {T : Type 0} (reply : T → Option Reply) (result : Result T Fau
   pub kept : WhereEnded result (AreKept new (files_made (event_of session turn (outcome session turn now) ∷ [])))
   pub unchanged : only_told (event_of session turn (outcome session turn now)) ≡ true → new.files ≡ old.files
   pub short : WhereMemory result (LacksLast old new (name_of before) t (outcome session turn now).strokes)
+  pub files : TurnLeaves (HasEnded result) old new (name_of before) t turn (outcome session turn now).strokes
   pub name : name_of after ≡ name_of before
   pub cap : after.cap ≡ before.cap
 

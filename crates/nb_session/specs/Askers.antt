@@ -2,9 +2,9 @@
 use Rattle.std.proofs.Common.{sym, ◌∙◌}
 use Rattle.std.specs.Prelude.{◌≡◌, ◌≢◌, ◌<◌, ◌^◌, ℕ, zero, suc, ◌+◌, ◌-◌, Bool, false, List, [], ◌∷◌, ◌++◌, length, map, replicate, Option, Some, None}
 use Rattle.std.specs.List.{AllByRecursion, list_any, slice_index_or}
-use Rattle.nb_fields.specs.States.{merge_state}
+use Rattle.nb_fields.specs.States.{normal_state, merge_state}
 use Rattle.nb_model.specs.declared.statement.Statement.{Statement}
-use Rattle.nb_model.specs.declared.statement.Statement.TheVariants.{EndBackup, Backup as BackupTo, BackupSince, CopyTo, Check, Reclaim, CreateTable, DropTable, Insert, Update, Delete, Get, Scan}
+use Rattle.nb_model.specs.declared.statement.Statement.TheVariants.{EndBackup, Activate, Backup as BackupTo, BackupSince, CopyTo, Check, Reclaim, CreateTable, DropTable, Insert, Update, Delete, Get, Scan}
 use Rattle.nb_model.specs.Outcomes.{Turn, Begins, Copies, ClosesBackup, ClosesCopy, Ends, Merges, Finishes}
 use Rattle.nb_model.specs.Run.{Now, all_sessions}
 use Rattle.nb_copy.specs.FileCopying.{file_count, file_next}
@@ -21,6 +21,7 @@ use Rattle.nb_session.specs.declared.task.Task.TheVariants.{Backup, Copy, End, M
 -- the statement is done in one turn
 abbrev pub IsOneTurn : Statement → Type 0
 IsOneTurn EndBackup = ⊥
+IsOneTurn Activate = ⊥
 IsOneTurn (BackupTo level name) = ⊥
 IsOneTurn (BackupSince guid name) = ⊥
 IsOneTurn (CopyTo name) = ⊥
@@ -42,6 +43,12 @@ abbrev pub IsCheck : Statement → Type 0
 IsCheck Check = Unit {0}
 IsCheck Reclaim = Unit {0}
 IsCheck other = ⊥
+
+-- the statement ends a backup of the open database, unless it is refused: in the normal state `activate` ends none
+abbrev pub IsEnd : Statement → Held → Type 0
+IsEnd EndBackup held = Unit {0}
+IsEnd Activate held = held.files.state ≢ normal_state
+IsEnd other held = ⊥
 
 -- the statement asks for a backup
 abbrev pub IsBackup : Statement → Type 0
@@ -66,6 +73,8 @@ pub record Asker : Type 0 where
   pub task : Option Task
   -- whether a statement of it was refused
   pub refused : Bool
+  -- the pages in danger that its last check has found, if one was done
+  pub danger : Option (List ℕ)
 
 -- so many turns, and then a last one: the first of them, and those after it
 abbrev pub copy_first : (left : ℕ) → (last : Turn) → Turn
@@ -171,7 +180,7 @@ keeps_fit session other before after apart keeps fit = record { asks = fit.asks;
 
 -- a session that has all of its statements to do
 abbrev pub fresh_asker : Told → Plan → (session : ℕ) → Asker
-fresh_asker told plan session = record { number = session; told = told; statements = statements_of plan session; task = None; refused = false }
+fresh_asker told plan session = record { number = session; told = told; statements = statements_of plan session; task = None; refused = false; danger = None }
 
 -- the sessions of a script before their first turns
 abbrev pub first_askers : Told → Plan → List Asker

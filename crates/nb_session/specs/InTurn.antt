@@ -12,6 +12,7 @@ use Rattle.nb_model.specs.Trail.{Trail}
 use Rattle.nb_state.specs.Open.{Held, name_of}
 use Rattle.nb_session.specs.declared.told.Told.{Told}
 use Rattle.nb_session.specs.Ended.{EndsNext}
+use Rattle.nb_session.specs.Files.{LeavesFiles}
 use Rattle.nb_session.specs.Short.{RanOut}
 use Rattle.nb_session.specs.Steps.{touching_by}
 use Rattle.nb_session.specs.Stops.{Plays}
@@ -26,7 +27,7 @@ HasNone session now = slice_index_or now.todo (session - 1) [] ≡ []
 pub record TakesOne (old new : World) (before after : Held) (t : Trail) (told : Told) (now : Now) (session : ℕ) : Type 0 where
   pub refused : Bool
   pub plays : Plays (Ok refused) old new before after t now (told_turns told (one_turn session now)) (touching_by session now)
-  pub ends : EndsNext ⊥ old new (name_of before) t now session
+  pub ends : EndsNext ⊥ (Unit {0}) old new (name_of before) t now session
 
 -- Turns were taken in this order, each from the host and the database at which the one before it ended. A session that has none does nothing.
 abbrev pub InTurn : {H : Type 0} → (world : H → World) → Told → (order : List ℕ) → (old new : H) → (before after : Held) → Trail → Now → Type 0
@@ -38,12 +39,12 @@ InTurn {H} world told (session ∷ order) old new before after t now =
 
 -- The last thing done of a run, of which these numbers are left: what waits is written out after all turns, or a turn ended early, or that.
 abbrev pub EndsBy : Result Bool RunError → Told → (rest : List ℕ) → (old new : World) → (before after : Held) → Trail → Now → Type 0
-EndsBy (Ok refused) told [] old new before after t now = Plays (Ok false) old new before after t now ([], now) []
+EndsBy (Ok refused) told [] old new before after t now = Plays (Ok false) old new before after t now ([], now) [] × LeavesFiles false ⊥ old new (name_of before) t []
 EndsBy (Ok refused) told (session ∷ rest) old new before after t now = ⊥
-EndsBy (Err stop) told [] old new before after t now = Plays (Err stop) old new before after t now ([], now) []
+EndsBy (Err stop) told [] old new before after t now = Plays (Err stop) old new before after t now ([], now) [] × LeavesFiles false ⊥ old new (name_of before) t []
 EndsBy (Err stop) told (session ∷ rest) old new before after t now =
     Plays (Err stop) old new before after t now (told_turns told (one_turn session now)) (touching_by session now)
-    × EndsNext (RanOut {T = Bool} (Err stop)) old new (name_of before) t now session
+    × EndsNext (RanOut {T = Bool} (Err stop)) ⊥ old new (name_of before) t now session
 
 -- The turns of an order were taken one by one, to the end of all or up to one that ended early, which was the last thing done then.
 pub record RunsInTurn {H : Type 0} (world : H → World) (result : Result Bool RunError) (old new : H) (before after : Held) (t : Trail) (told : Told) (now : Now) (order : List ℕ) : Type 0 where

@@ -6,9 +6,11 @@ pub mod Todo
 pub mod Told
 pub mod Replies
 pub mod Short
+pub mod Files
 pub mod Ended
 pub mod Says
 pub mod Askers
+pub mod Dangers
 pub mod Acts
 pub mod Steps
 pub mod Others

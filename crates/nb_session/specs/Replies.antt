@@ -1,9 +1,11 @@
 -- Replies as they are answered.
-use Rattle.std.specs.Prelude.{◌≡◌, [], ◌∷◌, length, Option, Some, Result, Ok, Err, Bool, true, false}
+use Rattle.std.specs.Prelude.{◌≡◌, ℕ, [], ◌∷◌, length, Option, Some, Result, Ok, Err, Bool, true, false}
 use Rattle.nb_host.specs.declared.faults.Fault.{Fault}
 use Rattle.nb_host.specs.declared.faults.Fault.TheVariants.{Refused, Device, Memory}
 use Rattle.nb_model.specs.declared.reply.Reply.{Reply}
-use Rattle.nb_model.specs.declared.reply.Reply.TheVariants.{Refused as RefusedBy, HeaderShown}
+use Rattle.nb_model.specs.declared.reply.Reply.TheVariants.{Scn, Activated, Refused as RefusedBy, HeaderShown}
+use Rattle.nb_model.specs.declared.statement.Statement.{Statement}
+use Rattle.nb_model.specs.declared.statement.Statement.TheVariants.{Activate}
 use Rattle.nb_model.specs.Account.{Base}
 use Rattle.nb_model.specs.Image.{image_size, image_state, image_scn, image_guid, is_forced, is_read_only}
 use Rattle.nb_model.specs.Lines.{flag}
@@ -28,6 +30,11 @@ HasEnded (Ok value) = Unit
 HasEnded (Err (Refused refusal)) = Unit
 HasEnded (Err Device) = ⊥
 HasEnded (Err Memory) = ⊥
+
+-- what a statement that ends a backup says once all is merged
+abbrev pub end_reply : Statement → (pages scn : ℕ) → Reply
+end_reply Activate pages scn = Activated pages scn
+end_reply other pages scn = Scn scn
 
 -- what is shown of a header, and of the difference file beside it
 abbrev pub header_of : Base → Reply

@@ -16,6 +16,11 @@ RanOut (Ok value) = ⊥
 RanOut (Err Device) = ⊥
 RanOut (Err Memory) = Unit {0}
 
+-- it was done to its end
+abbrev pub CameToEnd : {T : Type 0} → Result T RunError → Type 0
+CameToEnd (Ok value) = Unit {0}
+CameToEnd (Err error) = ⊥
+
 -- a reply, if there is one, that says what was done: of no other is it promised that its line needs no memory then
 abbrev pub says_done : Option Reply → Bool
 says_done None = true

@@ -18,9 +18,10 @@ use Rattle.nb_session.specs.declared.task.Left.{Left}
 use Rattle.nb_session.specs.declared.task.Task.{Task}
 use Rattle.nb_session.specs.declared.told.Told.{Told}
 use Rattle.nb_session.specs.Askers.{Asker, HasTodo, KeepsOthers, left_refused, left_task, task_first, task_rest, task_todo, todo_of}
+use Rattle.nb_session.specs.Dangers.{Finds}
 use Rattle.nb_session.specs.Ready.{IsReady, TaskGoes}
 use Rattle.nb_session.specs.Ended.{EndsTurn, EndsNext}
-use Rattle.nb_session.specs.Short.{RanOut}
+use Rattle.nb_session.specs.Short.{RanOut, CameToEnd}
 use Rattle.nb_session.specs.Stops.{Plays}
 use Rattle.nb_session.specs.Told.{told_turns}
 
@@ -69,7 +70,7 @@ pub record Turns {T : Type 0} (told : Told) (refused : T → Bool) (task : T →
   pub grows : Grows old new
   pub plays : Foretells now.given (shown_by turn before) old new
       → Plays (as_played refused result) old new before after t now (told_turns told (take_turn session (turn ∷ (tail ++ more)) now)) (touching session turn tail now)
-  pub ends : Foretells now.given (shown_by turn before) old new → EndsTurn (RanOut result) old new (name_of before) t now session turn
+  pub ends : Foretells now.given (shown_by turn before) old new → EndsTurn (RanOut result) (CameToEnd result) old new (name_of before) t now session turn
   pub behind : Foretells now.given (shown_by turn before) old new → IfOk result (λ value. IsBehind new after session turn tail now (task value))
 
 -- What is under way took its next turn, where the session has that to do and it goes on from where it is. It is `now_task` then, where it goes on.
@@ -83,7 +84,7 @@ GoesFurther told (Some task) now_task result old new before after t now session 
 pub record TakesNext (refused : Bool) (result : Result (Unit {0}) RunError) (old new : World) (before after : Held) (t : Trail) (now : Now) (asker moved : Asker) : Type 0 where
   pub grows : Grows old new
   pub plays : Foretells now.given (shown_next asker before) old new → Plays (as_played (λ done. refused) result) old new before after t now (told_turns asker.told (one_turn asker.number now)) (touching_by asker.number now)
-  pub ends : Foretells now.given (shown_next asker before) old new → EndsNext (RanOut result) old new (name_of before) t now asker.number
+  pub ends : Foretells now.given (shown_next asker before) old new → EndsNext (RanOut result) (CameToEnd result) old new (name_of before) t now asker.number
   pub todo : Foretells now.given (shown_next asker before) old new → OnOk result (HasTodo moved (one_turn asker.number now).1)
   pub goes : Foretells now.given (shown_next asker before) old new → OnOk result (TaskGoes asker.number new after (base_now (one_turn asker.number now).1).frozen moved.task)
 
@@ -93,6 +94,7 @@ pub record Steps (tells : Bool) (result : Result (Unit {0}) RunError) (old new :
   pub refused : Bool
   pub noted : OnOk result (moved.refused ≡ (asker.refused || refused))
   pub told : moved.told ≡ asker.told
+  pub danger : OnOk result (Finds tells old before asker.task asker.statements asker.danger moved.danger)
   pub takes : (now : Now) (t : Trail) → IsTrue tells → IsReady old before t now → IsMaking now → HasTodo asker now → TaskGoes asker.number old before t.base.frozen asker.task
       → TakesNext refused result old new before after t now asker moved
   pub others : KeepsOthers asker.number before after

@@ -9,8 +9,10 @@ ghost use Rattle.nb_model.specs.Outcomes.{Begins, Turn};
 ghost use Rattle.nb_model.specs.Run.{Now};
 ghost use Rattle.nb_model.specs.Trail.{Trail};
 ghost use Rattle.nb_lines.specs.Brief.{HasRoom, is_brief};
+ghost use Rattle.nb_state.specs.Open.{IsOpen};
 ghost use Rattle.nb_script.specs.Asked.{IsFurther};
 ghost use Rattle.nb_session.specs.Askers.{IsOneTurn, KeepsOthers, TaskFits};
+ghost use Rattle.nb_session.specs.Dangers.{danger_after};
 ghost use Rattle.nb_session.specs.declared.task.Left.TheVariants.{Other};
 ghost use Rattle.nb_session.specs.Ready.{IsReady};
 ghost use Rattle.nb_session.specs.Replies.{is_refusal};
@@ -25,7 +27,7 @@ use crate::told::Told;
 use nb_engine::Engine;
 use nb_host::{Host, RunError};
 use nb_lines::{render_in, room};
-use nb_model::{Reply, Statement};
+use nb_model::{PageList, Reply, Statement};
 use std::alloc::Global;
 
 /// Says the line of a reply.
@@ -70,7 +72,7 @@ fn say_in<H: Host>(line: Vec<u8>, host: &mut H, session: u32, reply: &Reply) -> 
 }
 
 /// Says what is told of a reply, if anything is, in memory that was taken before. It wants no more where the reply says what was done.
-fn tell<H: Host>(
+pub(crate) fn tell<H: Host>(
     line: Vec<u8>,
     host: &mut H,
     session: u32,
@@ -121,7 +123,7 @@ pub(crate) fn is_refusal(reply: &Reply) -> bool
 }
 
 /// Does a statement in one turn and says what is told of its reply. Then it is done. The memory for its line is taken first: where memory is short
-/// once something was done, its last operation isn't.
+/// once something was done, its last operation isn't. The pages that a check finds in danger are `danger` then.
 pub fn answer<H: Host>(
     alloc: Global,
     host: &mut H,
@@ -129,18 +131,20 @@ pub fn answer<H: Host>(
     session: u32,
     told: Told,
     statement: &Statement,
+    danger: &mut Option<PageList>,
 ) -> Result<Taken, RunError>
     requires asked { IsFurther statement.now }
     requires single { IsOneTurn statement.now }
     ensures turn { (now : Now) (t : Trail) (more : List Turn) → IsTrue H.tells → IsReady (H.world host.old) engine.old t now → IsMaking now
         → slice_index_or now.todo (session - 1) [] ≡ Begins statement.now ∷ more
         → Turns told (λ taken. taken.refused) (λ taken. taken.task) result (H.world host.old) (H.world host.new) engine.old engine.new t now session (Begins statement.now) [] more }
+    ensures danger { (t : Trail) → IsTrue H.tells → IsOpen (H.world host.old) engine.old t → IfOk result (λ taken. danger.new ≡ danger_after statement.now t.base.image danger.old) }
     ensures fits { IfOk result (λ taken. TaskFits session taken.task engine.new) }
     ensures others { (number : ℕ) → KeepsOthers number engine.old engine.new }
     ensures cause { CountsRun result (H.faults host.old) (H.faults host.new) }
 {
     let line = line_room(alloc)?;
-    let reply = reply_to(do_statement(alloc, host, engine, statement))?;
+    let reply = reply_to(do_statement(alloc, host, engine, statement, danger))?;
     let refused = is_refusal(&reply);
     tell(line, host, session, told, reply)?;
     Ok(Taken {

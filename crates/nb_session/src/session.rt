@@ -6,25 +6,27 @@ ghost use Rattle.nb_model.specs.Going.{IsMaking};
 ghost use Rattle.nb_model.specs.Outcomes.{Begins, Turn};
 ghost use Rattle.nb_model.specs.Run.{Now};
 ghost use Rattle.nb_model.specs.Trail.{Trail};
+ghost use Rattle.nb_state.specs.Open.{IsOpen};
 ghost use Rattle.nb_script.specs.Asked.{IsFurther};
 ghost use Rattle.nb_session.specs.Askers.{TaskFits, KeepsOthers, left_task, task_left};
+ghost use Rattle.nb_session.specs.Dangers.{danger_after};
 ghost use Rattle.nb_session.specs.Ready.{IsReady};
 ghost use Rattle.nb_session.specs.Steps.{GoesFurther, Turns};
 
 use crate::answer::answer;
 use crate::copies::{back_up_on, begin_backup, begin_copy, copy_on};
-use crate::merges::{begin_merge, end_backup, merge_on};
+use crate::merges::{begin_activate, begin_merge, end_backup, merge_on};
 use crate::task::{Left, Taken, Task};
 use crate::told::Told;
 use nb_engine::Engine;
 use nb_host::{Host, RunError};
-use nb_model::Statement;
+use nb_model::{PageList, Statement};
 use nb_sched::Agent;
 use std::alloc::Global;
 use std::marker::Model;
 
-/// A session: how much of its replies is said, its statements, how far it has come, what is under way, and whether a statement of it was
-/// refused.
+/// A session: how much of its replies is said, its statements, how far it has come, what is under way, whether a statement of it was
+/// refused, and the pages in danger that its last check has found.
 #[derive(Drop)]
 pub struct Session<'a> {
     alloc: Global,
@@ -34,6 +36,7 @@ pub struct Session<'a> {
     next: usize,
     task: Option<Task>,
     refused: bool,
+    danger: Option<PageList>,
 }
 
 impl<'a> Model for Session<'a> {
@@ -42,12 +45,12 @@ impl<'a> Model for Session<'a> {
 
     ghost Value = { Asker };
 
-    ghost view = { λ s. record { number = s.number; told = s.told; statements = drop s.next s.statements.now; task = s.task; refused = s.refused } };
+    ghost view = { λ s. record { number = s.number; told = s.told; statements = drop s.next s.statements.now; task = s.task; refused = s.refused; danger = s.danger } };
 
     ghost invariant = { λ s. s.next ≤ length s.statements.now };
 }
 
-/// The first turn of a statement.
+/// The first turn of a statement. The pages that a check finds in danger are `danger` then.
 fn begin_statement<H: Host>(
     alloc: Global,
     host: &mut H,
@@ -55,22 +58,25 @@ fn begin_statement<H: Host>(
     session: u32,
     told: Told,
     statement: &Statement,
+    danger: &mut Option<PageList>,
 ) -> Result<Taken, RunError>
     requires asked { IsFurther statement.now }
     ensures turn { (now : Now) (t : Trail) (more : List Turn) → IsTrue H.tells → IsReady (H.world host.old) engine.old t now → IsMaking now
         → slice_index_or now.todo (session - 1) [] ≡ Begins statement.now ∷ more
         → Turns told (λ taken. taken.refused) (λ taken. taken.task) result (H.world host.old) (H.world host.new) engine.old engine.new t now session (Begins statement.now) [] more }
+    ensures danger { (t : Trail) → IsTrue H.tells → IsOpen (H.world host.old) engine.old t → IfOk result (λ taken. danger.new ≡ danger_after statement.now t.base.image danger.old) }
     ensures fits { IfOk result (λ taken. TaskFits session taken.task engine.new) }
     ensures others { KeepsOthers session engine.old engine.new }
     ensures cause { CountsRun result (H.faults host.old) (H.faults host.new) }
 {
     match statement {
-        Statement::EndBackup => begin_merge(alloc, host, engine, session),
+        Statement::EndBackup => begin_merge(alloc, host, engine, session, statement),
+        Statement::Activate => begin_activate(alloc, host, engine, session, told, statement),
         Statement::Backup { .. } | Statement::BackupSince { .. } => {
             begin_backup(alloc, host, engine, session, statement)
         }
         Statement::CopyTo { name } => begin_copy(alloc, host, engine, session, name),
-        _ => answer(alloc, host, engine, session, told, statement),
+        _ => answer(alloc, host, engine, session, told, statement, danger),
     }
 }
 
@@ -104,7 +110,7 @@ fn go_on<H: Host>(
 impl<'a> Session<'a> {
     /// A session that has all of its statements to do.
     pub fn new(alloc: Global, number: u32, told: Told, statements: &'a [Statement]) -> Session<'a>
-        ensures { result ≡ record { number = number; told = told; statements = statements.now; task = None; refused = false } }
+        ensures { result ≡ record { number = number; told = told; statements = statements.now; task = None; refused = false; danger = None } }
     {
         Session {
             alloc,
@@ -114,6 +120,7 @@ impl<'a> Session<'a> {
             next: 0,
             task: None,
             refused: false,
+            danger: None,
         }
     }
 
@@ -122,6 +129,13 @@ impl<'a> Session<'a> {
         ensures { result ≡ self.now.refused }
     {
         self.refused
+    }
+
+    /// The pages in danger that its last check has found, if one was done. It knows of none then.
+    pub fn take_danger(&mut self) -> Option<PageList>
+        ensures { result ≡ self.old.danger }
+    {
+        self.danger.take()
     }
 }
 
@@ -152,7 +166,8 @@ impl<'a, H: Host> Agent<H, Engine> for Session<'a> {
             },
             None => {
                 let statement = &self.statements[self.next];
-                let taken = begin_statement(alloc, host, engine, session, told, statement)?;
+                let danger = &mut self.danger;
+                let taken = begin_statement(alloc, host, engine, session, told, statement, danger)?;
                 self.next += 1;
                 self.task = taken.task;
                 self.refused |= taken.refused;

@@ -1,14 +1,16 @@
 // The sessions of a script take their turns.
-ghost use Rattle.std.specs.Prelude.{◌≡◌, ℕ, List, IsTrue, IfOk};
+ghost use Rattle.std.specs.Prelude.{◌≡◌, ℕ, List, IsTrue, IfOk, None};
 ghost use Rattle.nb_model.specs.Gifts.{Foretells};
 ghost use Rattle.nb_model.specs.Going.{IsMaking};
 ghost use Rattle.nb_model.specs.Run.{Now, begun};
 ghost use Rattle.nb_model.specs.Trail.{Trail};
-ghost use Rattle.nb_state.specs.Open.{NoPageWaits};
+ghost use Rattle.nb_model.specs.declared.statement.Statement.{Statement};
+ghost use Rattle.nb_state.specs.Open.{IsOpen, NoPageWaits};
 ghost use Rattle.nb_script.specs.Asked.{IsAskable};
 ghost use Rattle.nb_session.specs.Acts.{Grows};
 ghost use Rattle.nb_session.specs.Askers.{first_askers, any_refused as some_refused};
 ghost use Rattle.nb_host.specs.Causes.{CountsRun};
+ghost use Rattle.nb_session.specs.Dangers.{alone, danger_after, first_danger};
 ghost use Rattle.nb_session.specs.Ready.{IsReady};
 ghost use Rattle.nb_session.specs.Todo.{PlaysInTurn};
 
@@ -16,6 +18,7 @@ use crate::session::Session;
 use crate::told::Told;
 use nb_engine::Engine;
 use nb_host::{Host, RunError};
+use nb_model::PageList;
 use nb_script::Script;
 use std::alloc::Global;
 
@@ -54,18 +57,32 @@ fn any_refused<'a>(sessions: &[Session<'a>]) -> bool
     any
 }
 
-/// Takes the turns of all sessions to the end of every one, and says so much of them. Answers whether a statement was refused.
+/// The pages in danger that the last check of session 1 has found, if one was done.
+fn danger_of<'a>(sessions: &mut [Session<'a>]) -> Option<PageList>
+    ensures { result ≡ first_danger sessions.old }
+{
+    if sessions.is_empty() {
+        return None;
+    }
+    sessions[0].take_danger()
+}
+
+/// Takes the turns of all sessions to the end of every one, and says so much of them. Answers whether a statement was refused. The pages that
+/// the last check of session 1 has found in danger are `danger` then.
 fn play<H: Host>(
     alloc: Global,
     host: &mut H,
     engine: &mut Engine,
     script: &Script,
     told: Told,
+    danger: &mut Option<PageList>,
 ) -> Result<bool, RunError>
     requires askable { IsAskable script.now }
     ensures plays { IsTrue H.tells → (shown : List ℕ) × ((now : Now) (t : Trail) → IsReady (H.world host.old) engine.old t now → now.todo ≡ begun script.now.sessions → IsMaking now
         → Foretells now.given shown (H.world host.old) (H.world host.new)
         → PlaysInTurn H.world result host.old host.new engine.old engine.new t told now script.now.schedule) }
+    ensures danger { (statement : Statement) (t : Trail) → IsTrue H.tells → IsOpen (H.world host.old) engine.old t → script.now.sessions ≡ alone statement
+        → IfOk result (λ refused. danger.new ≡ danger_after statement t.base.image None) }
     ensures grows { (now : Now) (t : Trail) → IsTrue H.tells → IsReady (H.world host.old) engine.old t now → now.todo ≡ begun script.now.sessions → IsMaking now
         → Grows (H.world host.old) (H.world host.new) }
     ensures cause { CountsRun result (H.faults host.old) (H.faults host.new) }
@@ -73,7 +90,9 @@ fn play<H: Host>(
     let mut all = sessions_of(alloc, script, told);
     let sessions: &mut [Session<'_>] = &mut all;
     nb_sched::take_turns(sessions, host, engine, script.schedule())?;
-    Ok(any_refused(sessions))
+    let refused = any_refused(sessions);
+    *danger = danger_of(sessions);
+    Ok(refused)
 }
 
 /// Plays a script on the open database, all but its first statement, to the end of every session, and says so much of it; then it writes
@@ -81,23 +100,29 @@ fn play<H: Host>(
 ///
 /// How many pages are in memory at a `show cache` isn't computed by the definitions: some numbers are shown, and with them the whole run is
 /// exact, whatever account it begins from.
+///
+/// Where session 1 has one statement, and no other any, what it has found in danger is `danger` then: all such pages, where it is a check that
+/// isn't refused.
 pub fn take_turns<H: Host>(
     alloc: Global,
     host: &mut H,
     engine: &mut Engine,
     script: &Script,
     told: Told,
+    danger: &mut Option<PageList>,
 ) -> Result<bool, RunError>
     requires askable { IsAskable script.now }
     ensures plays { IsTrue H.tells → (shown : List ℕ) × ((now : Now) (t : Trail) → IsReady (H.world host.old) engine.old t now → now.todo ≡ begun script.now.sessions → IsMaking now
         → Foretells now.given shown (H.world host.old) (H.world host.new)
         → PlaysInTurn H.world result host.old host.new engine.old engine.new t told now script.now.schedule) }
     ensures none_waits { IfOk result (λ refused. NoPageWaits engine.new) }
+    ensures danger { (statement : Statement) (t : Trail) → IsTrue H.tells → IsOpen (H.world host.old) engine.old t → script.now.sessions ≡ alone statement
+        → IfOk result (λ refused. danger.new ≡ danger_after statement t.base.image None) }
     ensures grows { (now : Now) (t : Trail) → IsTrue H.tells → IsReady (H.world host.old) engine.old t now → now.todo ≡ begun script.now.sessions → IsMaking now
         → Grows (H.world host.old) (H.world host.new) }
     ensures cause { CountsRun result (H.faults host.old) (H.faults host.new) }
 {
-    let refused = play(alloc, host, engine, script, told)?;
+    let refused = play(alloc, host, engine, script, told, danger)?;
     engine.write_out(host)?;
     Ok(refused)
 }

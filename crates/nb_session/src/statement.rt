@@ -4,7 +4,8 @@ ghost use Rattle.nb_host.specs.Causes.{CountsDevice, CountsRun, FaultCount};
 ghost use Rattle.nb_host.specs.Faults.{as_fault};
 ghost use Rattle.nb_base.specs.Open.{Agrees};
 ghost use Rattle.nb_model.specs.Account.{Base};
-ghost use Rattle.nb_state.specs.Open.{AgreesWith};
+ghost use Rattle.nb_state.specs.Does.{WhereEnded};
+ghost use Rattle.nb_state.specs.Open.{AgreesWith, IsOpen};
 ghost use Rattle.nb_model.specs.declared.reply.Reply.{Reply};
 ghost use Rattle.nb_model.specs.Outcomes.{Begins};
 ghost use Rattle.nb_model.specs.Run.{Now};
@@ -13,6 +14,7 @@ ghost use Rattle.nb_shown.specs.Replies.{pages_shown};
 ghost use Rattle.nb_script.specs.Asked.{IsFurther};
 ghost use Rattle.nb_session.specs.Acts.{Says, MayAct};
 ghost use Rattle.nb_session.specs.Askers.{IsOneTurn, KeepsOthers};
+ghost use Rattle.nb_session.specs.Dangers.{danger_after};
 ghost use Rattle.nb_session.specs.Ready.{IsReady};
 ghost use Rattle.nb_session.specs.Replies.{some_said, HasEnded, header_of};
 
@@ -20,7 +22,7 @@ use crate::replies::done;
 use crate::tables::{do_checks, do_on_tables};
 use nb_engine::Engine;
 use nb_host::{Fault, Host, RunError};
-use nb_model::{Reply, Statement, Text};
+use nb_model::{PageList, Reply, Statement, Text};
 use nb_shown::{PageCounts, count_pages, image_digest};
 use std::alloc::Global;
 
@@ -58,17 +60,19 @@ fn pages_shown(counts: &PageCounts) -> Reply
     }
 }
 
-/// Does one statement that isn't the first of its script, in one turn.
+/// Does one statement that isn't the first of its script, in one turn. The pages that a check finds in danger are `danger` then.
 pub fn do_statement<H: Host>(
     alloc: Global,
     host: &mut H,
     engine: &mut Engine,
     statement: &Statement,
+    danger: &mut Option<PageList>,
 ) -> Result<Reply, Fault>
     requires asked { IsFurther statement.now }
     requires single { IsOneTurn statement.now }
     ensures turn { (now : Now) (t : Trail) (session : ℕ) → IsTrue H.tells → IsReady (H.world host.old) engine.old t now
         → MayAct some_said result (H.world host.old) (H.world host.new) engine.old engine.new t now session (Begins statement.now) [] }
+    ensures danger { (t : Trail) → IsTrue H.tells → IsOpen (H.world host.old) engine.old t → WhereEnded result (danger.new ≡ danger_after statement.now t.base.image danger.old) }
     ensures others { (session : ℕ) → KeepsOthers session engine.old engine.new }
     ensures cause { CountsDevice result (H.faults host.old) (H.faults host.new) }
 {
@@ -111,7 +115,9 @@ pub fn do_statement<H: Host>(
             capacity: engine.capacity(),
             held: engine.held(),
         }),
-        Statement::Check | Statement::Reclaim => do_checks(alloc, host, engine, statement),
+        Statement::Check | Statement::Reclaim => {
+            do_checks(alloc, host, engine, statement, danger)
+        }
         Statement::CreateTable { .. }
         | Statement::DropTable { .. }
         | Statement::Insert { .. }

@@ -3,6 +3,8 @@ use Rattle.nb_session.proofs.Common.{Memory, status_after, Taken, some_said}
 use Rattle.nb_session.proofs.ActLaws.{nothing_acts}
 use Rattle.nb_session.proofs.ShortLaws.{ran_passed, ran_same}
 use Rattle.nb_session.proofs.EventLaws.{marks_none}
+use Rattle.nb_session.specs.Dangers.{danger_after}
+use Rattle.nb_session.proofs.FindLaws.{ended_holds}
 use Rattle.nb_session.proofs.KeepLaws.{one_single}
 use Rattle.nb_session.proofs.TouchingLaws.{begins_touch, one_turn_plain}
 use Rattle.nb_session.proofs.TurnLaws.{turns_failed, turns_unsaid, turns_said, status_told, single_behind}
@@ -43,3 +45,7 @@ returns-clause-turn g c now t more tells ready makes here =
     (record { task = None; refused = c.is_refusal-refused.result }) (c.in_ok-tell.ensures.line tells).said
     (λ is. subst (λ (b : Bool). status_after c.in_ok-reply.reply ≡ (if b then 1 else 0)) (sym c.is_refusal-refused.ensures) (status_told c.args.session c.args.statement.now now c.in_ok-reply.reply is))
     (λ told. single_behind new _ c.args.session c.args.statement.now now (one_single c.args.statement.now c.requires.single))
+
+pub returns-clause-danger : goal.returns-clause-danger
+returns-clause-danger g c t tells opened =
+    ended_holds (c.do_statement.new.danger ≡ danger_after c.args.statement.now t.base.image c.args.danger.now) c.do_statement.result c.in_ok-reply.ensures.ended (c.do_statement.ensures.danger t tells opened)

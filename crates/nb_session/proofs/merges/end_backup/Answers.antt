@@ -21,7 +21,7 @@ returns-in-Ok-clause-turn g c how now t more tells ready makes here runs =
     (Other c.merge_of.result) tt (ap (λ (x : Taken). x.refused) c.merge_of.ensures) ready (λ said is. is)
     (λ told. subst (λ (x : Taken). IsBehind mid b c.args.session (Ends c.args.reply.now) [] now x.task) (sym c.merge_of.ensures)
     (subst (λ (r : Reply). IsBehind mid b c.args.session (Ends c.args.reply.now) [] now (Some (Merge (record { left = length b.files.entries; reply = r })))) (sym c.replace-reply.ensures.value)
-    (ends_behind old mid a b t now c.args.session ready (length b.files.entries) refl c.in-Ok.field-0 does c.args.reply.now)))
+    (ends_behind old mid a b t now c.args.session ready c.args.reply.now quiet (length b.files.entries) refl c.in-Ok.field-0 does)))
 
 pub returns-in_err-end_early-in-Err-clause-turn : goal.returns-in_err-end_early-in-Err-clause-turn
 returns-in_err-end_early-in-Err-clause-turn g c how now t more tells ready makes here runs =

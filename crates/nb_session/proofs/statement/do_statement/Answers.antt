@@ -1,11 +1,11 @@
 use Rattle.std.proofs.Common.{ℕ, [], refl, ap, ◌∙◌, Ok, Err, Some}
-use Rattle.nb_session.proofs.Common.{Device, Done, PageMade, Value, Scn, ImageShown, CacheShown, write_turn, header_turn, first_turn, done, page_made, valued, scn_is, Held, some_said, quiet_begun}
-use Rattle.nb_base.proofs.TouchLaws.{strikes_in}
+use Rattle.nb_session.proofs.Common.{Device, Reply, Done, PageMade, Value, Scn, ImageShown, CacheShown, write_turn, header_turn, first_turn, done, page_made, valued, scn_is, Held, some_said, quiet_begun}
 use Rattle.nb_shown.specs.Replies.{pages_shown, image_shown}
 use Rattle.nb_alloc.proofs.WantLaws.{not_wanted}
 use Rattle.nb_model.specs.declared.statement.Statement.TheVariants.{Read, ShowPages, ShowImage}
 use Rattle.nb_session.proofs.ShortLaws.{read_strokes, stops_lack, wanted_map}
 use Rattle.nb_session.proofs.ActLaws.{some_by, does_acts, does_replied, replied_err, tells_replied, tells_unsaid, may_passed, may_value, sync_acts, sync_failed, begin_acts, cache_acts}
+use Rattle.nb_session.proofs.FindLaws.{found_nothing}
 use Rattle.nb_session.proofs.HeaderLaws.{header_does}
 use Rattle.nb_session.proofs.TurnLaws.{seen_now}
 use Rattle.nb_session.proofs.statement.do_statement.Goals as goal
@@ -82,13 +82,13 @@ returns-in_ok-scn-in-BeginBackup-clause-turn g c now t session tells ready =
 pub returns-in_ok-sync-in-Sync-clause-turn : goal.returns-in_ok-sync-in-Sync-clause-turn
 returns-in_ok-sync-in-Sync-clause-turn g c now t session tells ready =
     may_value (λ v. Some Done) some_said _ _ _ _ t now session _ [] c.in_ok-sync-in-Sync.field-0 Done refl
-    (sync_acts _ _ _ _ t now session c.args.statement.now c.in-Sync.is ready c.in_ok-sync-in-Sync.ensures.same (strikes_in _ _ c.args.engine.now.files.state _ t [] (c.in_ok-sync-in-Sync.ensures.takes t tells ready.opened).left) c.in_ok-sync-in-Sync.ensures.gave c.in_ok-sync-in-Sync.field-0
+    (sync_acts _ _ _ _ t now session c.args.statement.now c.in-Sync.is ready c.in_ok-sync-in-Sync.ensures.same (c.in_ok-sync-in-Sync.ensures.takes t tells ready.opened).left (c.in_ok-sync-in-Sync.ensures.long t tells ready.opened) c.in_ok-sync-in-Sync.ensures.gave c.in_ok-sync-in-Sync.field-0
     (c.in_ok-sync-in-Sync.ensures.settled t tells ready.opened))
 
 pub returns-in_err-sync-in-Sync-clause-turn : goal.returns-in_err-sync-in-Sync-clause-turn
 returns-in_err-sync-in-Sync-clause-turn g c now t session tells ready =
     may_passed some_said some_said _ _ _ _ t now session _ [] Device c.from_residual-in_err-sync-in-Sync.result c.from_residual-in_err-sync-in-Sync.ensures
-    (sync_failed _ _ _ _ t now session c.args.statement.now c.in-Sync.is ready c.in_err-sync-in-Sync.ensures.same (strikes_in _ _ c.args.engine.now.files.state _ t [] (c.in_err-sync-in-Sync.ensures.takes t tells ready.opened).left) c.in_err-sync-in-Sync.ensures.gave some_said)
+    (sync_failed _ _ _ _ t now session c.args.statement.now c.in-Sync.is ready c.in_err-sync-in-Sync.ensures.same (c.in_err-sync-in-Sync.ensures.takes t tells ready.opened).left (c.in_err-sync-in-Sync.ensures.long t tells ready.opened) c.in_err-sync-in-Sync.ensures.gave some_said)
 
 pub returns-in-ShowHeader-clause-turn : goal.returns-in-ShowHeader-clause-turn
 unfolding first_turn
@@ -129,3 +129,60 @@ returns-in_ok-sha256-in-ShowImage-clause-turn g c now t session tells ready =
     let pages = c.count.ensures.value ∙ ap (λ (h : Held). h.files.count) shown.looks.same in
     does_replied (image_shown c.args.engine.now.files.count) (Ok c.in_ok-sha256-in-ShowImage.sha256) (Ok (ImageShown c.count.result c.in_ok-sha256-in-ShowImage.sha256)) (ap (λ (n : ℕ). ImageShown n c.in_ok-sha256-in-ShowImage.sha256) pages) _ _ _ _ t now session c.args.statement.now _ c.in-ShowImage.is refl refl refl _ refl ready tt
     (shown.turn (seen_now now) t tells ready.base ready.opened)
+
+pub returns-in-Write-clause-danger : goal.returns-in-Write-clause-danger
+returns-in-Write-clause-danger g c t tells opened = found_nothing {S = Reply} c.args.statement.now _ t.base.image c.args.danger.now c.done.result c.in-Write.is refl
+
+pub returns-in_err-text-in-Read-clause-danger : goal.returns-in_err-text-in-Read-clause-danger
+returns-in_err-text-in-Read-clause-danger g c t tells opened = found_nothing {S = Reply} c.args.statement.now _ t.base.image c.args.danger.now c.from_residual.result c.in-Read.is refl
+
+pub returns-in_err-new-in-Read-clause-danger : goal.returns-in_err-new-in-Read-clause-danger
+returns-in_err-new-in-Read-clause-danger g c t tells opened = found_nothing {S = Reply} c.args.statement.now _ t.base.image c.args.danger.now c.from_residual-in_err-new-in-Read.result c.in-Read.is refl
+
+pub returns-in_ok-new-in-Read-clause-danger : goal.returns-in_ok-new-in-Read-clause-danger
+returns-in_ok-new-in-Read-clause-danger g c t tells opened = found_nothing {S = Reply} c.args.statement.now _ t.base.image c.args.danger.now (Ok (Value c.in_ok-new-in-Read.field-0)) c.in-Read.is refl
+
+pub returns-in_err-page-in-PageNew-clause-danger : goal.returns-in_err-page-in-PageNew-clause-danger
+returns-in_err-page-in-PageNew-clause-danger g c t tells opened = found_nothing {S = Reply} c.args.statement.now _ t.base.image c.args.danger.now c.from_residual-in_err-page-in-PageNew.result c.in-PageNew.is refl
+
+pub returns-in_ok-page-in-PageNew-clause-danger : goal.returns-in_ok-page-in-PageNew-clause-danger
+returns-in_ok-page-in-PageNew-clause-danger g c t tells opened = found_nothing {S = Reply} c.args.statement.now _ t.base.image c.args.danger.now (Ok (PageMade c.in_ok-page-in-PageNew.page)) c.in-PageNew.is refl
+
+pub returns-in-Free-clause-danger : goal.returns-in-Free-clause-danger
+returns-in-Free-clause-danger g c t tells opened = found_nothing {S = Reply} c.args.statement.now _ t.base.image c.args.danger.now c.done-in-Free.result c.in-Free.is refl
+
+pub returns-in-Forced-clause-danger : goal.returns-in-Forced-clause-danger
+returns-in-Forced-clause-danger g c t tells opened = found_nothing {S = Reply} c.args.statement.now _ t.base.image c.args.danger.now c.done-in-Forced.result c.in-Forced.is refl
+
+pub returns-in-Access-clause-danger : goal.returns-in-Access-clause-danger
+returns-in-Access-clause-danger g c t tells opened = found_nothing {S = Reply} c.args.statement.now _ t.base.image c.args.danger.now c.done-in-Access.result c.in-Access.is refl
+
+pub returns-in_err-scn-in-BeginBackup-clause-danger : goal.returns-in_err-scn-in-BeginBackup-clause-danger
+returns-in_err-scn-in-BeginBackup-clause-danger g c t tells opened = found_nothing {S = Reply} c.args.statement.now _ t.base.image c.args.danger.now c.from_residual-in_err-scn-in-BeginBackup.result c.in-BeginBackup.is refl
+
+pub returns-in_ok-scn-in-BeginBackup-clause-danger : goal.returns-in_ok-scn-in-BeginBackup-clause-danger
+returns-in_ok-scn-in-BeginBackup-clause-danger g c t tells opened = found_nothing {S = Reply} c.args.statement.now _ t.base.image c.args.danger.now (Ok (Scn c.in_ok-scn-in-BeginBackup.scn)) c.in-BeginBackup.is refl
+
+pub returns-in_ok-sync-in-Sync-clause-danger : goal.returns-in_ok-sync-in-Sync-clause-danger
+returns-in_ok-sync-in-Sync-clause-danger g c t tells opened = found_nothing {S = Reply} c.args.statement.now _ t.base.image c.args.danger.now (Ok Done) c.in-Sync.is refl
+
+pub returns-in_err-sync-in-Sync-clause-danger : goal.returns-in_err-sync-in-Sync-clause-danger
+returns-in_err-sync-in-Sync-clause-danger g c t tells opened = found_nothing {S = Reply} c.args.statement.now _ t.base.image c.args.danger.now c.from_residual-in_err-sync-in-Sync.result c.in-Sync.is refl
+
+pub returns-in-ShowHeader-clause-danger : goal.returns-in-ShowHeader-clause-danger
+returns-in-ShowHeader-clause-danger g c t tells opened = found_nothing {S = Reply} c.args.statement.now _ t.base.image c.args.danger.now (Ok c.header_shown.result) c.in-ShowHeader.is refl
+
+pub returns-in-ShowCache-clause-danger : goal.returns-in-ShowCache-clause-danger
+returns-in-ShowCache-clause-danger g c t tells opened = found_nothing {S = Reply} c.args.statement.now _ t.base.image c.args.danger.now (Ok (CacheShown c.capacity.result c.held.result)) c.in-ShowCache.is refl
+
+pub returns-in_err-counts-in-ShowPages-clause-danger : goal.returns-in_err-counts-in-ShowPages-clause-danger
+returns-in_err-counts-in-ShowPages-clause-danger g c t tells opened = found_nothing {S = Reply} c.args.statement.now _ t.base.image c.args.danger.now c.from_residual-in_err-counts-in-ShowPages.result c.in-ShowPages.is refl
+
+pub returns-in_ok-counts-in-ShowPages-clause-danger : goal.returns-in_ok-counts-in-ShowPages-clause-danger
+returns-in_ok-counts-in-ShowPages-clause-danger g c t tells opened = found_nothing {S = Reply} c.args.statement.now _ t.base.image c.args.danger.now (Ok c.pages_shown.result) c.in-ShowPages.is refl
+
+pub returns-in_err-sha256-in-ShowImage-clause-danger : goal.returns-in_err-sha256-in-ShowImage-clause-danger
+returns-in_err-sha256-in-ShowImage-clause-danger g c t tells opened = found_nothing {S = Reply} c.args.statement.now _ t.base.image c.args.danger.now c.from_residual-in_err-sha256-in-ShowImage.result c.in-ShowImage.is refl
+
+pub returns-in_ok-sha256-in-ShowImage-clause-danger : goal.returns-in_ok-sha256-in-ShowImage-clause-danger
+returns-in_ok-sha256-in-ShowImage-clause-danger g c t tells opened = found_nothing {S = Reply} c.args.statement.now _ t.base.image c.args.danger.now (Ok (ImageShown c.count.result c.in_ok-sha256-in-ShowImage.sha256)) c.in-ShowImage.is refl

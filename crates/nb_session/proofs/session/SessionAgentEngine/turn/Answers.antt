@@ -25,7 +25,7 @@ returns-in_ok-taken-in-None-clause-step g c =
     rw (← c.self.view_is)
     (began_taken g.H.Host.tells (g.H.Host.world c.args.host.now) (g.H.Host.world c.begin_statement.new.host) _ _ c.args.engine.now c.begin_statement.new.engine _ _ c.begin_statement.ensures.others refl
     (get_or c.self.inside.statements.now c.self.inside.next c.index-self-self.result) _ is (drop_more c.self.inside.statements.now c.self.inside.next c.index-self-self.result within)
-    c.in_ok-taken-in-None.taken refl c.in_ok-taken-in-None.ensures.turn c.in_ok-taken-in-None.ensures.cause)
+    c.in_ok-taken-in-None.taken _ refl c.in_ok-taken-in-None.ensures.danger c.in_ok-taken-in-None.ensures.turn c.in_ok-taken-in-None.ensures.cause)
 
 pub returns-in-Same-clause-step : goal.returns-in-Same-clause-step
 returns-in-Same-clause-step g c =
