@@ -11,7 +11,7 @@ use Rattle.nb_ended.specs.declared.status.Status.TheVariants.{Done, Refused, Usa
 use Rattle.nb_session.specs.ByTurns.{ByTurns, Ending, EndsInLast, GoesByTurns, SaidInLast, ending_of}
 use Rattle.nb_session.specs.Ended.{EndsFirst}
 use Rattle.nb_top.specs.ByTurns.{ending_by}
-use Rattle.nb_top.specs.Requests.{Asked, Runs, Does}
+use Rattle.nb_top.specs.Requests.{Asked, Runs, Does, Ships}
 use Rattle.nb_session.specs.Todo.{PlaysInTurn}
 use Rattle.nb_session.specs.Told.{told_events}
 use Rattle.nb_session.specs.declared.told.Told.{Told}
@@ -56,17 +56,18 @@ memory_so = record { early = λ x. tt; ran_out = λ x. tt }
 
 -- Turns that are told as others, event by event, are told so.
 module _ {H : Type 0} (world : H → World) (f g : List Event → List Event) (same : (events : List Event) → f events ≡ g events) where
-  told_so : (order : List ℕ) (old new : H) (now : Now) → ByTurns world f order old new now → ByTurns world g order old new now
-  told_so [] old new now is = is
-  told_so (x ∷ order) old new now (inl idle) = inl (idle.0, told_so order old new now idle.1)
-  told_so (x ∷ order) old new now (inr taken) = inr (
+  told_so : (order : List ℕ) (old new : H) (t : Trail) (now : Now) → ByTurns world f order old new t now → ByTurns world g order old new t now
+  told_so [] old new t now is = is
+  told_so (x ∷ order) old new t now (inl idle) = inl (idle.0, told_so order old new t now idle.1)
+  told_so (x ∷ order) old new t now (inr taken) = inr (
     taken.0,
     record {
       said = taken.1.said ∙ ap (λ (events : List Event). (world old).said ++ output events) (same (one_turn x now).0);
       leaves = taken.1.leaves;
       unchanged = taken.1.unchanged;
+      ends = taken.1.ends;
     },
-    told_so order taken.0 new (one_turn x now).1 taken.2,
+    told_so order taken.0 new (after_steps t (steps_of (one_turn x now).0)) (one_turn x now).1 taken.2,
   )
 
   said_so : (rest : List ℕ) (now : Now) (old new : World) → SaidInLast f rest now old new → SaidInLast g rest now old new
@@ -81,19 +82,19 @@ module _ {H : Type 0} (world : H → World) (f g : List Event → List Event) (s
     is = goes.is;
     to_end = goes.to_end;
     mid = goes.mid;
-    taken = told_so goes.front old goes.mid now goes.taken;
+    taken = told_so goes.front old goes.mid t now goes.taken;
     last = goes.last;
     ends = goes.ends;
     said = said_so goes.rest (play goes.front now).1 (world goes.mid) (world new) goes.said;
   }
 
 -- where memory ran out the turn that ended early lacks its last operation
-turn_as : (old new : World) (name : List ℕ) (t : Trail) (now : Now) (session : ℕ) (one other : Type 0) → (other → one) → (turns : List Turn) → EndsFirst one old new name t now session turns → EndsFirst other old new name t now session turns
+turn_as : (old new : World) (name : List ℕ) (t : Trail) (now : Now) (session : ℕ) (one other : Type 0) → (other → one) → (turns : List Turn) → EndsFirst one ⊥ old new name t now session turns → EndsFirst other ⊥ old new name t now session turns
 turn_as old new name t now session one other so [] none = none
-turn_as old new name t now session one other so (turn ∷ rest) ends = record { unchanged = ends.unchanged; short = λ ran done. ends.short (so ran) done }
+turn_as old new name t now session one other so (turn ∷ rest) ends = record { unchanged = ends.unchanged; short = λ ran done. ends.short (so ran) done; files = ends.files }
 
 last_as : (rest : List ℕ) (t : Trail) (now : Now) (old new : World) (one other : Type 0) → (other → one) → EndsInLast one rest t now old new → EndsInLast other rest t now old new
-last_as [] t now old new one other so ends = tt
+last_as [] t now old new one other so ends = ends
 last_as (session ∷ rest) t now old new one other so ends = turn_as old new now.name t now session one other so (slice_index_or now.todo (session - 1) []) ends
 
 -- a run ended as its turns did
@@ -329,3 +330,4 @@ module _ {H : Type 0} (world : H → World) (one other : Ending) (so : IsAs one 
   pub asked_so : (old new : H) (asked : Asked) (account : Account) (given : Given) → AskedByTurns world one old new asked account given → AskedByTurns world other old new asked account given
   asked_so old new (Runs asked) account given turns = run_so old new asked account given turns
   asked_so old new (Does deed) account given turns = tt
+  asked_so old new (Ships primary standby) account given turns = tt

@@ -108,13 +108,13 @@ pub use Rattle.nb_model.specs.Trail.{ShowsIn, StandsIn, Trail, settled}
 pub use Rattle.nb_model.specs.Well.{IsWell, IsWellBaseIn}
 pub use Rattle.nb_model.specs.WellTrail.{AllGoOn, IsWellTrail}
 unfoldable pub use Rattle.nb_model.specs.Words.{job_of, job_of_flags, job_read, number_in_word, read_words}
-pub use Rattle.nb_model.specs.Words.{Word, apply_job, are_flags, ask_job, asks_one, backup_job, count_in_word, fixup_job, fold_job, gen_job, gen_or_plan, is_database, is_file, job_if, named_job, plain_job, plan_job, restore_job}
+pub use Rattle.nb_model.specs.Words.{Word, apply_job, are_flags, ask_job, asks_change, asks_one, backup_job, count_in_word, fixup_job, fold_job, gen_job, is_database, is_file, job_if, job_of_three, named_job, plain_job, plan_job, restore_job, ship_job}
 pub use Rattle.nb_model.specs.declared.job.Ask.{Ask}
-pub use Rattle.nb_model.specs.declared.job.Ask.TheVariants.{Backup, BackupSince, Check, Lock, LockWithSize, Reclaim, Stat, Unlock}
+pub use Rattle.nb_model.specs.declared.job.Ask.TheVariants.{Activate, Backup, BackupSince, Check, Lock, LockWithSize, Reclaim, Stat, Unlock}
 pub use Rattle.nb_model.specs.declared.job.Deed.{Deed}
 pub use Rattle.nb_model.specs.declared.job.Deed.TheVariants.{Apply, Fixup, Fold, Restore}
 pub use Rattle.nb_model.specs.declared.job.Job.{Job}
-pub use Rattle.nb_model.specs.declared.job.Job.TheVariants.{Attach, Gen, Run, Turn}
+pub use Rattle.nb_model.specs.declared.job.Job.TheVariants.{Attach, Gen, Run, Ship, Turn}
 pub use Rattle.nb_model.specs.declared.reply.Reply.{Reply}
 pub use Rattle.nb_model.specs.declared.reply.Reply.TheVariants.{Level, Opened, Pages, PagesShown, Planned}
 pub use Rattle.nb_model.specs.declared.statement.Statement.{Statement}
@@ -144,7 +144,7 @@ pub use Rattle.nb_session.specs.Acts.{AreKept, MadeLeft, Touched}
 unfoldable pub use Rattle.nb_session.specs.HowFar.{begun_turns, open_turns}
 pub use Rattle.nb_session.specs.HowFar.{open_steps}
 pub use Rattle.nb_session.specs.MadeNames.{AnyAsks, AnySessionAsks, Asks, ScriptMakes}
-pub use Rattle.nb_session.specs.Others.{LeavesOthers, OthersLeft}
+pub use Rattle.nb_session.specs.Others.{IsAdded, LeavesOthers, OthersLeft}
 pub use Rattle.nb_session.specs.Ready.{IsReady}
 pub use Rattle.nb_session.specs.Replies.{is_refusal, only_told}
 pub use Rattle.nb_session.specs.Says.{FrontSaid, SaysLine}
@@ -154,14 +154,15 @@ pub use Rattle.nb_state.specs.Beginnings.{Attaches, CreateAnswers, Creates, IsAt
 pub use Rattle.nb_state.specs.Open.{Held, IsOpen, NoPageWaits, name_of}
 pub use Rattle.nb_top.specs.ByTurns.{AskedByTurns, EndsEarly, ending_by, ReadByTurns, RunByTurns, RunsOpened, ScriptByTurns, StillWhereOpened, TakesTold, TurnsFrom, WrittenByTurns}
 pub use Rattle.nb_top.specs.Ends.{EndsAs}
-pub use Rattle.nb_top.specs.Goes.{Goes, IsDone}
+pub use Rattle.nb_top.specs.Done.{EndsSo, IsDone}
+pub use Rattle.nb_top.specs.Goes.{Goes}
 pub use Rattle.nb_top.specs.OneTurn.{AreOfKept, DoesTurn, FileLeft, FitsDeed, HoldsSpan, IsAsWas, IsDoneFor, IsOnItsWay, OfName, OneTurn, Read, TakesFiles, TakesKept, TurnEnded, TurnLeft, TurnStands, Was, behind, fixing, folding, leaves_all, merging, one_turn, planning, restoring}
 pub use Rattle.nb_top.specs.Performed.{EndsIn, Finished, GoesTo, HasSmallScn, HoldsUnder, IsEnded, IsFileRead, IsPerformed, IsReadRun, IsScriptRun, IsSure, IsUnasked, IsUnbegun, IsUndone, IsWrittenRun, Knows, KnowsAsked, KnowsNames, KnowsOpened, MayBeGiven, Performs, PerformsRun, PlaysOpened, PlaysTold, ReadsAsked, RunLeft, RunReads, RunStands, RunsTo, StandsAfter, StandsAsked, StandsWithin, Target, begins_refused, cache_asked, first_event, is_all, kept_after, only_opens, opened_reply, pages_first, played_behind, refused_at, refused_job, run_in, script_made, seen_after, target_asked, target_named, target_of, told, told_first, told_later, told_turns}
-pub use Rattle.nb_top.specs.Requests.{Asked, Does, FitsAsk, FitsJob, IsAskedBy, IsReadJob, Request, Runs, ToGenerate, ToRun, attached, plan_of, request_asked, request_of, script_in, to_plan, to_run}
+pub use Rattle.nb_top.specs.Requests.{Asked, Does, FitsAsk, FitsJob, IsAskedBy, IsReadJob, Request, Runs, Ships, ToGenerate, ToRun, attached, plan_of, request_asked, request_of, script_in, to_plan, to_run}
 pub use Rattle.nb_top.specs.Served.{IsRefusedWith, IsServed, ServedAs, Serves, TurnsTo, reply_told, status_told}
 pub use Rattle.nb_top.specs.Shown.{BreaksAt, IfShown, IsShownOf}
 pub use Rattle.nb_top.specs.Standing.{HoldsKept, NextMayBegin, StandsFor}
-pub use Rattle.nb_top.specs.Touched.{AsksToMake, MayTouch, OfAsked, OfTarget, ReadMakes, SaysRefusal, TouchesOnly, ends_refused}
+pub use Rattle.nb_top.specs.Touched.{AsksToMake, MayTouch, OfAsked, OfShip, OfTarget, ReadMakes, SaysRefusal, TouchesOnly, ends_refused}
 pub use Rattle.nb_top.specs.Worlds.{AreCopies, ArePlain, HaveNames, LeaveNames, NameNone, StartsFrom, account_of, empty, no_files}
 pub use Rattle.nb_ended.specs.Numbers.{number_of}
 pub use Rattle.nb_ended.specs.declared.status.Status.{Status}

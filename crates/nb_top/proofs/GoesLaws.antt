@@ -1,13 +1,16 @@
 -- What is done of what is asked for, put together.
-use Rattle.std.proofs.Common.{◌≡◌, List, [], ℕ, sym, subst, Bool, IsTrue, Result, Ok, Err, IsErr, IfErr, IfOk}
-use Rattle.nb_top.proofs.Common.{Files, World, Leaves, LeavesAll, IsTimely, Fault, Refusal, RunError, GaveNothing, Quiet, Deed, Reply, Account, line_text, Given, status_after, SaysLine, grows_none, grows_joined, Status, Done, AskedByTurns, Goes, IsDone, number_of, OneTurn, one_turn, GoesTo, KnowsAsked, MayBeGiven, Performs, Request, Asked, Runs, Does, Serves, TurnsTo, reply_told, status_told, quiet_gave}
+use Rattle.std.proofs.Common.{◌≡◌, List, [], ℕ, sym, subst, Bool, IsTrue, Result, Ok, Err, IsErr, IfErr, IfOk, true, false, refl}
+use Rattle.nb_top.proofs.Common.{Files, World, Leaves, LeavesAll, IsTimely, Fault, Refusal, RunError, GaveNothing, Quiet, Deed, Reply, Account, line_text, Given, status_after, SaysLine, grows_none, grows_joined, Status, Done, AskedByTurns, Goes, IsDone, number_of, OneTurn, one_turn, GoesTo, KnowsAsked, MayBeGiven, Performs, Request, Asked, Runs, Does, Serves, TurnsTo, reply_told, status_told, quiet_gave, true≢false, EndsSo, Ships}
 use Rattle.nb_host.specs.declared.faults.Fault.TheVariants.{Refused as RefusedFault}
 use Rattle.nb_model.specs.declared.reply.Reply.TheVariants.{Refused as RefusedReply}
 use Rattle.nb_ended.specs.declared.status.Status.TheVariants.{Device, Memory}
+use Rattle.nb_host.specs.declared.faults.RunError.TheVariants.{Device as DeviceError, Memory as MemoryError}
+use Rattle.nb_host.specs.declared.faults.Fault.TheVariants.{Device as DeviceFault, Memory as MemoryFault}
+use Rattle.nb_top.specs.Done.{GoesOn}
 use Rattle.nb_top.specs.Goes.{IsRun}
-use Rattle.nb_host.specs.declared.faults.RunError.TheVariants.{Memory as MemoryError}
 use Rattle.nb_top.specs.ByTurns.{ending_by}
 use Rattle.nb_top.proofs.ByTurnsLaws.{asked_so, device_so, early_err, memory_so, run_quietly, run_undone}
+use Rattle.nb_top.specs.Shipped.{ShipsByPlan, status_of_end}
 use Rattle.nb_top.proofs.JobRuns.{job_refused, performs_device, performs_ended, performs_memory, undone_goes}
 use Rattle.nb_top.proofs.QuietRuns.{foretold_from, knows_quietly, runs_quietly}
 use Rattle.nb_top.proofs.RequestLaws.{CanBeMet}
@@ -34,18 +37,20 @@ goes_quietly world tells old mid new asked result quiet goes = record {
 
 -- What is asked for is another thing, where the host tells, of which all of this is known.
 pub goes_same : {H : Type 0} (world : H → World) (tells : Bool) (old new : H) (asked known : Asked) (result : Result Status RunError) → (IsTrue tells → asked ≡ known) → Goes world tells result old new known → Goes world tells result old new asked
-goes_same world tells old new asked known result same goes = record {
-  does = λ told. (
-    (goes.does told).0,
-    λ account given knows may foretold. subst (λ (a : Asked). IsDone world result old new a account given (GoesTo result (world old) (world new) a account given)) (sym (same told))
-        ((goes.does told).1 account given (subst (λ (a : Asked). KnowsAsked (world old).files account a) (same told) knows) may foretold),
-  );
-  grows = λ account told knows. goes.grows account told (subst (λ (a : Asked). KnowsAsked (world old).files account a) (same told) knows);
-}
+goes_same world true old new asked known result same goes = subst (λ (a : Asked). Goes world true result old new a) (sym (same refl)) goes
+goes_same world false old new asked known result same goes = untold asked
+  where
+    never : IsTrue false → ⊥
+    never told = true≢false (sym told)
+
+    untold : (a : Asked) → Goes world false result old new a
+    untold (Runs request) = record { does = λ told. absurd (never told); grows = λ account told knows. absurd (never told) }
+    untold (Does deed) = record { does = λ told. absurd (never told); grows = λ account told knows. absurd (never told) }
+    untold (Ships primary standby) = λ told. absurd (never told)
 
 -- nothing was done
-pub goes_undone : {H : Type 0} (world : H → World) (tells : Bool) (old new : H) (asked : Asked) (result : Result Status RunError) → CanBeMet asked → IsErr result → Quiet (world old) (world new) → Goes world tells result old new asked
-goes_undone world tells old new asked result can failed quiet = record {
+goes_on_undone : {H : Type 0} (world : H → World) (tells : Bool) (old new : H) (asked : Asked) (result : Result Status RunError) → CanBeMet asked → IsErr result → Quiet (world old) (world new) → GoesOn world tells result old new asked
+goes_on_undone world tells old new asked result can failed quiet = record {
   does = λ told. (
     [],
     λ account given knows may foretold. record {
@@ -59,6 +64,17 @@ goes_undone world tells old new asked result can failed quiet = record {
     turns_undone : (account : Account) (given : Given) (a : Asked) → AskedByTurns world (ending_by result) old new a account given
     turns_undone account given (Runs a) = run_undone world (ending_by result) (early_err result failed) old new quiet account given a
     turns_undone account given (Does deed) = tt
+    turns_undone account given (Ships primary standby) = tt
+
+ship_undone : {H : Type 0} (world : H → World) (tells : Bool) (old new : H) (primary standby : List ℕ) (result : Result Status RunError) → IsErr result → Quiet (world old) (world new) → ShipsByPlan world tells result old new primary standby
+ship_undone world tells old new primary standby (Ok status) failed quiet = absurd (true≢false (sym failed))
+ship_undone world tells old new primary standby (Err DeviceError) failed quiet = record { planned = Err DeviceFault; mid = new; quiet = quiet; plan = tt; after = (refl, refl) }
+ship_undone world tells old new primary standby (Err MemoryError) failed quiet = record { planned = Err MemoryFault; mid = new; quiet = quiet; plan = tt; after = (refl, refl) }
+
+pub goes_undone : {H : Type 0} (world : H → World) (tells : Bool) (old new : H) (asked : Asked) (result : Result Status RunError) → CanBeMet asked → IsErr result → Quiet (world old) (world new) → Goes world tells result old new asked
+goes_undone world tells old new (Runs request) result can failed quiet = goes_on_undone world tells old new (Runs request) result can failed quiet
+goes_undone world tells old new (Does deed) result can failed quiet = goes_on_undone world tells old new (Does deed) result can failed quiet
+goes_undone world tells old new (Ships primary standby) result can failed quiet = λ told. ship_undone world tells old new primary standby result failed quiet
 
 -- a refusal is said to session 0, and that is all
 pub goes_refused : {H : Type 0} (world : H → World) (tells : Bool) (old new : H) (asked : Result Request Refusal) (refusal : Refusal) (result : Result Status RunError) → asked ≡ Err refusal → GaveNothing (world old) (world new) → (IsTrue tells → SaysLine result (world old) (world new) (line_text 0 (RefusedReply refusal)))
@@ -135,7 +151,7 @@ goes_turn_quietly world tells old mid new deed result quiet goes = record {
 module _ {H : Type 0} (world : H → World) (tells : Bool) (old new : H) (asked : Asked) (can : CanBeMet asked) (before : IsTrue tells → (name : List ℕ) → Leaves (world old) name ((world old).files name)) (timely : IsTimely (world new))
     (reads : IsTrue tells → (name : List ℕ) → Leaves (world new) name ((world new).files name)) where
   run_as : (result : Result Status RunError) (status : Status) → ((account : Account) (given : Given) → MayBeGiven given → IsTrue tells → GoesTo result (world old) (world new) asked account given → Performs status (world old) (world new) asked account given)
-      → ((account : Account) (given : Given) → AskedByTurns world (ending_by result) old new asked account given → AskedByTurns world (ending_by (Ok status)) old new asked account given) → Goes world tells result old new asked → IsRun world tells status old new asked
+      → ((account : Account) (given : Given) → AskedByTurns world (ending_by result) old new asked account given → AskedByTurns world (ending_by (Ok status)) old new asked account given) → GoesOn world tells result old new asked → EndsSo world tells status old new asked
   run_as result status performs turns goes = record {
     does = λ told. (
       (goes.does told).0,
@@ -146,11 +162,17 @@ module _ {H : Type 0} (world : H → World) (tells : Bool) (old new : H) (asked 
     grows = goes.grows;
   }
 
-  pub run_ended : (status : Status) → Goes world tells (Ok status) old new asked → IsRun world tells status old new asked
-  run_ended status = run_as (Ok status) status (λ account given may told. performs_ended (world old) (world new) account given may (before told) timely (reads told) asked can status) (λ account given turns. turns)
+  -- by what ended it
+  pub ended_so : (result : Result Status RunError) → GoesOn world tells result old new asked → EndsSo world tells (status_of_end result) old new asked
+  ended_so (Ok status) goes =
+      run_as (Ok status) status (λ account given may told. performs_ended (world old) (world new) account given may (before told) timely (reads told) asked can status) (λ account given turns. turns) goes
+  ended_so (Err DeviceError) goes =
+      run_as (Err DeviceError) Device (λ account given may told. performs_device (world old) (world new) account given may (before told) timely (reads told) asked can DeviceError) (λ account given. asked_so world (ending_by (Err DeviceError)) (ending_by (Ok Device)) (device_so DeviceError) old new asked account given) goes
+  ended_so (Err MemoryError) goes =
+      run_as (Err MemoryError) Memory (λ account given may told. performs_memory (world old) (world new) account given may (before told) timely (reads told) asked can MemoryError) (λ account given. asked_so world (ending_by (Err MemoryError)) (ending_by (Ok Memory)) memory_so old new asked account given) goes
 
-  pub run_device : (stop : RunError) → Goes world tells (Err stop) old new asked → IsRun world tells Device old new asked
-  run_device stop = run_as (Err stop) Device (λ account given may told. performs_device (world old) (world new) account given may (before told) timely (reads told) asked can stop) (λ account given. asked_so world (ending_by (Err stop)) (ending_by (Ok Device)) (device_so stop) old new asked account given)
-
-  pub run_memory : Goes world tells (Err MemoryError) old new asked → IsRun world tells Memory old new asked
-  run_memory = run_as (Err MemoryError) Memory (λ account given may told. performs_memory (world old) (world new) account given may (before told) timely (reads told) asked can MemoryError) (λ account given. asked_so world (ending_by (Err MemoryError)) (ending_by (Ok Memory)) memory_so old new asked account given)
+pub run_ends : {H : Type 0} (world : H → World) (tells : Bool) (old new : H) (asked : Asked) → CanBeMet asked → (IsTrue tells → (name : List ℕ) → Leaves (world old) name ((world old).files name)) → IsTimely (world new)
+    → (IsTrue tells → (name : List ℕ) → Leaves (world new) name ((world new).files name)) → (result : Result Status RunError) → Goes world tells result old new asked → IsRun world tells (status_of_end result) old new asked
+run_ends world tells old new (Runs request) can before timely reads result goes = ended_so world tells old new (Runs request) can before timely reads result goes
+run_ends world tells old new (Does deed) can before timely reads result goes = ended_so world tells old new (Does deed) can before timely reads result goes
+run_ends world tells old new (Ships primary standby) can before timely reads result goes = record { result = result; ended = refl; goes = goes }

@@ -1,6 +1,6 @@
 -- A job is done, from the words to its end.
 use Rattle.std.proofs.Common.{◌≡◌, ◌≢◌, inl, ⊎_elim, ℕ, List, [], ◌++◌, length, take, refl, sym, ap, subst, ◌∙◌, arith, Result, Ok, Err, IfOk, IfErr, OnOk}
-use Rattle.nb_top.proofs.Common.{File, Files, World, Leaves, IsNow, IsTimely, AtEachMoment, Refusal, Usage, RunError, left_before, weaker, Quiet, Deed, Account, line_text, Given, status_after, IsNoneOf, Event, files_made, steps_of, status_refused, SaysLine, Status, number_of, HasSmallScn, RunLeft, RunReads, RunStands, RunsTo, GoesTo, KnowsAsked, Performs, PerformsRun, StandsAfter, Finished, IsPerformed, IsSure, IsUndone, Knows, MayBeGiven, kept_after, target_of, first_event, refused_job, HoldsKept, StandsFor, Request, ToRun, ToGenerate, Asked, Runs, Does, script_in, DoesTurn, FitsDeed, TurnEnded, one_turn, TurnsTo}
+use Rattle.nb_top.proofs.Common.{File, Files, World, Leaves, IsNow, IsTimely, AtEachMoment, Refusal, Usage, RunError, left_before, weaker, Quiet, Deed, Account, line_text, Given, status_after, IsNoneOf, Event, files_made, steps_of, status_refused, SaysLine, Status, number_of, HasSmallScn, RunLeft, RunReads, RunStands, RunsTo, GoesTo, KnowsAsked, Performs, PerformsRun, StandsAfter, Finished, IsPerformed, IsSure, IsUndone, Knows, MayBeGiven, kept_after, target_of, first_event, refused_job, HoldsKept, StandsFor, Request, ToRun, ToGenerate, Asked, Runs, Does, Ships, script_in, DoesTurn, FitsDeed, TurnEnded, one_turn, TurnsTo}
 use Rattle.nb_model.specs.declared.reply.Reply.TheVariants.{Refused as RefusedReply}
 use Rattle.nb_ended.specs.declared.status.Status.TheVariants.{Refused as RefusedStatus, Usage as UsageStatus, Device, Memory}
 use Rattle.nb_top.proofs.Deeds.{sound_deed}
@@ -41,6 +41,7 @@ module _ (old new : World) (account : Account) (given : Given) (e : RunError) (q
   undone_goes (Runs (Err refusal)) can knows = refused_undone refusal
   undone_goes (Runs (Ok r)) can knows = request_undone r can knows
   undone_goes (Does deed) can knows = quiet_turn old new (one_turn old.files deed) ((one_turn old.files deed).turn account) quiet account refl e
+  undone_goes (Ships primary standby) can knows = tt
 
 -- a refusal to session 0
 pub job_refused : {S E : Type 0} (told : Result S E) (result : Result Status RunError) (old new : World) (asked : Result Request Refusal) (refusal : Refusal) (account : Account) (given : Given) → asked ≡ Err refusal
@@ -193,11 +194,14 @@ module _ (old new : World) (account : Account) (given : Given) (sixteen : MayBeG
   pub performs_ended : (asked : Asked) → CanBeMet asked → (status : Status) → GoesTo (Ok status) old new asked account given → Performs status old new asked account given
   performs_ended (Runs asked) can status runs = run_ended old new asked can account given sixteen before timely reads status runs
   performs_ended (Does deed) can status turns = does_turn deed can status (Ok status) turns (λ d m. turns.ended)
+  performs_ended (Ships primary standby) can status none = tt
 
   pub performs_device : (asked : Asked) → CanBeMet asked → (e : RunError) → GoesTo (Err e) old new asked account given → Performs Device old new asked account given
   performs_device (Runs asked) can e runs = run_device old new asked can account given sixteen before timely reads e runs
   performs_device (Does deed) can e turns = does_turn deed can Device (Err e) turns (λ d m. absurd (d refl))
+  performs_device (Ships primary standby) can e none = tt
 
   pub performs_memory : (asked : Asked) → CanBeMet asked → (e : RunError) → GoesTo (Err e) old new asked account given → Performs Memory old new asked account given
   performs_memory (Runs asked) can e runs = run_memory old new asked can account given sixteen before timely reads e runs
   performs_memory (Does deed) can e turns = does_turn deed can Memory (Err e) turns (λ d m. absurd (m refl))
+  performs_memory (Ships primary standby) can e none = tt

@@ -1,6 +1,6 @@
 -- An account that tells what the files hold knows what any words ask of it.
 use Rattle.std.proofs.Common.{◌≡◌, inl, inr, ℕ, ◌<◌, ◌≤◌, ◌+◌, List, [], true, false, refl, sym, ap, ◌∙◌, arith, length-append, Bool, ◌&&◌, not, nat_le, nat_lt, length, is_some, Option, Some, None, Result, Ok, Err, if◌then◌else◌}
-use Rattle.nb_top.proofs.Common.{and_parts, le-ltb, leb-true, lt-ltb, leb_tells, is_free_file, File, Files, delta_suffix, is_delta, Refusal, Usage, has_delta, is_free_name, Job, Run, Gen, Attach, Turn, Statement, OpenDb, Account, delta_name, entry_of_files, IsSameImage, Stands, is_database, is_file, job_of, name_short, free_entry, delta_named, names_in, FitsFirst, IsAskable, Plan, All, HoldsUnder, Knows, KnowsAsked, KnowsNames, KnowsOpened, Asked, Runs, ToRun, FitsJob, request_asked, request_of, script_in, to_plan, to_run, HaveNames, account_of}
+use Rattle.nb_top.proofs.Common.{and_parts, le-ltb, leb-true, lt-ltb, leb_tells, is_free_file, File, Files, delta_suffix, is_delta, Refusal, Usage, has_delta, is_free_name, Job, Run, Gen, Attach, Turn, Ship, Statement, OpenDb, Account, delta_name, entry_of_files, IsSameImage, Stands, is_database, is_file, job_of, name_short, free_entry, delta_named, names_in, FitsFirst, IsAskable, Plan, All, Telling, plan_of, HoldsUnder, Knows, KnowsAsked, KnowsNames, KnowsOpened, Asked, Runs, ToRun, FitsJob, request_asked, request_of, script_in, to_plan, to_run, HaveNames, account_of}
 use Rattle.nb_model.specs.declared.job.Job.TheVariants.{Plan as PlanOf}
 use Rattle.nb_top.proofs.Deeds.{sound_deed}
 use Rattle.nb_top.proofs.FirstReady.{base_name}
@@ -28,6 +28,10 @@ module _ (files : Files) (names : HaveNames files) where
         ∙ ap (λ (t : Bool). is_free_file (files name) && not t) (sym (none_long name long.1))
   ]
 
+-- Of files that stand for an account it knows which names are free.
+pub free_known : (files : Files) (account : Account) → HaveNames files → Stands files account → KnowsNames files account
+free_known files account names stands name plain = free_named files names name ∙ sym (free_entry files account name stands.same_image plain)
+
 -- The account knows which names are free, and of each database what the files hold.
 module _ (files : Files) (account : Account) (names : KnowsNames files account) (holds : (name : List ℕ) → is_delta name ≡ false → nat_le (length name) 94 ≡ true → HoldsUnder files account name) where
   known_opened : (first : Statement) → FitsFirst first → KnowsOpened files account first
@@ -54,6 +58,7 @@ module _ (files : Files) (account : Account) (names : KnowsNames files account) 
   known_job (Attach db ask) fits = known_plan _ (attach_askable db ask fits.0 fits.1)
   known_job (Turn deed) fits = (sound_deed deed fits).known files account names known_base
   known_job (PlanOf keep list) fits = known_list keep (names_in list (files list))
+  known_job (Ship primary standby) fits = tt
 
   knows_asked : (words : List (List ℕ)) → KnowsAsked files account (request_asked files words)
   knows_asked words = by (job_of words) refl
@@ -116,3 +121,7 @@ module _ (files : Files) where
   -- it knows what any words ask of it
   pub told_known : (words : List (List ℕ)) → KnowsAsked files account_told (request_asked files words)
   told_known = knows_asked files account_told free_told holds_told
+
+  -- and what is asked of a database that is opened
+  pub told_opened : (db : List ℕ) (statements : List Statement) (telling : Telling) → is_database db ≡ true → Knows files account_told (Ok (ToRun (plan_of db statements) telling))
+  told_opened db statements telling fits = (free_told, holds_told db (plain_database db fits) (and_parts (is_file db) (nat_le (length db) 94) fits).1)

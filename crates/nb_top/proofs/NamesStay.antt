@@ -1,28 +1,15 @@
 -- Files keep names that a host may give them.
 use Rattle.std.proofs.Common.{◌≡◌, ◌⊎◌, inl, inr, ℕ, ◌+◌, ◌-◌, suc, List, [], ◌∷◌, ◌++◌, length, get_or, refl, sym, ap, subst, ◌∙◌, arith, length-append, true, false, Bool, ◌&&◌, Option, None, Some, Result, Ok, Err, nat_le, nat_lt}
-use Rattle.nb_top.proofs.Common.{AllByRecursion, list_all, and_from, and_parts, le-leb, leb-true, lt-ltb, true≢false, Files, delta_suffix, is_name, is_name_byte, World, Leaves, AtEachMoment, Refusal, Usage, Names, Other, weaker, Job, Run, Gen, Attach, Turn, Statement, CopyTo, generated, delta_name, is_file, job_of, OfFiles, names_in, generated_first, IsAskable, IsFurther, FitsFirst, Plan, script_of, answer_is_askable, AnyAsks, AnySessionAsks, Asks, ScriptMakes, Status, target_named, Asked, FitsJob, Runs, request_asked, request_of, script_in, to_plan, to_run, OfAsked, OfTarget, ReadMakes, TouchesOnly, HaveNames, LeaveNames, StartsFrom}
+use Rattle.nb_top.proofs.Common.{AllByRecursion, list_all, and_from, and_parts, le-leb, leb-true, lt-ltb, true≢false, Files, delta_suffix, is_name, is_name_byte, World, Leaves, AtEachMoment, Refusal, Usage, Names, Other, weaker, Job, Run, Gen, Attach, Turn, Ship, Statement, CopyTo, generated, delta_name, is_database, is_file, job_of, OfFiles, names_in, generated_first, IsAskable, IsFurther, FitsFirst, Plan, script_of, answer_is_askable, AnyAsks, AnySessionAsks, Asks, ScriptMakes, Status, target_named, Asked, FitsJob, Runs, request_asked, request_of, script_in, to_plan, to_run, OfAsked, OfShip, OfTarget, ReadMakes, TouchesOnly, HaveNames, LeaveNames, StartsFrom}
 use Rattle.nb_model.specs.declared.job.Job.TheVariants.{Plan as PlanOf}
 use Rattle.nb_model.specs.declared.statement.Statement.TheVariants.{Backup as BackupTo, BackupSince as BackupOf}
 use Rattle.nb_top.proofs.Deeds.{sound_deed}
 use Rattle.nb_top.proofs.FirstReady.{base_name, named_further}
 use Rattle.nb_top.proofs.RequestLaws.{askable_in, attach_askable}
 use Rattle.nb_top.proofs.ScriptRuns.{creates, first_opens, opens}
-use Rattle.nb_top.proofs.WordNames.{file_named}
+use Rattle.nb_top.proofs.LongNames.{delta_is_name, ship_is_name}
+use Rattle.nb_top.proofs.WordNames.{database_named, file_named}
 use Rattle.nb_top.proofs.WordsFit.{fits_words}
-
--- ---- the name of a database's difference file
-
-all_append : (xs ys : List ℕ) → list_all is_name_byte xs ≡ true → list_all is_name_byte ys ≡ true → list_all is_name_byte (xs ++ ys) ≡ true
-all_append [] ys all more = more
-all_append (x ∷ xs) ys all more = let both = and_parts (is_name_byte x) (list_all is_name_byte xs) all in and_from (is_name_byte x) (list_all is_name_byte (xs ++ ys)) both.0 (all_append xs ys both.1 more)
-
-delta_is_name : (name : List ℕ) → is_name name ≡ true → nat_le (length name) 94 ≡ true → is_name (delta_name name) ≡ true
-delta_is_name name named few =
-    let parts = and_parts (nat_lt 0 (length name) && nat_le (length name) 100) (list_all is_name_byte name) named in
-    let long : length (delta_name name) ≡ length name + 6 = length-append name delta_suffix in
-    and_from (nat_lt 0 (length (delta_name name)) && nat_le (length (delta_name name)) 100) (list_all is_name_byte (delta_name name))
-    (and_from (nat_lt 0 (length (delta_name name))) (nat_le (length (delta_name name)) 100) (lt-ltb 0 (length (delta_name name)) (omega (arith, long))) (le-leb (length (delta_name name)) 100 (omega (arith, long, leb-true (length name) 94 few))))
-    (all_append name delta_suffix parts.1 refl)
 
 -- ---- the names of a script
 
@@ -67,6 +54,13 @@ module _ (plan : Plan) (askable : IsAskable plan) where
   plan_named m (inl own) = target_is_named m own
   plan_named m (inr makes) = makes_named m makes
 
+-- ---- the names of a ship
+
+ship_named : (primary standby m : List ℕ) → is_database primary ≡ true → is_database standby ≡ true → OfShip primary standby m → is_name m ≡ true
+ship_named primary standby m fits given (inl own) = own_named primary m (database_named primary fits) (and_parts (is_file primary) (nat_le (length primary) 94) fits).1 own
+ship_named primary standby m fits given (inr (inl same)) = ap is_name same ∙ database_named standby given
+ship_named primary standby m fits given (inr (inr ship)) = ap is_name ship ∙ ship_is_name standby (database_named standby given) (and_parts (is_file standby) (nat_le (length standby) 94) given).1
+
 -- ---- the names of a job
 
 read_named : (read : Result Plan Refusal) (bytes : List ℕ) → script_of bytes ≡ read → (m : List ℕ) → ReadMakes read m → is_name m ≡ true
@@ -94,6 +88,7 @@ module _ (files : Files) where
   job_named (Attach db ask) fits m own = plan_named _ (attach_askable db ask fits.0 fits.1) m own
   job_named (Turn deed) fits m own = (sound_deed deed fits).named files m own
   job_named (PlanOf keep list) fits m own = listed_named keep (names_in list (files list)) m own
+  job_named (Ship primary standby) fits m own = ship_named primary standby m fits.0 fits.1 own
 
   pub asked_named : (words : List (List ℕ)) (m : List ℕ) → OfAsked files (request_asked files words) m → is_name m ≡ true
   asked_named words m = by (job_of words) refl

@@ -1,12 +1,11 @@
 -- A run leaves other files alone, whatever stands in the files, and says what it refuses.
 use Rattle.std.proofs.Common.{◌≡◌, ◌≢◌, inl, inr, ℕ, List, [], ◌∷◌, ◌++◌, max, refl, sym, ap, subst, ◌∙◌, append_assoc, Bool, true, false, IsTrue, Option, None, Some, Result, Ok, Err, Contains}
-use Rattle.nb_top.proofs.Common.{true≢false, File, Files, with_file, World, Leaves, LeavesAll, AtEachMoment, IsTimely, Refusal, Names, Other, weaker, decide, with_file-other, with_file-same, Deed, Reply, Statement, CreateDb, OpenDb, Account, Plain, with_entry, Cause, not_free, generated, Foretells, line_text, MadeFile, IsNoneOf, Given, output, status_after, status_of, text_of, not_opened, Event, IsRest, Now, Opening, Played, begun, done_opening, files_made, opening, opening_unless, replies_of, rounds, Stroke, Plan, script_of, ScriptMakes, OthersLeft, foretold_itself, begun_asked, made_named, Status, Telling, Sparingly, number_of, DoesTurn, OfName, one_turn, IsPerformed, IsReadRun, IsScriptRun, IsUnasked, IsWrittenRun, Performs, PerformsRun, Target, begins_refused, first_event, refused_at, run_in, script_made, target_asked, target_of, Asked, Does, Request, Runs, ToGenerate, ToRun, request_asked, AsksToMake, MayTouch, OfAsked, OfTarget, ReadMakes, SaysRefusal, TouchesOnly, ends_refused}
+use Rattle.nb_top.proofs.Common.{true≢false, File, Files, with_file, World, Leaves, LeavesAll, AtEachMoment, IsTimely, Refusal, Names, Other, weaker, decide, with_file-other, with_file-same, Deed, Reply, Statement, CreateDb, OpenDb, Account, Plain, with_entry, Cause, not_free, generated, Foretells, line_text, MadeFile, IsNoneOf, Given, output, status_after, status_of, text_of, not_opened, Event, IsRest, Now, Opening, Played, begun, done_opening, files_made, opening, opening_unless, replies_of, rounds, Stroke, Plan, script_of, ScriptMakes, OthersLeft, foretold_itself, begun_asked, made_named, Status, Telling, Sparingly, number_of, DoesTurn, OfName, one_turn, IsPerformed, IsReadRun, IsScriptRun, IsUnasked, IsWrittenRun, Performs, PerformsRun, Target, begins_refused, first_event, refused_at, run_in, script_made, target_asked, target_of, Asked, Does, EndsSo, KnowsAsked, Request, Runs, Ships, ToGenerate, ToRun, AsksToMake, MayTouch, OfAsked, OfTarget, ReadMakes, SaysRefusal, TouchesOnly, ends_refused}
 use Rattle.nb_model.specs.declared.reply.Reply.TheVariants.{Refused as RefusedReply}
 use Rattle.nb_model.specs.Outcomes.{Turn}
 use Rattle.nb_model.specs.Run.{IsRun as IsWholeRun}
 use Rattle.nb_ended.specs.declared.status.Status.TheVariants.{Refused as RefusedStatus, Usage as UsageStatus, Device, Memory}
-use Rattle.nb_top.specs.Goes.{IsRun}
-use Rattle.nb_top.proofs.KnownLaws.{account_told, told_known}
+use Rattle.nb_top.proofs.KnownLaws.{account_told}
 use Rattle.nb_top.proofs.MadeRuns.{first_or, made_behind, none_made}
 use Rattle.nb_top.proofs.ToldLaws.{told_files}
 use Rattle.nb_session.proofs.EventLaws.{made_none}
@@ -148,6 +147,12 @@ no_memory status ends is = true≢false (sym ends ∙ ap ends_refused is)
 
 -- ---- all of it
 
+-- it is told by one record, and not by parts
+abbrev pub IsOne : Asked → Type 0
+IsOne (Runs asked) = Unit {0}
+IsOne (Does deed) = Unit {0}
+IsOne (Ships primary standby) = ⊥
+
 module _ (old new : World) (timely : IsTimely new) (beside : LeavesAll new new.files) where
   -- what holds at each moment holds of what a crash leaves now
   module _ (names : Names) (moments : AtEachMoment old new (OthersLeft old names)) where
@@ -187,18 +192,18 @@ module _ (old new : World) (timely : IsTimely new) (beside : LeavesAll new new.f
         let done = does.ended (no_device status ends) (no_memory status ends) in
         refused_said status old new ((one_turn old.files deed).turn account ∷ []) done.said done.ended ends)
 
-    performs_touches : (asked : Asked) → Performs status old new asked account given → TouchesOnly status old new (OfAsked old.files asked)
-    performs_touches (Runs asked) does = run_touches asked does
-    performs_touches (Does deed) does = turn_touches deed does
+    performs_touches : (asked : Asked) → IsOne asked → Performs status old new asked account given → TouchesOnly status old new (OfAsked old.files asked)
+    performs_touches (Runs asked) one does = run_touches asked does
+    performs_touches (Does deed) one does = turn_touches deed does
+    performs_touches (Ships primary standby) one does = absurd one
 
 -- An account that knows what the files tell is told of them alone, and what was given may have been what was to come.
-pub others_stay : {H : Type 0} (world : H → World) (tells : Bool) → IsTrue tells → (status : Status) (old new : H) → IsTimely (world new) → LeavesAll (world new) (world new).files → (words : List (List ℕ))
-    → IsRun world tells status old new (request_asked (world old).files words) → TouchesOnly status (world old) (world new) (OfAsked (world old).files (request_asked (world old).files words))
-others_stay world tells told status old new timely beside words run =
+pub done_touches : {H : Type 0} (world : H → World) (tells : Bool) → IsTrue tells → (status : Status) (old new : H) → IsTimely (world new) → LeavesAll (world new) (world new).files → (asked : Asked)
+    → IsOne asked → KnowsAsked (world old).files (account_told (world old).files) asked → EndsSo world tells status old new asked → TouchesOnly status (world old) (world new) (OfAsked (world old).files asked)
+done_touches world tells told status old new timely beside asked one knows run =
     let account : Account = account_told (world old).files in
-    let knows = told_known (world old).files words in
     let grows = run.grows account told knows in
     let does = run.does told in
     let given : Given = record { guids = grows.ids; times = grows.clock; holds = does.0 } in
     let foretold : Foretells given does.0 (world old) (world new) = foretold_itself (world old) (world new) does.0 grows in
-    performs_touches (world old) (world new) timely beside status account given (request_asked (world old).files words) (does.1 account given knows grows.sixteen foretold).whole
+    performs_touches (world old) (world new) timely beside status account given asked one (does.1 account given knows grows.sixteen foretold).whole

@@ -1,6 +1,6 @@
 -- What the words ask for can be asked.
 use Rattle.std.proofs.Common.{◌≡◌, ◌⊎◌, ⊎_elim, ℕ, zero, suc, ◌-◌, ◌≤◌, List, [], ◌∷◌, ◌++◌, length, get_or, true, false, refl, sym, ap, subst, arith, Bool, ◌&&◌, not, nat_le, nat_lt, Option, Some, None, Result, Ok, Err, IfOk, IfErr, replicate, if◌then◌else◌}
-use Rattle.nb_top.proofs.Common.{AllByRecursion, and_parts, le-leb, File, Files, is_name, is_delta, Fault, Refused, Device, Memory, Refusal, BadScript, ScriptLong, Usage, Ask, Stat, Backup, BackupSince, Job, Run, Gen, Attach, Turn, Statement, asks_of, name_short, Word, is_database, is_file, job_of, with_first, is_next, list_of, names_on, some_names_on, names_in, IsFurther, IsAskable, IsFile, left, lines_of, Plan, Numbered, script_of, answer_is_askable, FitsDeed, IsAskedBy, IsReadJob, Request, ToRun, ToGenerate, Asked, Runs, Does, FitsAsk, FitsJob, script_in, to_plan, to_run, plan_of, request_of, request_asked, device_memory, err_ok}
+use Rattle.nb_top.proofs.Common.{AllByRecursion, and_parts, le-leb, File, Files, is_name, is_delta, Fault, Refused, Device, Memory, Refusal, BadScript, ScriptLong, Usage, Ask, Stat, Backup, BackupSince, Job, Run, Gen, Attach, Turn, Ship, Statement, asks_of, name_short, Word, is_database, is_file, job_of, with_first, is_next, list_of, names_on, some_names_on, names_in, IsFurther, IsAskable, IsFile, left, lines_of, Plan, Numbered, script_of, answer_is_askable, FitsDeed, IsAskedBy, IsReadJob, Request, ToRun, ToGenerate, Asked, Runs, Does, Ships, FitsAsk, FitsJob, script_in, to_plan, to_run, plan_of, request_of, request_asked, device_memory, err_ok}
 use Rattle.nb_model.specs.declared.job.Job.TheVariants.{Plan as PlanOf}
 use Rattle.nb_script.specs.Fits.{IsBase}
 use Rattle.nb_top.proofs.WordNames.{plain_file}
@@ -11,11 +11,12 @@ abbrev pub CanBeAsked : Request → Type 0
 CanBeAsked (ToRun plan telling) = IsAskable plan
 CanBeAsked (ToGenerate number name) = is_delta name ≡ false
 
--- so it is of what is asked for; a deed fits
+-- so it is of what is asked for; a deed fits, and a ship has the names of databases
 abbrev pub CanBeMet : Asked → Type 0
 CanBeMet (Runs (Err refusal)) = Unit {0}
 CanBeMet (Runs (Ok r)) = CanBeAsked r
 CanBeMet (Does deed) = FitsDeed deed
+CanBeMet (Ships primary standby) = (is_database primary ≡ true) × (is_database standby ≡ true)
 
 -- what the words ask for
 pub asked_usage : (files : Files) (words : List Word) → job_of words ≡ None → request_asked files words ≡ Runs (Err Usage)
@@ -147,6 +148,7 @@ module _ (files : Files) where
   job_can (Attach db ask) fits = attach_askable db ask fits.0 fits.1
   job_can (Turn deed) fits = fits
   job_can (PlanOf keep list) fits = listed_can keep list (files list)
+  job_can (Ship primary standby) fits = fits
 
   pub can_be_asked : (words : List Word) → CanBeMet (request_asked files words)
   can_be_asked words = by (job_of words) refl

@@ -1,6 +1,6 @@
 -- The line that is shown of a script which breaks its form.
 use Rattle.std.proofs.Common.{◌≡◌, ◌≢◌, ℕ, List, sym, ap, subst, Bool, Option, Some, None, Result, Ok, Err, IsErr}
-use Rattle.nb_top.proofs.Common.{Refusal, BadScript, Usage, RunError, Files, World, Deed, Job, Status, Goes, Request, Asked, Runs, Does, request_of, to_plan, BreaksAt, IfShown, IsShownOf}
+use Rattle.nb_top.proofs.Common.{Refusal, BadScript, Usage, RunError, Files, World, Deed, Job, Status, Goes, Request, Asked, Runs, Does, Ships, request_of, to_plan, BreaksAt, IfShown, IsShownOf}
 use Rattle.nb_ended.specs.declared.broken.Broken.{Broken}
 use Rattle.nb_ended.specs.Shown.{Names}
 
@@ -13,6 +13,9 @@ run_unbroken r line h = cc
 
 pub deed_unbroken : (deed : Deed) → IsUnbroken (Does deed)
 deed_unbroken deed line h = cc
+
+pub ship_unbroken : (primary standby : List ℕ) → IsUnbroken (Ships primary standby)
+ship_unbroken primary standby line h = cc
 
 -- a plan that is refused is refused for a line of its list or for another reason
 pub plan_unbroken : (keep : ℕ) (names : List (List ℕ)) → IsUnbroken (to_plan keep (Ok names))

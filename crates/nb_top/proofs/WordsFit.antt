@@ -1,6 +1,6 @@
 -- What words name fits: its names are those that words may give, by the rows of the grammar.
 use Rattle.std.proofs.Common.{◌≡◌, ℕ, ◌-◌, List, [], ◌∷◌, length, true, false, refl, subst, arith, Bool, ◌&&◌, ◌==◌, nat_le, slice_index, codes, Option, Some, None}
-use Rattle.nb_top.proofs.Common.{AllByRecursion, list_all, and_parts, leb-true, same_name, Ask, Stat, Check, Reclaim, Backup, BackupSince, Lock, LockWithSize, Unlock, Restore, Fixup, Apply, Fold, Job, Run, Gen, Attach, Turn, Word, are_flags, is_database, is_file, job_if, number_in_word, count_in_word, asks_one, named_job, gen_job, plan_job, gen_or_plan, fold_job, plain_job, backup_job, restore_job, apply_job, ask_job, fixup_job, read_words, job_of_flags, job_read, job_of, FitsAsk, FitsJob}
+use Rattle.nb_top.proofs.Common.{AllByRecursion, list_all, and_parts, leb-true, same_name, Ask, Stat, Check, Reclaim, Backup, BackupSince, Lock, LockWithSize, Unlock, Activate, Restore, Fixup, Apply, Fold, Job, Run, Gen, Attach, Turn, Ship, Word, are_flags, is_database, is_file, job_if, number_in_word, count_in_word, asks_change, asks_one, named_job, gen_job, plan_job, ship_job, job_of_three, fold_job, plain_job, backup_job, restore_job, apply_job, ask_job, fixup_job, read_words, job_of_flags, job_read, job_of, FitsAsk, FitsJob}
 use Rattle.nb_model.specs.declared.job.Job.TheVariants.{Plan as PlanOf}
 use Rattle.nb_model.specs.Words.{Read}
 
@@ -62,13 +62,20 @@ backup_fits (since ∷ db ∷ file ∷ []) = by _
     by None = if_fits is_level (Attach db (Backup (slice_index since 0 - 48) file)) fits
 backup_fits (since ∷ db ∷ file ∷ w ∷ ws) = tt
 
+change_fits : (verb name : Word) → is_database name ≡ true → IfJob (asks_change verb name)
+change_fits verb name is = by (same_name verb (codes "reclaim"))
+  where
+    by : (r : Bool) → IfJob (elim r as (λ z. Option Job) [ true ↦ Some (Attach name Reclaim) | false ↦ job_if (same_name verb (codes "activate")) (Attach name Activate) ])
+    by true = (is, tt)
+    by false = if_fits (same_name verb (codes "activate")) (Attach name Activate) (λ yes. (is, tt))
+
 one_fits : (verb name : Word) → is_database name ≡ true → IfJob (asks_one verb name)
 one_fits verb name is = by (same_name verb (codes "stat")) (same_name verb (codes "check"))
   where
-    by : (s c : Bool) → IfJob (elim s as (λ z. Option Job) [ true ↦ Some (Attach name Stat) | false ↦ elim c as (λ z. Option Job) [ true ↦ Some (Attach name Check) | false ↦ job_if (same_name verb (codes "reclaim")) (Attach name Reclaim) ] ])
+    by : (s c : Bool) → IfJob (elim s as (λ z. Option Job) [ true ↦ Some (Attach name Stat) | false ↦ elim c as (λ z. Option Job) [ true ↦ Some (Attach name Check) | false ↦ asks_change verb name ] ])
     by true c = (is, tt)
     by false true = (is, tt)
-    by false false = if_fits (same_name verb (codes "reclaim")) (Attach name Reclaim) (λ yes. (is, tt))
+    by false false = change_fits verb name is
 
 named_fits : (plain : List Word) → IfJob (named_job plain)
 named_fits [] = tt
@@ -95,17 +102,22 @@ plan_fits keep list = by (count_in_word keep)
     by None = tt
     by (Some k) = if_fits (is_file list) (PlanOf k list) (λ is. tt)
 
-three_fits : (plain : List Word) → IfJob (gen_or_plan plain)
+ship_fits : (primary standby : Word) → IfJob (ship_job primary standby)
+ship_fits primary standby = if_fits (is_database primary && is_database standby) (Ship primary standby) (λ is. and_parts (is_database primary) (is_database standby) is)
+
+three_fits : (plain : List Word) → IfJob (job_of_three plain)
 three_fits [] = tt
 three_fits (verb ∷ []) = tt
 three_fits (verb ∷ name ∷ []) = tt
-three_fits (verb ∷ number ∷ name ∷ []) = by (same_name verb (codes "gen")) (same_name verb (codes "plan"))
+three_fits (verb ∷ one ∷ other ∷ []) = by (same_name verb (codes "gen")) (same_name verb (codes "plan")) (same_name verb (codes "ship"))
   where
-    by : (a b : Bool) → IfJob (elim a as (λ z. Option Job) [ true ↦ gen_job number name | false ↦ elim b as (λ z. Option Job) [ true ↦ plan_job number name | false ↦ None ] ])
-    by true b = gen_fits number name
-    by false true = plan_fits number name
-    by false false = tt
-three_fits (verb ∷ number ∷ name ∷ w ∷ ws) = tt
+    by : (a b c : Bool)
+        → IfJob (elim a as (λ z. Option Job) [ true ↦ gen_job one other | false ↦ elim b as (λ z. Option Job) [ true ↦ plan_job one other | false ↦ elim c as (λ z. Option Job) [ true ↦ ship_job one other | false ↦ None ] ] ])
+    by true b c = gen_fits one other
+    by false true c = plan_fits one other
+    by false false true = ship_fits one other
+    by false false false = tt
+three_fits (verb ∷ one ∷ other ∷ w ∷ ws) = tt
 
 fold_fits : (plain : List Word) → IfJob (fold_job plain)
 fold_fits [] = tt
@@ -123,7 +135,7 @@ plain_fits : (plain : List Word) → IfJob (plain_job plain)
 plain_fits [] = tt
 plain_fits (verb ∷ []) = tt
 plain_fits (verb ∷ name ∷ []) = named_fits (verb ∷ name ∷ [])
-plain_fits (verb ∷ number ∷ name ∷ []) = three_fits (verb ∷ number ∷ name ∷ [])
+plain_fits (verb ∷ one ∷ other ∷ []) = three_fits (verb ∷ one ∷ other ∷ [])
 plain_fits (verb ∷ out ∷ file ∷ other ∷ files) = fold_fits (verb ∷ out ∷ file ∷ other ∷ files)
 
 flags_fit : (flags : List ℕ) (rows : List (List ℕ × Option Job)) → AllByRecursion (λ (row : List ℕ × Option Job). IfJob row.1) rows → IfJob (job_of_flags flags rows)

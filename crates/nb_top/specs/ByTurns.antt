@@ -28,7 +28,7 @@ use Rattle.nb_ended.specs.declared.status.Status.TheVariants.{Device, Memory}
 use Rattle.nb_top.specs.declared.telling.Telling.{Telling}
 use Rattle.nb_top.specs.declared.telling.Telling.TheVariants.{Sparingly}
 use Rattle.nb_top.specs.Performed.{PlaysOpened, PlaysTold, pages_first, told_later}
-use Rattle.nb_top.specs.Requests.{Request, ToRun, ToGenerate, Asked, Runs, Does}
+use Rattle.nb_top.specs.Requests.{Request, ToRun, ToGenerate, Asked, Runs, Does, Ships}
 
 -- a call of the host failed, or memory ran out
 abbrev pub EndsEarly : Result Status RunError → Type 0
@@ -101,10 +101,11 @@ RunByTurns world ending old new (Ok (ToGenerate number name)) account given = el
   | None ↦ WrittenByTurns world ending old new name (generated number) account given
 ]
 
--- a job of one turn is told by its own promise
+-- a job of one turn is told by its own promise, and so is a ship
 abbrev pub AskedByTurns : {H : Type 0} → (world : H → World) → (ending : Ending) → (old new : H) → Asked → Account → Given → Type 0
 AskedByTurns world ending old new (Runs asked) account given = RunByTurns world ending old new asked account given
 AskedByTurns world ending old new (Does deed) account given = Unit {0}
+AskedByTurns world ending old new (Ships primary standby) account given = Unit {0}
 
 -- The script's turns were taken and told: what is said of all of them, and of each.
 pub record TakesTold {H : Type 0} (world : H → World) (result : Result Bool RunError) (old new : H) (before after : Held) (t : Trail) (telling : Telling) (pages : ℕ) (now : Now) (schedule : List ℕ) : Type 0 where

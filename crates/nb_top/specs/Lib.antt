@@ -7,9 +7,17 @@ pub mod Performed
 pub mod Rows
 pub mod Worlds
 pub mod Touched
+pub mod Done
+pub mod Shipping
+pub mod Shipped
+pub mod ShipDone
+pub mod ShipStops
+pub mod ShipOnward
 pub mod Goes
 pub mod Shown
 pub mod ByTurns
 pub mod Forced
+pub mod Frozen
 pub mod Stopped
 pub mod Among
+pub mod Dangers

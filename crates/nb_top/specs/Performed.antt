@@ -59,7 +59,7 @@ use Rattle.nb_ended.specs.declared.status.Status.TheVariants.{Device, Memory}
 use Rattle.nb_top.specs.declared.telling.Telling.{Telling}
 use Rattle.nb_top.specs.declared.telling.Telling.TheVariants.{All, Quietly, WithSize, Sparingly}
 use Rattle.nb_top.specs.OneTurn.{DoesTurn, one_turn}
-use Rattle.nb_top.specs.Requests.{Request, ToRun, ToGenerate, Asked, Runs, Does, script_in}
+use Rattle.nb_top.specs.Requests.{Request, ToRun, ToGenerate, Asked, Runs, Does, Ships, script_in}
 use Rattle.nb_top.specs.Served.{TurnsTo}
 use Rattle.nb_top.specs.Standing.{HoldsKept, StandsFor}
 
@@ -359,20 +359,23 @@ pub record PerformsRun (status : Status) (old new : World) (asked : Result Reque
   pub finished : status ≢ Device → status ≢ Memory → Finished status old new account (target_of asked events) events given left
   pub stands : status ≢ Device → status ≢ Memory → IsSure old account events → StandsFor new last
 
--- What is asked for asks the account for what the files tell.
+-- What is asked for asks the account for what the files tell. Each part of a ship asks its own.
 abbrev pub KnowsAsked : Files → Account → Asked → Type 0
 KnowsAsked files account (Runs asked) = Knows files account asked
 KnowsAsked files account (Does deed) = (one_turn files deed).knows account
+KnowsAsked files account (Ships primary standby) = Unit {0}
 
--- what is done of it
+-- what is done of it; a ship is told by its parts
 abbrev pub GoesTo : (result : Result Status RunError) (old new : World) → Asked → Account → Given → Type 0
 GoesTo result old new (Runs asked) account given = RunsTo result old new asked account given
 GoesTo result old new (Does deed) account given = TurnsTo result old new (one_turn old.files deed) account
+GoesTo result old new (Ships primary standby) account given = Unit {0}
 
 -- What `run` does on these words: a run, or a job of one turn.
 abbrev pub Performs : (status : Status) (old new : World) → Asked → Account → Given → Type 0
 Performs status old new (Runs asked) account given = PerformsRun status old new asked account given
 Performs status old new (Does deed) account given = DoesTurn status old new (one_turn old.files deed) account
+Performs status old new (Ships primary standby) account given = Unit {0}
 
 -- what is said of a database of so many pages, in that state, that a first statement has created or opened
 abbrev pub opened_reply : (first : Statement) (pages state : ℕ) → Reply

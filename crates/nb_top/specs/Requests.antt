@@ -10,7 +10,7 @@ use Rattle.nb_model.specs.declared.job.Ask.TheVariants.{Backup, BackupSince}
 use Rattle.nb_model.specs.declared.job.Deed.{Deed}
 use Rattle.nb_model.specs.declared.job.Deed.TheVariants.{Plan as PlanFiles}
 use Rattle.nb_model.specs.declared.job.Job.{Job}
-use Rattle.nb_model.specs.declared.job.Job.TheVariants.{Run, Gen, Attach, Turn, Plan as PlanOf}
+use Rattle.nb_model.specs.declared.job.Job.TheVariants.{Run, Gen, Attach, Turn, Plan as PlanOf, Ship}
 use Rattle.nb_model.specs.declared.statement.Statement.{Statement}
 use Rattle.nb_model.specs.declared.statement.Statement.TheVariants.{OpenDb}
 use Rattle.nb_model.specs.Jobs.{usual_cache, asks_of, asks_size}
@@ -34,6 +34,7 @@ FitsJob (Gen number script) = is_file script ≡ true
 FitsJob (Attach db ask) = (is_database db ≡ true) × FitsAsk ask
 FitsJob (Turn deed) = FitsDeed deed
 FitsJob (PlanOf keep list) = Unit {0}
+FitsJob (Ship primary standby) = (is_database primary ≡ true) × (is_database standby ≡ true)
 
 -- What a run is asked for.
 pub data Request : Type 0 where
@@ -42,10 +43,11 @@ pub data Request : Type 0 where
   -- the script of a number, which is written under a name and then run, and of which only refusals and the pages by kind are told
   ToGenerate : (number : ℕ) (name : List ℕ) → Request
 
--- What the words ask for: a run, or why there is none, or a job of one turn.
+-- What the words ask for: a run, or why there is none, or a job of one turn, or a ship, which is told by its parts.
 pub data Asked : Type 0 where
   Runs : Result Request Refusal → Asked
   Does : Deed → Asked
+  Ships : (primary standby : List ℕ) → Asked
 
 -- the script that a file spells, or why there is none
 abbrev pub script_in : (name : List ℕ) → File → Result Plan Refusal
@@ -81,6 +83,7 @@ request_of files (Gen number script) = Runs (Ok (ToGenerate number script))
 request_of files (Attach db ask) = Runs (Ok (attached db ask))
 request_of files (Turn deed) = Does deed
 request_of files (PlanOf keep list) = to_plan keep (names_in list (files list))
+request_of files (Ship primary standby) = Ships primary standby
 
 -- what the words ask for
 abbrev pub request_asked : Files → (words : List (List ℕ)) → Asked

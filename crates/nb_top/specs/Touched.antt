@@ -14,8 +14,9 @@ use Rattle.nb_script.specs.Scripts.{Plan, script_of}
 use Rattle.nb_session.specs.MadeNames.{ScriptMakes}
 use Rattle.nb_session.specs.Others.{IsAdded, OthersLeft}
 use Rattle.nb_ended.specs.declared.status.Status.{Status}
+use Rattle.nb_ship.specs.Names.{ship_of}
 use Rattle.nb_ended.specs.declared.status.Status.TheVariants.{Refused as RefusedStatus, Usage as UsageStatus}
-use Rattle.nb_top.specs.Requests.{Request, ToRun, ToGenerate, Asked, Runs, Does}
+use Rattle.nb_top.specs.Requests.{Request, ToRun, ToGenerate, Asked, Runs, Does, Ships}
 use Rattle.nb_top.specs.OneTurn.{OfName, one_turn}
 use Rattle.nb_top.specs.Performed.{Target, target_asked}
 
@@ -39,10 +40,15 @@ abbrev pub MayTouch : Result Request Refusal → Names
 MayTouch (Err refusal) m = ⊥
 MayTouch (Ok request) m = OfTarget (target_asked request) m ⊎ AsksToMake request m
 
--- All files that what is asked for may touch: those of a run, or the one of a job of one turn, if it has one.
+-- the files that a ship may touch: the two of the primary, the standby, and the ship file
+abbrev pub OfShip : (primary standby : List ℕ) → Names
+OfShip primary standby m = OfFiles primary m ⊎ ((m ≡ standby) ⊎ (m ≡ ship_of standby))
+
+-- All files that what is asked for may touch: those of a run, or the one of a job of one turn, if it has one, or those of a ship.
 abbrev pub OfAsked : Files → Asked → Names
 OfAsked files (Runs asked) m = MayTouch asked m
 OfAsked files (Does deed) m = OfName (one_turn files deed).name m
+OfAsked files (Ships primary standby) m = OfShip primary standby m
 
 -- a run that ends so has refused something
 abbrev pub ends_refused : Status → Bool

@@ -37,7 +37,7 @@ pub(crate) fn run_generated<H: Host>(
     let script = settled(parse(alloc, &bytes))?;
     write_script(host, name, &bytes)?;
     match script {
-        Ok(script) => run_script(alloc, host, &script, Telling::Sparingly),
+        Ok(script) => run_script(alloc, host, &script, Telling::Sparingly, &mut None),
         Err(refusal) => refuse(alloc, host, 0, refusal),
     }
 }

@@ -1,6 +1,6 @@
 // Laws of the whole program: each is a public function with an empty body, whose contract is the law. They show that what a run is
 // promised on holds where a first run begins and where the next one begins after a crash, and that a job is what it asks for.
-ghost use Rattle.std.specs.Prelude.{◌≡◌, ◌⊎◌, ℕ, ◌+◌, ◌^◌, ◌<◌, List, [], ◌∷◌, ◌++◌, length, Option, Some, Result, Ok, Contains, IsTrue, false, ◌≢◌, true};
+ghost use Rattle.std.specs.Prelude.{◌≡◌, ◌⊎◌, ℕ, ◌+◌, ◌^◌, ◌<◌, List, [], ◌∷◌, ◌++◌, length, Option, None, Some, Result, Ok, Contains, IsTrue, false, ◌≢◌, true};
 ghost use Rattle.std.specs.List.{AllByRecursion};
 ghost use Rattle.nb_fields.specs.Fresh.{fresh};
 ghost use Rattle.nb_host.specs.Files.{Files, with_file};
@@ -12,17 +12,18 @@ ghost use Rattle.nb_mem.specs.declared.entry.Entry.{Entry};
 ghost use Rattle.nb_mem.specs.Histories.{files_of, guids_behind, world_of};
 ghost use Rattle.nb_mem.specs.Outcomes.{IsLeft, placed};
 ghost use Rattle.nb_model.specs.Account.{Account, Base, Kept};
-ghost use Rattle.nb_model.specs.Image.{page_at, is_forced};
-ghost use Rattle.nb_model.specs.Steps.{AreForced};
+ghost use Rattle.nb_model.specs.Image.{Image, page_at, is_forced, is_read_only};
+ghost use Rattle.nb_model.specs.Steps.{AreForced, after_steps, steps_of};
 ghost use Rattle.nb_model.specs.Strokes.{Stroke, make};
-ghost use Rattle.nb_model.specs.Trail.{IsBehindFirst};
+ghost use Rattle.nb_model.specs.Trail.{IsBehindFirst, Trail};
 ghost use Rattle.nb_model.specs.Jobs.{IsAttaching, turn_of};
+ghost use Rattle.nb_model.specs.InPlace.{in_place, not_standby};
 ghost use Rattle.nb_model.specs.Levels.{Contents};
 ghost use Rattle.nb_model.specs.NewGuids.{AreNew, guids_in};
 ghost use Rattle.nb_model.specs.Outcomes.{Given};
 ghost use Rattle.nb_model.specs.Owner.{delta_name};
 ghost use Rattle.nb_model.specs.Restoring.{Link, verdict};
-ghost use Rattle.nb_model.specs.Run.{Event, strokes_of};
+ghost use Rattle.nb_model.specs.Run.{Event, Now, play, strokes_of};
 ghost use Rattle.nb_model.specs.Stands.{Stands};
 ghost use Rattle.nb_model.specs.Trail.{ShowsIn};
 ghost use Rattle.nb_model.specs.declared.job.Ask.{Ask};
@@ -30,17 +31,32 @@ ghost use Rattle.nb_model.specs.declared.job.Deed.{Deed};
 ghost use Rattle.nb_model.specs.declared.job.Deed.TheVariants.{Apply, Restore};
 ghost use Rattle.nb_model.specs.declared.job.Job.TheVariants.{Attach, Turn};
 ghost use Rattle.nb_inplace.specs.Verdict.{IsMergeable};
+ghost use Rattle.nb_model.specs.Words.{is_database};
 ghost use Rattle.nb_page.specs.Free.{is_free_name};
 ghost use Rattle.nb_restore.specs.Kept.{AreKept, last_guid};
 ghost use Rattle.nb_script.specs.Scripts.{Plan};
+ghost use Rattle.nb_session.specs.ByTurns.{ByTurns};
 ghost use Rattle.nb_ended.specs.declared.status.Status.{Status};
 ghost use Rattle.nb_top.specs.Among.{AreClosed, FollowOn, GoOnAlone, HoldTheirs, RestoresKept, StandAlone, among, is_among, only_of, with_deltas};
 ghost use Rattle.nb_top.specs.Forced.{AreForcedIn, PrefixLeft, StandsWhole};
+ghost use Rattle.nb_top.specs.Frozen.{AreDuring, StaysWithin};
 ghost use Rattle.nb_top.specs.Goes.{IsRun};
 ghost use Rattle.nb_top.specs.OneTurn.{DoesTurn, leaves_all, one_turn};
 ghost use Rattle.nb_top.specs.Performed.{IsPerformed, IsSure, KnowsAsked, PerformsRun, RunLeft, StandsWithin, Target, Finished, HasSmallScn, MayBeGiven, target_of};
-ghost use Rattle.nb_top.specs.Requests.{Does, Request, Runs, attached, request_asked, request_of, ToRun};
+ghost use Rattle.nb_top.specs.Requests.{Does, Request, Runs, Ships, attached, request_asked, request_of, ToRun};
 ghost use Rattle.nb_top.specs.Rows.{IsNewPage};
+ghost use Rattle.nb_top.specs.ShipDone.{BacksUp, GivesNew, HasStandby, IsShipped};
+ghost use Rattle.nb_top.specs.Done.{GoesOn};
+ghost use Rattle.nb_top.specs.ShipOnward.{BeginsWell, CanShip, HasRoomFor, RestsOn, WaitsForMore};
+ghost use Rattle.nb_top.specs.Shipped.{copying};
+ghost use Rattle.nb_model.specs.Rows.{IsNeat};
+ghost use Rattle.nb_top.specs.Shipping.{names_backup, not_normal};
+ghost use Rattle.nb_ship.specs.Looks.{look_at};
+ghost use Rattle.nb_ship.specs.Names.{ship_of};
+ghost use Rattle.nb_ship.specs.declared.found.Look.{Look};
+ghost use Rattle.nb_fields.specs.Header.{guid_of};
+ghost use Rattle.nb_inplace.specs.Half.{IsHalf};
+ghost use Rattle.nb_top.specs.ShipStops.{GivesFirstNew, IsStopped};
 ghost use Rattle.nb_top.specs.Standing.{HoldsKept, NextMayBegin, StandsFor};
 ghost use Rattle.nb_top.specs.Stopped.{FinishesMerge, IsOnWay, KeepsMerged};
 ghost use Rattle.nb_top.specs.declared.telling.Telling.{Telling};
@@ -226,4 +242,62 @@ pub fn the_next_run_may_begin_alone<H: Host>(_before: &H, _behind: &H)
     ensures beside { (names : List (List ℕ)) (files others : Files) (kept : List Kept) → HoldsKept (among names files) kept → ((m : List ℕ) → is_among names m ≡ true → others m ≡ files m) → HoldsKept (among names others) kept }
     ensures closed { (names : List (List ℕ)) → AllByRecursion (λ (name : List ℕ). is_delta name ≡ false) names → AreClosed (with_deltas names) }
     ensures part { IsTrue H.tells → (names : List (List ℕ)) (account : Account) → AreClosed names → StandsFor (H.world _before.now) account → StandAlone names (H.world _before.now) (only_of names account) }
+{}
+
+/// While a backup is under way the main file stays as it is. Among turns that were taken one after another, a stretch of them, each taken in the stalled
+/// state and none ending it, leaves the database's file as it reads, byte for byte, and at each moment of the stretch a crash leaves of it what it would
+/// have left before.
+pub fn a_frozen_file_stays<H: Host>(_before: &H, _behind: &H)
+    ensures { (told : List Event → List Event) (front stretch rest : List ℕ) (t : Trail) (now : Now) → ByTurns H.world told (front ++ (stretch ++ rest)) _before.now _behind.now t now
+        → AreDuring stretch (after_steps t (steps_of (play front now).0)) (play front now).1 → StaysWithin H.world told front stretch rest _before.now _behind.now t now }
+{}
+
+/// A ship that is done leaves the standby as the image that the begin of its own backup kept, in the normal state, read-only and with nothing pending, for
+/// good. The primary is as the run of that backup leaves it, for good; one GUID and one time were given; the ship file is gone for good; and the reply tells
+/// the SCN of that backup and the pages of the standby. So it is where the files stood for an account and the GUID that was given is new, where the standby
+/// names the backup that it was restored from, and a merge into it that was begun is of a kept backup. The files go on to stand, with one record more.
+pub fn a_ship_gives_the_kept_image<H: Host>(_before: &H, _behind: &H)
+    ensures { IsTrue H.tells → (primary standby : List ℕ) (account : Account) → is_database primary ≡ true → is_database standby ≡ true → primary ≢ standby
+        → HaveNames (H.world _before.now).files → StandsFor (H.world _before.now) account → HasStandby (H.world _before.now).files account.kept standby → GivesNew (H.world _before.now) (H.world _behind.now) account.kept
+        → IsRun H.world H.tells Status.Done _before.now _behind.now (Ships primary standby) → IsShipped H.world _before.now _behind.now account primary standby }
+{}
+
+/// A ship that is stopped, or that fails or is refused: at each moment of it, and after it, a crash leaves the primary as it was, or as the run of its copy
+/// leaves it after some of its steps; and the standby as it was, or half way, with the GUID of the whole ship file pending, or merged with it. That file is
+/// one whose merge was begun as the ship began, or one whose backup the primary's history named then, or that of the ship's own copy. The files stand for an
+/// account with the records of before and of the backups that have begun.
+pub fn a_stopped_ship_leaves_them_so<H: Host>(_before: &H, _behind: &H)
+    ensures { IsTrue H.tells → (primary standby : List ℕ) (status : Status) (account : Account) (further : List ℕ) → is_database primary ≡ true → is_database standby ≡ true → primary ≢ standby
+        → HaveNames (H.world _before.now).files → StandsFor (H.world _before.now) account → HasStandby (H.world _before.now).files account.kept standby
+        → GivesFirstNew (H.world _before.now) (H.world _behind.now) account.kept further → IsRun H.world H.tells status _before.now _behind.now (Ships primary standby)
+        → AtEachMoment (H.world _before.now) (H.world _behind.now) (λ files said. IsStopped H.world _before.now account primary standby files) }
+{}
+
+/// The copy of a ship is refused nothing: where the primary is in the normal state, read-write and neat, its history names the backup, the ship file's name is
+/// free, and SCNs and pages aren't used up, it is done, or it ends early.
+pub fn a_copy_is_refused_nothing<H: Host>(_before: &H, _behind: &H)
+    ensures { IsTrue H.tells → (primary standby since : List ℕ) (status : Status) (account : Account) (b : Base) → is_database primary ≡ true → is_database standby ≡ true
+        → HaveNames (H.world _before.now).files → StandsFor (H.world _before.now) account → ShowsIn primary b (H.world _before.now).files → not_normal b.image ≡ None → is_read_only b.image ≡ false → IsNeat b.image → HasRoomFor b.image
+        → names_backup b.image since ≡ true → is_free_name (H.world _before.now).files (ship_of standby) ≡ true → GoesOn H.world H.tells (Ok status) _before.now _behind.now (copying primary since (ship_of standby))
+        → status ≢ Status.Device → status ≢ Status.Memory → status ≡ Status.Done }
+{}
+
+/// What the copy of a ship has made is accepted: where the standby rests on the backup since which it was made, the ship file is merged into it.
+pub fn a_copied_file_is_accepted<H: Host>(_before: &H, _behind: &H)
+    ensures { (account : Account) (primary standby since bytes : List ℕ) (r : Kept) → is_database standby ≡ true → (copy : BacksUp (H.world _before.now) (H.world _behind.now) account primary since (ship_of standby))
+        → RestsOn (H.world _behind.now).files copy.after.kept standby bytes r → guid_of bytes ≡ since → not_standby standby ((H.world _behind.now).files standby) ≡ None
+        → (c : Contents) × (in_place (H.world _behind.now).files standby (ship_of standby) ≡ Ok c) }
+{}
+
+/// What a further ship begins with. Where the primary is read-write with forced writes on and neat, and the standby rests on a kept backup that the history
+/// of the primary names, and a look refuses nothing, or a merge of the ship file into the standby was begun and the history names its backup, then the plan of a
+/// ship refuses nothing once the primary is in the normal state. Its copy goes on from a backup that the history names, and a merge that comes first is
+/// accepted. So it is where such a merge was stopped half way.
+pub fn a_further_ship_begins_well()
+    ensures begins { (files : Files) (account : Account) (primary standby : List ℕ) → (can : CanShip files account primary standby) → is_database primary ≡ true → is_database standby ≡ true → not_normal can.base.image ≡ None
+        → BeginsWell files primary standby can.base.image }
+    ensures rests { (files : Files) (kept : List Kept) (image : Image) (standby bytes : List ℕ) (r : Kept) (look : Look) → RestsOn files kept standby bytes r → names_backup image (guid_of bytes) ≡ true → look_at files standby ≡ Ok look
+        → WaitsForMore files kept image standby }
+    ensures half { (old files : Files) (standby bytes half : List ℕ) (c : Contents) (kept : List Kept) (image : Image) → IsMergeable old standby (ship_of standby) bytes c → IsHalf bytes c half → files standby ≡ Some half
+        → files (ship_of standby) ≡ old (ship_of standby) → names_backup image c.head.guid ≡ true → WaitsForMore files kept image standby }
 {}

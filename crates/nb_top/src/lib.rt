@@ -11,6 +11,8 @@ mod program;
 mod reading;
 mod request;
 mod script;
+mod ship;
+mod ship_plan;
 mod telling;
 mod turn;
 

@@ -1,17 +1,21 @@
 // A job, from the words to the last reply.
-ghost use Rattle.std.specs.Prelude.{◌≡◌, ◌≢◌, ◌⊎◌, None, Ok, IsErr, map, string_bytes, IsTrue, IfOk};
+ghost use Rattle.std.specs.Prelude.{◌≡◌, ◌≢◌, ◌⊎◌, ℕ, List, None, Ok, IsErr, map, string_bytes, IsTrue, IfOk};
 ghost use Rattle.nb_catalog.specs.NameLists.{list_of};
 ghost use Rattle.nb_catalog.specs.Turns.{names_in};
 ghost use Rattle.nb_host.specs.Causes.{Rose, CountsRun};
 ghost use Rattle.nb_host.specs.declared.refusals.Refusal.TheVariants.{Usage as UsageRefusal};
 ghost use Rattle.nb_change.specs.Gave.{GaveNothing};
 ghost use Rattle.nb_model.specs.Jobs.{asks_of};
+ghost use Rattle.nb_model.specs.declared.job.Ask.TheVariants.{Check as CheckAsk};
+ghost use Rattle.nb_model.specs.declared.job.Job.TheVariants.{Attach};
+ghost use Rattle.nb_model.specs.declared.statement.Statement.TheVariants.{Check as CheckStatement};
 ghost use Rattle.nb_model.specs.Lines.{line_text};
 ghost use Rattle.nb_model.specs.declared.reply.Reply.TheVariants.{Refused as RefusedReply};
 ghost use Rattle.nb_model.specs.Words.{job_of};
 ghost use Rattle.nb_script.specs.Asked.{IsAskable};
 ghost use Rattle.nb_script.specs.Scripts.{script_of};
 ghost use Rattle.nb_session.specs.Says.{SaysLine};
+ghost use Rattle.nb_top.specs.Dangers.{FindsIn, IsDanger, IsDangerOf};
 ghost use Rattle.nb_top.specs.Goes.{Goes, IsRun};
 ghost use Rattle.nb_top.specs.Requests.{Asked, FitsJob, IsAskedBy, IsReadJob, NamesNone, Runs, attached, plan_of, request_asked, request_of, script_in, to_plan, to_run};
 ghost use Rattle.nb_top.specs.Shown.{IsShown, IsShownOf};
@@ -20,12 +24,13 @@ use crate::generating::run_generated;
 use crate::reading::read_file;
 use crate::request::{script_asking, telling_of};
 use crate::script::{refuse, run_script, settled};
+use crate::ship::run_ship;
 use crate::telling::Telling;
 use crate::turn::run_turn;
 use nb_catalog::read_list;
 use nb_ended::{Broken, Status, broken_by};
 use nb_host::{Fault, Host, Name, Refusal, RunError};
-use nb_model::{Ask, Deed, Job};
+use nb_model::{Ask, Deed, Job, PageList};
 use nb_script::parse;
 use nb_words::read_job;
 use std::alloc::Global;
@@ -44,7 +49,7 @@ fn run_bytes<H: Host>(
     ensures cause { CountsRun result (H.faults host.old) (H.faults host.new) }
 {
     match settled(parse(alloc, bytes))? {
-        Ok(script) => run_script(alloc, host, &script, Telling::All),
+        Ok(script) => run_script(alloc, host, &script, Telling::All, &mut None),
         Err(refusal) => {
             *broken = broken_by(alloc, bytes, &refusal, "there is no first statement")?;
             refuse(alloc, host, 0, refusal)
@@ -117,45 +122,51 @@ fn plan_list<H: Host>(
     }
 }
 
-/// Opens a database and asks it this.
+/// Opens a database and asks it this. Of a check, what it has found in danger is `danger` then.
 fn run_asking<H: Host>(
     alloc: Global,
     host: &mut H,
     db: &Name,
     ask: &Ask,
+    danger: &mut Option<PageList>,
 ) -> Result<Status, RunError>
     requires askable { IsAskable (plan_of db.now (asks_of ask.now)) }
     ensures goes { Goes H.world H.tells result host.old host.new (Runs (Ok (attached db.now ask.now))) }
+    ensures danger { IsTrue H.tells → ask.now ≡ CheckAsk → IfOk result (λ status. FindsIn (H.world host.old).files db.now CheckStatement danger.new) }
     ensures done { IfOk result (λ status. (status ≡ Status.Done) ⊎ (status ≡ Status.Refused)) }
     ensures cause { CountsRun result (H.faults host.old) (H.faults host.new) }
 {
     let telling = telling_of(ask);
     match settled(script_asking(alloc, db, ask))? {
-        Ok(script) => run_script(alloc, host, &script, telling),
+        Ok(script) => run_script(alloc, host, &script, telling, danger),
         Err(_) => unreachable!(),
     }
 }
 
-/// Does a job. Where it is a script or a plan and a line of its file breaks its form, that is `broken` then.
+/// Does a job. Where it is a script or a plan and a line of its file breaks its form, that is `broken` then. Where it checks a database, what is in
+/// danger is `danger`.
 fn run_job<H: Host>(
     alloc: Global,
     host: &mut H,
     job: &Job,
     broken: &mut Option<Broken>,
+    danger: &mut Option<PageList>,
 ) -> Result<Status, RunError>
     requires fits { FitsJob job.now }
     requires none { broken.old ≡ None }
     ensures goes { Goes H.world H.tells result host.old host.new (request_of (H.world host.old).files job.now) }
     ensures shown { IsTrue H.tells → IsShownOf result broken.new (request_of (H.world host.old).files job.now) }
+    ensures danger { IsTrue H.tells → IsDangerOf result danger.new (H.world host.old).files job.now }
     ensures done { IfOk result (λ status. (status ≡ Status.Done) ⊎ (status ≡ Status.Refused)) }
     ensures cause { CountsRun result (H.faults host.old) (H.faults host.new) }
 {
     match job {
         Job::Run { script } => run_file(alloc, host, script, broken),
         Job::Gen { number, script } => run_generated(alloc, host, *number, script),
-        Job::Attach { db, ask } => run_asking(alloc, host, db, ask),
+        Job::Attach { db, ask } => run_asking(alloc, host, db, ask, danger),
         Job::Turn { deed } => run_turn(alloc, host, deed),
         Job::Plan { keep, list } => plan_list(alloc, host, *keep, list, broken),
+        Job::Ship { primary, standby } => run_ship(alloc, host, primary, standby),
     }
 }
 
@@ -176,18 +187,20 @@ fn do_job<H: Host>(
     job: &Result<Job, Fault>,
     host: &mut H,
     broken: &mut Option<Broken>,
+    danger: &mut Option<PageList>,
 ) -> Result<Status, RunError>
     requires read { IsReadJob job.now }
     requires none { broken.old ≡ None }
     ensures goes { (asked : Asked) → IsAskedBy job.now (H.world host.old).files asked → Goes H.world H.tells result host.old host.new asked }
     ensures shown { (asked : Asked) → IsTrue H.tells → IsAskedBy job.now (H.world host.old).files asked → IsShownOf result broken.new asked }
+    ensures danger { IsTrue H.tells → IfOk result (λ status. (db : List ℕ) → job.now ≡ Ok (Attach db CheckAsk) → FindsIn (H.world host.old).files db CheckStatement danger.new) }
     ensures usage { IfOk result (λ status. status ≡ Status.Usage → NamesNone job.now) }
     ensures no_job { IfOk result (λ status. IsErr job.now → status ≡ Status.Usage) }
     ensures done { IfOk result (λ status. (status ≡ Status.Usage) ⊎ ((status ≡ Status.Done) ⊎ (status ≡ Status.Refused))) }
     ensures cause { CountsRun result (H.faults host.old) (H.faults host.new) }
 {
     match job {
-        Ok(job) => run_job(alloc, host, job, broken),
+        Ok(job) => run_job(alloc, host, job, broken, danger),
         Err(fault) => match fault {
             Fault::Refused(_) => refuse_words(alloc, host),
             Fault::Memory => Err(RunError::Memory),
@@ -197,7 +210,7 @@ fn do_job<H: Host>(
 }
 
 /// Does the job that was read of words: the job that they name, `Usage` where they name none, or `Memory` where it was too short to read them. Where that is a script a line of which breaks its form,
-/// that line is `broken` after it.
+/// that line is `broken` after it. Where it checks a database and the check isn't refused, the pages of it that are in danger are `danger`.
 ///
 /// It says one line for each reply; a job that makes, begins or ends a backup, or shows the statistics, says nothing of the opening but why
 /// it is refused. Words that name no job, and a script that cannot be read, are refused to session 0. Where a call of the
@@ -207,6 +220,7 @@ pub fn run_read<H: Host>(
     job: &Result<Job, Fault>,
     host: &mut H,
     broken: &mut Option<Broken>,
+    danger: &mut Option<PageList>,
 ) -> Status
     requires read { IsReadJob job.now }
     requires none { broken.old ≡ None }
@@ -217,8 +231,10 @@ pub fn run_read<H: Host>(
     ensures runs { (asked : Asked) → IsAskedBy job.now (H.world host.old).files asked → IsRun H.world H.tells result host.old host.new asked }
     // A line is shown exactly where the script is refused for it; where a call of the host fails or memory runs out it may be lost.
     ensures shown { (asked : Asked) → IsTrue H.tells → IsAskedBy job.now (H.world host.old).files asked → IsShown result broken.new asked }
+    // Of a database that is checked just those pages are told which are in danger in the image that its files show.
+    ensures danger { IsTrue H.tells → IsDanger result danger.new (H.world host.old).files job.now }
 {
-    match do_job(alloc, job, host, broken) {
+    match do_job(alloc, job, host, broken, danger) {
         Ok(status) => status,
         Err(RunError::Device) => Status::Device,
         Err(RunError::Memory) => Status::Memory,
@@ -253,5 +269,12 @@ pub fn run<H: Host>(alloc: Global, words: &[String], host: &mut H) -> Status
     ensures performs { IsRun H.world H.tells result host.old host.new (request_asked (H.world host.old).files (map string_bytes words.now)) }
 {
     let mut broken = None;
-    run_read(alloc, &read_job(alloc, words), host, &mut broken)
+    let mut danger = None;
+    run_read(
+        alloc,
+        &read_job(alloc, words),
+        host,
+        &mut broken,
+        &mut danger,
+    )
 }

@@ -12,7 +12,7 @@ use nb_script::Script;
 use std::alloc::Global;
 
 /// How many pages the cache of such a job holds.
-const USUAL_CACHE: u32 = 64;
+pub(crate) const USUAL_CACHE: u32 = 64;
 
 /// The script that opens a database and asks it one thing, in session 1.
 fn script_of_one(alloc: Global, db: &Name, statement: Statement) -> Result<Script, Fault>
@@ -65,6 +65,7 @@ pub(crate) fn script_asking(alloc: Global, db: &Name, ask: &Ask) -> Result<Scrip
         Ask::Lock => script_of_one(alloc, db, Statement::BeginBackup),
         Ask::LockWithSize => script_of_one(alloc, db, Statement::BeginBackup),
         Ask::Unlock => script_of_one(alloc, db, Statement::EndBackup),
+        Ask::Activate => script_of_one(alloc, db, Statement::Activate),
     }
 }
 
@@ -80,6 +81,7 @@ pub(crate) fn telling_of(ask: &Ask) -> Telling
         | Ask::Backup { .. }
         | Ask::BackupSince { .. }
         | Ask::Lock
-        | Ask::Unlock => Telling::Quietly,
+        | Ask::Unlock
+        | Ask::Activate => Telling::Quietly,
     }
 }

@@ -5,6 +5,7 @@ use Rattle.nb_top.proofs.GoesLaws.{goes_refused, goes_undone}
 use Rattle.nb_top.proofs.JobRuns.{usage_number}
 use Rattle.nb_top.proofs.RequestLaws.{CanBeMet, can_be_asked}
 use Rattle.nb_top.proofs.ShownLaws.{unshown, unshown_early, usage_unbroken}
+use Rattle.nb_top.proofs.DangerLaws.{read_danger, unread_danger}
 use Rattle.nb_top.proofs.program.do_job.Goals as goal
 
 pub run_job-requires : goal.run_job-requires
@@ -41,3 +42,9 @@ returns-in-Refused-clause-shown g c asked tells by =
 
 pub returns-in-Memory-clause-shown : goal.returns-in-Memory-clause-shown
 returns-in-Memory-clause-shown g c asked tells by = unshown_early (Err MemoryError) c.args.broken.now asked c.requires.none refl
+
+pub returns-in-Ok-clause-danger : goal.returns-in-Ok-clause-danger
+returns-in-Ok-clause-danger g c tells = read_danger c.run_job.new.danger (g.H.Host.world c.args.host.now).files c.run_job.result c.args.job.now c.in-Ok.job c.in-Ok.is (c.run_job.ensures.danger tells)
+
+pub returns-in-Refused-clause-danger : goal.returns-in-Refused-clause-danger
+returns-in-Refused-clause-danger g c tells = unread_danger c.args.danger.now (g.H.Host.world c.args.host.now).files c.refuse_words.result c.args.job.now c.in-Err.fault c.in-Err.is

@@ -32,3 +32,6 @@ returns-in-LockWithSize-clause-script c = subst (Asks c.script_of_one-in-LockWit
 
 pub returns-in-Unlock-clause-script : goal.returns-in-Unlock-clause-script
 returns-in-Unlock-clause-script c = subst (Asks c.script_of_one-in-Unlock.result c.args.db.now) (sym c.in-Unlock.is) c.script_of_one-in-Unlock.ensures.script
+
+pub returns-in-Activate-clause-script : goal.returns-in-Activate-clause-script
+returns-in-Activate-clause-script c = subst (Asks c.script_of_one-in-Activate.result c.args.db.now) (sym c.in-Activate.is) c.script_of_one-in-Activate.ensures.script

@@ -5,6 +5,7 @@ use Rattle.nb_top.proofs.ByTurnsLaws.{reply_said_by, reply_unsaid_by}
 use Rattle.nb_top.proofs.OpenedSaid.{opened_err, reply_unsaid, reply_said_then, ready_still}
 use Rattle.nb_top.proofs.QuietRuns.{foretold_from}
 use Rattle.nb_top.proofs.ToldLaws.{told_first_made, told_first_steps, told_output, told_status}
+use Rattle.nb_state.proofs.MakesLaws.{still_open}
 use Rattle.nb_top.proofs.script.run_opened.Goals as goal
 
 pub returns-in_err-say_opened-clause-plays : goal.returns-in_err-say_opened-clause-plays
@@ -58,3 +59,7 @@ returns-clause-grows g c now tells ready todo making =
     let new = g.H.Host.world c.take_told.new.host in
     grows_joined old mid new (grows_none old mid c.say_opened.ensures.gave)
     (c.take_told.ensures.grows now _ tells (ready_still old mid c.args.engine.now now (c.say_opened.ensures.line tells).still ready) todo making)
+
+pub returns-clause-danger : goal.returns-clause-danger
+returns-clause-danger g c statement t tells opened is =
+    c.take_told.ensures.danger statement t tells (still_open (g.H.Host.world c.args.host.now) (g.H.Host.world c.say_opened.new.host) c.args.engine.now t (c.say_opened.ensures.line tells).still opened) is

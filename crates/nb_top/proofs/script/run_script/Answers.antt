@@ -1,11 +1,14 @@
-use Rattle.std.proofs.Common.{[], ◌≡◌, ap, sym, subst, ◌∙◌, Ok, Err, IfOk, IsTrue}
-use Rattle.nb_top.proofs.Common.{CountsRun, FaultCount, Refused, GaveNothing, Account, Foretells, line_text, Given, grows_none, grows_joined, says_other, Knows, MayBeGiven, RunsTo, cache_asked, ToRun, ending_by}
+use Rattle.std.proofs.Common.{[], ◌≡◌, ap, sym, subst, ◌∙◌, Ok, Err, IfOk, IsTrue, Result}
+use Rattle.nb_top.proofs.Common.{CountsRun, FaultCount, Refused, GaveNothing, Account, Foretells, line_text, Given, grows_none, grows_joined, says_other, Knows, MayBeGiven, RunsTo, cache_asked, ToRun, ending_by, Fault}
 use Rattle.nb_model.specs.declared.reply.Reply.TheVariants.{Refused as RefusedReply}
 use Rattle.nb_top.proofs.Beginnings.{Beginning, script_refused, script_now, script_todo, script_given, script_ready, script_making, script_trail, script_ran, script_by_turns}
 use Rattle.nb_top.proofs.ByTurnsLaws.{early_err, ended_so, script_early, script_none}
 use Rattle.nb_top.proofs.BegunRuns.{start}
 use Rattle.nb_top.proofs.QuietRuns.{foretold_from, no_given}
 use Rattle.nb_top.proofs.ScriptRuns.{runs_err, settled_value, settled_refusal, script_begins, first_gave}
+use Rattle.nb_state.specs.Beginnings.{Attaches}
+use Rattle.nb_state.specs.Open.{Held}
+use Rattle.nb_top.proofs.DangerLaws.{found_shown, none_shown}
 use Rattle.nb_top.proofs.script.run_script.Goals as goal
 use Rattle.nb_top.proofs.script.run_script.Goals.{After-open}
 
@@ -101,3 +104,19 @@ returns-in-Err-clause-goes g c =
       );
       grows = λ account tells knows. grows_joined old mid new (grows_none old mid (gave g at tells account knows)) (grows_none mid new c.refuse.ensures.gave);
     }
+
+pub returns-in-Ok-clause-danger : goal.returns-in-Ok-clause-danger
+returns-in-Ok-clause-danger g c name cache statement tells first sessions =
+    let old = g.H.Host.world c.args.host.now in
+    let mid = g.H.Host.world c.open.new.host in
+    let held = c.in-Ok.engine in
+    let opened = settled_value c.in_ok-engine.field-0 held (λ value. c.open.result ≡ Ok value) c.in-Ok.is c.in_ok-engine.ensures.value in
+    let attached = subst (λ (a : Result Held Fault). Attaches a old mid name) opened (c.open.ensures.attaches name cache tells (c.first.ensures ∙ first)) in
+    found_shown old.files name attached.base statement c.run_opened.new.danger c.run_opened.result c.ended_as.result c.ended_as.ensures.ended attached.stands
+    (c.run_opened.ensures.danger statement _ tells attached.opened sessions)
+
+pub returns-in-Err-clause-danger : goal.returns-in-Err-clause-danger
+returns-in-Err-clause-danger g c name cache statement tells first sessions =
+    let refusal = c.in-Err.refusal in
+    none_shown (g.H.Host.world c.args.host.now) (g.H.Host.world c.open.new.host) name c.open.result refusal statement c.args.danger.now c.refuse.result
+    (settled_refusal c.in_ok-engine.field-0 refusal (λ r. c.open.result ≡ Err (Refused r)) c.in-Err.is c.in_ok-engine.ensures.refusal) (c.open.ensures.attaches name cache tells (c.first.ensures ∙ first))
