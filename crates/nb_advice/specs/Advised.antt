@@ -3,11 +3,11 @@ use Rattle.std.specs.Prelude.{◌≡◌, ◌≢◌, ℕ, List, [], ◌∷◌, �
 use Rattle.std.specs.Global.{Global}
 use Rattle.std.specs.List.{AllByRecursion}
 use Rattle.nb_model.specs.declared.job.Ask.{Ask}
-use Rattle.nb_model.specs.declared.job.Ask.TheVariants.{Stat, Check, Reclaim, Backup, BackupSince, Lock, LockWithSize, Unlock}
+use Rattle.nb_model.specs.declared.job.Ask.TheVariants.{Stat, Check, Reclaim, Backup, BackupSince, Lock, LockWithSize, Unlock, Activate}
 use Rattle.nb_model.specs.declared.job.Deed.{Deed}
 use Rattle.nb_model.specs.declared.job.Deed.TheVariants.{Restore, Fixup, Apply, Fold, Plan as PlanFiles}
 use Rattle.nb_model.specs.declared.job.Job.{Job}
-use Rattle.nb_model.specs.declared.job.Job.TheVariants.{Run, Gen, Attach, Turn, Plan as PlanOf}
+use Rattle.nb_model.specs.declared.job.Job.TheVariants.{Run, Gen, Attach, Turn, Plan as PlanOf, Ship}
 
 -- a database that isn't opened
 abbrev pub of_opening : List (List ℕ)
@@ -49,6 +49,10 @@ abbrev pub of_merge : List (List ℕ)
 of_merge =
     codes "NoFile" ∷ codes "NotDatabase" ∷ codes "WrongState" ∷ codes "BadLevel" ∷ codes "Unfinished" ∷ codes "ChainGuid" ∷ codes "ChainSize" ∷ codes "ChainScn" ∷ codes "Access" ∷ []
 
+-- a ship: the primary can't be backed up, or nothing can be merged into the standby
+abbrev pub of_ship : List (List ℕ)
+of_ship = codes "FileExists" ∷ codes "NoGuid" ∷ codes "Full" ∷ codes "BadLevel" ∷ codes "ChainGuid" ∷ codes "ChainSize" ∷ codes "ChainScn" ∷ of_lock
+
 -- what a database may refuse that is asked this
 abbrev pub of_ask : Ask → List (List ℕ)
 of_ask Stat = of_opening
@@ -59,6 +63,7 @@ of_ask (BackupSince guid file) = of_backup
 of_ask Lock = of_lock
 of_ask LockWithSize = of_lock
 of_ask Unlock = of_unlock
+of_ask Activate = of_opening
 
 abbrev pub of_deed : Deed → List (List ℕ)
 of_deed (Restore db files) = of_chain
@@ -81,6 +86,7 @@ of_job (Gen number script) = of_gen
 of_job (Attach db ask) = of_ask ask
 of_job (Turn deed) = of_deed deed
 of_job (PlanOf keep list) = of_plan
+of_job (Ship primary standby) = of_ship
 
 -- something is said, unless the refusal has none of these names
 abbrev pub SaysOf : (names : List (List ℕ)) (name : List ℕ) → Option (String Global) → Type 0

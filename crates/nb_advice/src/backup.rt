@@ -17,6 +17,25 @@ fn not_normal(alloc: Global, db: &Name, seen: &Seen) -> Result<String, AllocErro
     }
 }
 
+/// The database can only be read.
+pub(crate) fn read_only(alloc: Global, db: &Name) -> Result<String, AllocError> {
+    format!(in alloc;
+        "{db} is read-only, and a backup writes to it: a script with the line '1: access read_write' lifts that"
+    )
+}
+
+/// No SCN is left for the begin and the end of a backup.
+pub(crate) fn no_scn(alloc: Global, db: &Name) -> Result<String, AllocError> {
+    format!(in alloc;
+        "{db} has come to the end of its SCNs, and takes no further backup: write its rows to a new database"
+    )
+}
+
+/// No page is left for a row of the history.
+pub(crate) fn full(alloc: Global, db: &Name) -> Result<String, AllocError> {
+    format!(in alloc; "{db} is full, and its history needs a page: free one by a script")
+}
+
 /// What is to be said where a backup doesn't begin, `-L` or `-B`.
 pub(crate) fn lock(
     alloc: Global,
@@ -28,12 +47,8 @@ pub(crate) fn lock(
 {
     let text = match refused.name {
         "WrongState" => not_normal(alloc, db, seen)?,
-        "Access" => format!(in alloc;
-            "{db} is read-only, and a backup writes to it: a script with the line '1: access read_write' lifts that"
-        )?,
-        "ScnExhausted" => format!(in alloc;
-            "{db} has come to the end of its SCNs, and takes no further backup: write its rows to a new database"
-        )?,
+        "Access" => read_only(alloc, db)?,
+        "ScnExhausted" => no_scn(alloc, db)?,
         _ => return opening(alloc, db, refused, seen),
     };
     Ok(Some(text))
@@ -123,9 +138,7 @@ pub(crate) fn backup(
         "FileExists" => Ok(Some(not_free(alloc, value, seen)?)),
         "NoHistory" => Ok(Some(no_level(alloc, db, value, seen)?)),
         "NoGuid" => Ok(Some(no_guid(alloc, db, seen)?)),
-        "Full" => Ok(Some(format!(in alloc;
-            "{db} is full, and its history needs a page: free one by a script"
-        )?)),
+        "Full" => Ok(Some(full(alloc, db)?)),
         _ => lock(alloc, db, refused, seen),
     }
 }

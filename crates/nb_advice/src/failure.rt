@@ -1,6 +1,6 @@
 // What stands after a run that failed.
-use crate::deeds;
 use crate::seen::{Seen, There};
+use crate::{deeds, ship};
 use nb_host::Name;
 use nb_model::{Ask, Job};
 use std::alloc::{AllocError, Global};
@@ -63,7 +63,9 @@ fn of_ask(
         Ask::Backup { file, .. } | Ask::BackupSince { file, .. } => {
             of_backup(alloc, db, file, whose, seen)
         }
-        Ask::Lock | Ask::LockWithSize | Ask::Unlock => of_database(alloc, db, whose, seen),
+        Ask::Lock | Ask::LockWithSize | Ask::Unlock | Ask::Activate => {
+            of_database(alloc, db, whose, seen)
+        }
         Ask::Stat | Ask::Check | Ask::Reclaim => Ok(None),
     }
 }
@@ -76,14 +78,15 @@ pub fn standing(
     before: Option<u16>,
     seen: &Seen,
 ) -> Result<Option<String>, AllocError> {
-    let whose = if before == Some(0) {
-        " by this backup"
-    } else {
-        ""
+    let whose = match (before, job) {
+        (Some(0), Job::Ship { .. }) => " by this ship",
+        (Some(0), _) => " by this backup",
+        _ => "",
     };
     match job {
         Job::Attach { db, ask } => of_ask(alloc, db, ask, whose, seen),
         Job::Turn { deed } => deeds::standing(alloc, deed, seen),
+        Job::Ship { primary, standby } => ship::standing(alloc, primary, standby, whose, seen),
         Job::Run { .. } | Job::Gen { .. } | Job::Plan { .. } => Ok(None),
     }
 }

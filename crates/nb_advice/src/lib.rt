@@ -2,13 +2,15 @@
 //! failed, and what is to be known of a job that was done.
 //!
 //! Texts alone: each is made of a job, of the reply that refused it and of what a look at the files told, and no file is asked here. It
-//! rests on `nb_model` for jobs, on `nb_page` for headers, on `jiff_core` for the calendar and on `uuid` for GUIDs. The layer above looks, and says the texts.
+//! rests on `nb_model` for jobs, on `nb_page` for headers, on `jiff_core` for the calendar, on `uuid` for GUIDs and on `itoa` for numbers. The layer
+//! above looks, and says the texts.
 #![tactic(auto)]
 
 mod backup;
 mod chain;
 mod check;
 mod cut;
+mod danger;
 mod deeds;
 mod done;
 mod failure;
@@ -21,12 +23,14 @@ mod opening;
 mod refusal;
 mod refused;
 mod seen;
+mod ship;
 mod spelling;
 mod standby;
 mod usage;
 mod word;
 
 pub use cut::{Cut, cut_off};
+pub use danger::in_danger;
 pub use done::{emptied, goes_on, locked, named_as_output, past_nine};
 pub use failure::standing;
 pub use history::{History, Row};

@@ -44,7 +44,7 @@ pub(crate) fn no_file(alloc: Global, name: &str) -> Result<String, AllocError> {
     Ok(text)
 }
 
-/// What to do where a file that is only looked at is locked and has no difference file, as a backup of level 0 is.
+/// What to do where a file that may be no database of its own is locked and has no difference file, as a backup of level 0 is.
 fn as_level_0(alloc: Global, db: &Name, delta: &str, seen: &Seen) -> Result<String, AllocError> {
     let since = since(alloc, seen.written)?;
     format!(in alloc;
@@ -52,7 +52,7 @@ fn as_level_0(alloc: Global, db: &Name, delta: &str, seen: &Seen) -> Result<Stri
     )
 }
 
-/// What is to be said where the database of a job that only looks at it is not opened.
+/// What is to be said where a job doesn't open its database, which it only looks at or ends the backup of, whatever that is.
 pub(crate) fn looking(
     alloc: Global,
     db: &Name,

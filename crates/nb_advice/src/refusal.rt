@@ -9,6 +9,7 @@ use crate::deeds;
 use crate::opening::looking;
 use crate::refused::Refused;
 use crate::seen::Seen;
+use crate::ship::ship;
 use nb_host::Name;
 use nb_model::{Ask, Job};
 use std::alloc::{AllocError, Global};
@@ -24,7 +25,7 @@ fn of_ask(
     ensures says { IfOk result (λ text. SaysOf (of_ask ask.now) refused.now.name.now text) }
 {
     match ask {
-        Ask::Stat => looking(alloc, db, refused, seen),
+        Ask::Stat | Ask::Activate => looking(alloc, db, refused, seen),
         Ask::Check => check(alloc, db, refused, seen),
         Ask::Reclaim => reclaim(alloc, db, refused, seen),
         Ask::Lock | Ask::LockWithSize => lock(alloc, db, refused, seen),
@@ -72,5 +73,6 @@ pub fn advice(
         Job::Plan { list, .. } => plan(alloc, list, refused, seen),
         Job::Gen { .. } => of_gen(alloc, refused),
         Job::Run { script } => of_run(alloc, script, refused),
+        Job::Ship { primary, standby } => ship(alloc, primary, standby, refused, seen),
     }
 }

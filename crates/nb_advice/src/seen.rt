@@ -22,13 +22,15 @@ pub enum There {
 /// What was looked up after a run, as far as it could be had.
 #[derive(Clone, Copy, Debug)]
 pub struct Seen {
-    /// The backup state that the header of the job's database tells.
+    /// The backup state that the header of the job's database tells, of a ship that of the primary.
     pub state: Option<u16>,
     /// The GUID that it says is pending: that of the level file which is half merged into it, and zeros where none is.
     pub pending: Option<[u8; 16]>,
     /// When the file of the job's database was written last, in seconds since the start of 1970. Nothing writes it between the begin of a
     /// backup and its end.
     pub written: Option<u64>,
+    /// What the header of the standby tells that is shipped to.
+    pub standby: Option<Header>,
     /// What stands under the name that the job's file has, or its database, where it names no other.
     pub there: There,
     /// Whether a difference file stands beside that name.
@@ -50,6 +52,7 @@ impl Seen {
             state: None,
             pending: None,
             written: None,
+            standby: None,
             there: There::Unknown,
             has_delta: false,
             named: There::Unknown,

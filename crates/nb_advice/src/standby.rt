@@ -32,7 +32,7 @@ pub(crate) fn unfinished(
 }
 
 /// The standby is in a state in which nothing is merged into it.
-fn wrong_state(alloc: Global, db: &Name, state: &str) -> Result<String, AllocError> {
+pub(crate) fn wrong_state(alloc: Global, db: &Name, state: &str) -> Result<String, AllocError> {
     if state == "1" {
         format!(in alloc;
             "{db} is locked, or is a copy of a locked database, and no standby: restore one from the copy: nehumiro -R STANDBY {db}"
@@ -44,8 +44,33 @@ fn wrong_state(alloc: Global, db: &Name, state: &str) -> Result<String, AllocErr
     }
 }
 
+/// A page of the standby isn't what it has to be.
+pub(crate) fn not_whole(alloc: Global, db: &Name, page: &str) -> Result<String, AllocError> {
+    format!(in alloc; "{db} is no whole database (page {page}): make the standby anew by a restore")
+}
+
+/// The standby can be written.
+pub(crate) fn can_be_written(alloc: Global, db: &Name) -> Result<String, AllocError> {
+    format!(in alloc;
+        "{db} can be written, and no standby may be: a script with the line '1: access read_only' sees to that"
+    )
+}
+
+/// The level file has pages of another size than the standby.
+pub(crate) fn other_pages(
+    alloc: Global,
+    db: &Name,
+    file: &str,
+    found: &str,
+    wanted: &str,
+) -> Result<String, AllocError> {
+    format!(in alloc;
+        "{file} has pages of {found} bytes and {db} of {wanted}: they are of two databases"
+    )
+}
+
 /// The level file has another SCN than the standby goes on from, or a page of the standby has a later stamp.
-fn other_scn(
+pub(crate) fn other_scn(
     alloc: Global,
     db: &Name,
     file: &str,
@@ -80,9 +105,7 @@ pub(crate) fn merge(
     let [value, found, wanted] = refused.values;
     let text = match refused.name {
         "NoFile" => no_file(alloc, value)?,
-        "NotDatabase" => format!(in alloc;
-            "{db} is no whole database (page {value}): make the standby anew by a restore"
-        )?,
+        "NotDatabase" => not_whole(alloc, db, value)?,
         "WrongState" => wrong_state(alloc, db, value)?,
         "BadLevel" if found == "0" => format!(in alloc;
             "{value} is no level file: only levels of 1 to 9 are merged, those that -B made"
@@ -95,13 +118,9 @@ pub(crate) fn merge(
         "ChainGuid" => format!(in alloc;
             "{value} goes on from the backup {found}, and {db} is of the backup {wanted}: make a level since that one: nehumiro -B {wanted} PRIMARY FILE"
         )?,
-        "ChainSize" => format!(in alloc;
-            "{value} has pages of {found} bytes and {db} of {wanted}: they are of two databases"
-        )?,
+        "ChainSize" => other_pages(alloc, db, value, found, wanted)?,
         "ChainScn" => other_scn(alloc, db, value, found, wanted)?,
-        "Access" => format!(in alloc;
-            "{db} can be written, and no standby may be: a script with the line '1: access read_only' sees to that"
-        )?,
+        "Access" => can_be_written(alloc, db)?,
         _ => return Ok(None),
     };
     Ok(Some(text))

@@ -159,6 +159,20 @@ fn wrong_plan(alloc: Global, keep: &str, list: &str) -> Result<Option<String>, A
     wrong_name(alloc, list, Kind::File)
 }
 
+/// What is wrong with the words of a ship, of which these are the names.
+fn wrong_ship(alloc: Global, names: &[&str]) -> Result<Option<String>, AllocError> {
+    match names {
+        [primary, standby] => {
+            let wrong = wrong_name(alloc, primary, Kind::Database)?;
+            if wrong.is_some() {
+                return Ok(wrong);
+            }
+            wrong_name(alloc, standby, Kind::Database)
+        }
+        _ => wrong_count(alloc, "ship DB STANDBY", names.len() < 2),
+    }
+}
+
 /// What is wrong with the words of a fold, of which these are the names.
 fn wrong_fold(alloc: Global, names: &[&str]) -> Result<Option<String>, AllocError> {
     if names.len() < 3 {
@@ -188,6 +202,8 @@ fn wrong_plain(alloc: Global, plain: &[&str]) -> Result<Option<String>, AllocErr
         ["check", ..] => wrong_count(alloc, "check DB", plain.len() < 2),
         ["reclaim", db] => wrong_name(alloc, db, Kind::Database),
         ["reclaim", ..] => wrong_count(alloc, "reclaim DB", plain.len() < 2),
+        ["activate", db] => wrong_name(alloc, db, Kind::Database),
+        ["activate", ..] => wrong_count(alloc, "activate DB", plain.len() < 2),
         ["gen", number, script] => {
             let wrong = wrong_number(alloc, number)?;
             if wrong.is_some() {
@@ -199,6 +215,7 @@ fn wrong_plain(alloc: Global, plain: &[&str]) -> Result<Option<String>, AllocErr
         ["plan", keep, list] => wrong_plan(alloc, keep, list),
         ["plan", ..] => wrong_count(alloc, "plan K LIST", plain.len() < 3),
         ["fold", names @ ..] => wrong_fold(alloc, names),
+        ["ship", names @ ..] => wrong_ship(alloc, names),
         [verb, ..] => {
             let verb = shown(alloc, verb)?;
             Ok(Some(format!(in alloc; "{verb} is no job")?))

@@ -1,10 +1,10 @@
--- The database that a run may write.
-use Rattle.std.specs.Prelude.{◌≡◌, ℕ, Bool, ◌||◌, List, Option, Some, None, Contains, Ok, Err, Result, codes, cond}
+-- The databases that a run may write.
+use Rattle.std.specs.Prelude.{◌≡◌, ℕ, Bool, ◌||◌, List, ◌++◌, Option, Some, None, Ok, Err, Result, codes, cond, option_to_list}
 use Rattle.std.specs.List.{list_any}
 use Rattle.nb_host.specs.Files.{File, Files}
 use Rattle.nb_host.specs.declared.refusals.Refusal.{Refusal}
 use Rattle.nb_model.specs.declared.job.Job.{Job}
-use Rattle.nb_model.specs.declared.job.Job.TheVariants.{Run, Gen, Attach, Turn, Plan as PlanOf}
+use Rattle.nb_model.specs.declared.job.Job.TheVariants.{Run, Gen, Attach, Turn, Plan as PlanOf, Ship}
 use Rattle.nb_model.specs.declared.statement.Statement.{Statement}
 use Rattle.nb_model.specs.declared.statement.Statement.TheVariants.{CreateDb, OpenDb}
 use Rattle.nb_model.specs.Jobs.{writes}
@@ -12,13 +12,14 @@ use Rattle.nb_model.specs.Words.{deed_database}
 use Rattle.nb_script.specs.Scripts.{Plan, script_of}
 use Rattle.nb_model.specs.Writes.{statement_writes}
 
--- the database that words may write; a script is not read here
+-- the database that words may write first; a script is not read here
 abbrev pub changed_by_words : Job → Option (List ℕ)
 changed_by_words (Run script) = None
 changed_by_words (Gen number script) = Some (codes "gen.db")
 changed_by_words (Attach db ask) = cond (writes ask) (Some db) None
 changed_by_words (Turn deed) = deed_database deed
 changed_by_words (PlanOf keep list) = None
+changed_by_words (Ship primary standby) = Some primary
 
 -- the database that a first statement creates or opens
 abbrev pub database_in : Statement → Option (List ℕ)
@@ -43,18 +44,27 @@ abbrev pub changed_by_read : Option Plan → Option (List ℕ)
 changed_by_read None = None
 changed_by_read (Some plan) = changed_by_script plan
 
--- the database that a job may write, where this is the script that it runs, none where it runs none or that can't be read
-abbrev pub changed_by : Option Plan → Job → Option (List ℕ)
-changed_by script (Run name) = changed_by_read script
-changed_by script (Gen number name) = changed_by_words (Gen number name)
-changed_by script (Attach db ask) = changed_by_words (Attach db ask)
-changed_by script (Turn deed) = changed_by_words (Turn deed)
-changed_by script (PlanOf keep list) = changed_by_words (PlanOf keep list)
+-- the database that a job may write first, where this is the script that it runs, none where it runs none or that can't be read
+abbrev pub changed_first : Option Plan → Job → Option (List ℕ)
+changed_first script (Run name) = changed_by_read script
+changed_first script (Gen number name) = changed_by_words (Gen number name)
+changed_first script (Attach db ask) = changed_by_words (Attach db ask)
+changed_first script (Turn deed) = changed_by_words (Turn deed)
+changed_first script (PlanOf keep list) = changed_by_words (PlanOf keep list)
+changed_first script (Ship primary standby) = changed_by_words (Ship primary standby)
 
--- a name is among those that are held alone, if there is one
-abbrev pub IsHeld : Option (List ℕ) → List (List ℕ) → Type 0
-IsHeld None names = Unit {0}
-IsHeld (Some name) names = Contains names name
+-- the database that it may write after that one: the standby that is shipped to
+abbrev pub changed_next : Job → Option (List ℕ)
+changed_next (Ship primary standby) = Some standby
+changed_next other = None
+
+-- the databases that a job may write, where this is the script that it runs, in the order of their first use
+abbrev pub changed_by : Option Plan → Job → List (List ℕ)
+changed_by script job = option_to_list (changed_first script job) ++ option_to_list (changed_next job)
+
+-- these names are held alone in this order besides those that were, and no others
+abbrev pub IsHeld : (names old new : List (List ℕ)) → Type 0
+IsHeld names old new = new ≡ old ++ names
 
 -- the script of these bytes, if they spell one
 abbrev pub spelled : Result Plan Refusal → Option Plan

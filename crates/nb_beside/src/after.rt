@@ -4,10 +4,12 @@ use crate::done::show_done;
 use crate::look::look_at;
 use crate::reading::ReadOnly;
 use crate::seeing::{seen, seen_of};
-use nb_advice::{Refused, advice, complaint, shortage, standing, wrong_bytes, wrong_statement};
+use nb_advice::{
+    Refused, advice, complaint, in_danger, shortage, standing, wrong_bytes, wrong_statement,
+};
 use nb_ended::{Broken, Status};
 use nb_host::Name;
-use nb_model::{Job, Statement};
+use nb_model::{Ask, Job, PageList, Statement};
 use nb_script::{MOST_BYTES, Script};
 use std::alloc::{AllocError, Global};
 use std::io;
@@ -19,6 +21,7 @@ usage: nehumiro run SCRIPT          runs the statements of a script
        nehumiro stat DB             shows the header of a database, and its pages by kind
        nehumiro check DB            says whether its inventories and chains agree with its pages, and which pages are taken for nothing
        nehumiro reclaim DB          gives those pages back
+       nehumiro activate DB         makes it a database in the normal state: merges back what a difference file holds, where it has one
        nehumiro -L DB               locks a database: its file stays as it is until -N
        nehumiro -L -S DB            the same, and says how many pages it has
        nehumiro -N DB               unlocks it, and merges back what was written meanwhile
@@ -26,6 +29,7 @@ usage: nehumiro run SCRIPT          runs the statements of a script
        nehumiro -B GUID DB FILE     backs up what changed since the backup of that GUID
        nehumiro -R DB FILE..        restores a new database from a chain of backup files, that of level 0 first
        nehumiro -I -R DB FILE       merges a level into a read-only standby, in place: the next one since its backup
+       nehumiro ship DB STANDBY     brings such a standby up to the state of the database: backs it up since the standby's backup, and merges that
        nehumiro -F FILE             makes a copy of a locked database a database of its own
        nehumiro fold OUT FILE..     makes one new level file of 2 to 9 consecutive ones, the lowest level first
        nehumiro plan K LIST         says which of the backup files that a list names the last K restore points need
@@ -196,6 +200,20 @@ fn show_refused<V: ReadOnly + Eprint>(
     }
 }
 
+/// The pages in danger of a database that was checked.
+fn show_danger<R: Eprint>(alloc: Global, rt: &R, job: &Job, danger: Option<&PageList>) {
+    let Job::Attach {
+        db,
+        ask: Ask::Check,
+    } = job
+    else {
+        return;
+    };
+    if let Some(pages) = danger {
+        say(rt, in_danger(alloc, db, pages.as_slice()));
+    }
+}
+
 /// What is to be said after a run: why its words name no job, why a script or a list wasn't read, what to do about a refusal, what stands where it ended
 /// early, and what is to be known where it was done.
 pub fn explain<V: ReadOnly + Eprint>(
@@ -207,7 +225,10 @@ pub fn explain<V: ReadOnly + Eprint>(
     told: &Told<'_>,
 ) {
     match (end.status, job) {
-        (Status::Done, Some(job)) => show_done(alloc, rt, job, end.before.is_watched),
+        (Status::Done, Some(job)) => {
+            show_danger(alloc, rt, job, end.danger.as_ref());
+            show_done(alloc, rt, job, end.before.is_watched);
+        }
         (Status::Usage, _) => show_usage(alloc, rt, words),
         (Status::Refused, Some(job)) => {
             show_refused(alloc, rt, job, end.broken.as_ref(), told.said)

@@ -1,12 +1,12 @@
 // What the program does beside a run.
-ghost use Rattle.std.specs.Prelude.{◌≡◌, ℕ, List, Option, None, IfOk, IsTrue};
+ghost use Rattle.std.specs.Prelude.{◌≡◌, ◌++◌, ℕ, List, Option, None, IfOk, OnOk, IsTrue, option_to_list};
 ghost use Rattle.nb_host.specs.Calls.{IsSilent, IsStill};
 ghost use Rattle.nb_host.specs.Causes.{CountsFault};
 ghost use Rattle.nb_host.specs.Moments.{Passes};
 ghost use Rattle.nb_beside.specs.Changed.{IsHeld, IsScriptOf, changed_by};
 
 use crate::after::{Told, explain, say};
-use crate::changed::{changed, opened, script_of};
+use crate::changed::{changed, changed_next, opened, script_of};
 use crate::progress::{manner, progress_of};
 use crate::reading::ReadOnly;
 use crate::seeing::{database_of, emptied, own_file, state_of};
@@ -14,7 +14,7 @@ use crate::settings::{patience, wants_progress};
 use nb_ended::{Broken, Status};
 use nb_file::{Disk, FileHost, Manner};
 use nb_host::{Fault, Host, HostFault, Name};
-use nb_model::Job;
+use nb_model::{Job, PageList};
 use nb_script::Script;
 use std::alloc::{AllocError, Global};
 use std::io;
@@ -44,12 +44,14 @@ impl Before {
     }
 }
 
-/// How a run ended, what was known before it, and which line of its script breaks the form, if one does.
+/// How a run ended, what was known before it, which line of its script breaks the form, if one does, and which pages of the database that it checked are in
+/// danger, if it checked one.
 #[derive(Drop)]
 pub struct End {
     pub status: Status,
     pub before: Before,
     pub broken: Option<Broken>,
+    pub danger: Option<PageList>,
 }
 
 /// An outside beside which the program does more than the run: it prepares it, gives the system what the run has left waiting, and tells a reader how
@@ -66,9 +68,9 @@ pub trait Beside: Host {
     /// What a reader was told of a run that ended so.
     ghost told: { Self → End → Type 0 };
 
-    /// Says how long the run waits for locks, which database it holds alone, and how its progress is shown; and on the standard error where the
+    /// Says how long the run waits for locks, which databases it holds alone, and how its progress is shown; and on the standard error where the
     /// difference file of the database that it opens was lost. Answers what is known before it, and the script that was read to know which database
-    /// is written. Where memory is too short for that script, the run isn't to be made.
+    /// is written. Where memory is too short for that, the run isn't to be made.
     fn prepare(
         &mut self,
         alloc: Global,
@@ -80,7 +82,7 @@ pub trait Beside: Host {
         ensures time { Passes (Self.world self.old) (Self.world self.new) }
         ensures faults { Self.faults self.new ≡ Self.faults self.old }
         ensures waiting { waiting self.new ≡ waiting self.old }
-        ensures held { IfOk result (λ before. IfOk job.now (λ job. IsHeld (changed_by before.script job) (alone self.new))) }
+        ensures held { IfOk result (λ before. IfOk job.now (λ job. IsHeld (changed_by before.script job) (alone self.old) (alone self.new))) }
         ensures script { IsTrue Self.tells → IfOk result (λ before. IfOk job.now (λ job. IsScriptOf (Self.world self.old).files job before.script)) };
 
     /// Gives the system what still waits to be written of files. A reply would have done so, and the end of the program doesn't.
@@ -122,16 +124,21 @@ where
     }
 }
 
-/// Says which database a run holds alone.
-fn hold<R: Files + Print + Eprint + Clock + Drop>(host: &mut FileHost<R>, db: Option<Name>)
+/// Says that a run holds a database alone, if there is one.
+#[tactic(auto, using(crate::proofs::HeldLaws::none_held))]
+fn hold<R: Files + Print + Eprint + Clock + Drop>(
+    host: &mut FileHost<R>,
+    db: Option<Name>,
+) -> Result<(), AllocError>
 where
     R::File: Disk + AsRawFd + FileExt,
-    ensures held { IsHeld db host.new.alone }
+    ensures held { OnOk result (IsHeld (option_to_list db) host.old.alone host.new.alone) }
     ensures faults { host.new.faults ≡ host.old.faults }
     ensures waiting { host.new.waiting ≡ host.old.waiting }
 {
-    if let Some(db) = db {
-        host.hold_alone(db);
+    match db {
+        Some(db) => host.hold_alone(db),
+        None => Ok(()),
     }
 }
 
@@ -179,6 +186,7 @@ fn known<V: ReadOnly>(
 }
 
 /// Prepares the host for a job that words name.
+#[tactic(auto, using(crate::proofs::HeldLaws::both_held))]
 fn prepare_for<R: Files + Print + Eprint + Clock + Drop, V: ReadOnly + Eprint + Env + AllocGlobal>(
     alloc: Global,
     rt: &V,
@@ -188,13 +196,14 @@ fn prepare_for<R: Files + Print + Eprint + Clock + Drop, V: ReadOnly + Eprint + 
 ) -> Result<Before, AllocError>
 where
     R::File: Disk + AsRawFd + FileExt,
-    ensures held { IfOk result (λ before. IsHeld (changed_by before.script job.now) host.new.alone) }
+    ensures held { IfOk result (λ before. IsHeld (changed_by before.script job.now) host.old.alone host.new.alone) }
     ensures faults { host.new.faults ≡ host.old.faults }
     ensures waiting { host.new.waiting ≡ host.old.waiting }
 {
     set_patience(rt, host);
     let script = script_of(alloc, rt, job)?;
-    hold(host, changed(&script, job));
+    hold(host, changed(&script, job))?;
+    hold(host, changed_next(job))?;
     set_shown(alloc, host, job, manner);
     show_emptied(alloc, rt, &script, job);
     Ok(known(rt, database_of(job), manner, script))

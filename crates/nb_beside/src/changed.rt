@@ -1,8 +1,8 @@
-// The database that a run may write, which it is to hold alone from its first use on.
+// The databases that a run may write, which it is to hold alone from their first use on.
 ghost use Rattle.std.specs.Prelude.{◌≡◌, Some, None, cond};
 ghost use Rattle.nb_model.specs.Jobs.{writes};
 ghost use Rattle.nb_model.specs.Words.{deed_database};
-ghost use Rattle.nb_beside.specs.Changed.{any_writes, changed_by, changed_by_read, changed_by_script, changed_by_words, database_in, script_writes};
+ghost use Rattle.nb_beside.specs.Changed.{any_writes, changed_by_read, changed_by_script, changed_by_words, changed_first, changed_next, database_in, script_writes};
 
 use crate::look::look_at;
 use crate::reading::ReadOnly;
@@ -73,7 +73,11 @@ pub fn script_of<V: ReadOnly>(
 ) -> Result<Option<Script>, AllocError> {
     match job {
         Job::Run { script } => script_in(alloc, files, script),
-        Job::Gen { .. } | Job::Attach { .. } | Job::Turn { .. } | Job::Plan { .. } => Ok(None),
+        Job::Gen { .. }
+        | Job::Attach { .. }
+        | Job::Turn { .. }
+        | Job::Plan { .. }
+        | Job::Ship { .. } => Ok(None),
     }
 }
 
@@ -109,7 +113,7 @@ fn changed_by_ask(db: &Name, ask: &Ask) -> Option<Name>
     }
 }
 
-/// The database that words change, and none where they only read one, or name a script.
+/// The database that words change first, and none where they only read one, or name a script.
 fn changed_by_words(job: &Job) -> Option<Name>
     ensures { result ≡ changed_by_words job.now }
 {
@@ -119,6 +123,7 @@ fn changed_by_words(job: &Job) -> Option<Name>
         Job::Attach { db, ask } => changed_by_ask(db, ask),
         Job::Turn { deed } => changed_by_deed(deed),
         Job::Plan { .. } => None,
+        Job::Ship { primary, .. } => Some(primary.copied()),
     }
 }
 
@@ -132,14 +137,31 @@ fn changed_by_read(script: &Option<Script>) -> Option<Name>
     }
 }
 
-/// The database that a job may write, where this is the script that it runs, and none where it only reads one.
+/// The database that a job may write first, where this is the script that it runs, and none where it only reads one.
 pub fn changed(script: &Option<Script>, job: &Job) -> Option<Name>
-    ensures { result ≡ changed_by script.now job.now }
+    ensures { result ≡ changed_first script.now job.now }
 {
     match job {
         Job::Run { .. } => changed_by_read(script),
-        Job::Gen { .. } | Job::Attach { .. } | Job::Turn { .. } | Job::Plan { .. } =>
-            changed_by_words(job),
+        Job::Gen { .. }
+        | Job::Attach { .. }
+        | Job::Turn { .. }
+        | Job::Plan { .. }
+        | Job::Ship { .. } => changed_by_words(job),
+    }
+}
+
+/// The database that a job may write after the first one: the standby that it ships to.
+pub fn changed_next(job: &Job) -> Option<Name>
+    ensures { result ≡ changed_next job.now }
+{
+    match job {
+        Job::Ship { standby, .. } => Some(standby.copied()),
+        Job::Run { .. }
+        | Job::Gen { .. }
+        | Job::Attach { .. }
+        | Job::Turn { .. }
+        | Job::Plan { .. } => None,
     }
 }
 
@@ -151,6 +173,7 @@ pub fn opened(script: &Option<Script>, job: &Job) -> Option<Name> {
             _ => None,
         },
         Job::Attach { db, .. } => Some(db.copied()),
+        Job::Ship { primary, .. } => Some(primary.copied()),
         Job::Gen { .. } | Job::Turn { .. } | Job::Plan { .. } => None,
     }
 }

@@ -61,7 +61,8 @@ fn show_ask<V: ReadOnly + Eprint>(
             show_origin(alloc, rt, db, file, is_asked);
             say(rt, named_as_output(alloc, file));
         }
-        Ask::Check | Ask::Reclaim | Ask::Lock | Ask::LockWithSize | Ask::Unlock => {}
+        Ask::Check | Ask::Reclaim | Ask::Lock | Ask::LockWithSize | Ask::Unlock | Ask::Activate =>
+            {}
     }
 }
 
@@ -110,6 +111,6 @@ pub fn show_done<V: ReadOnly + Eprint>(alloc: Global, rt: &V, job: &Job, is_aske
         Job::Attach { db, ask } => show_ask(alloc, rt, job, db, ask, is_asked),
         Job::Turn { deed } => show_deed(alloc, rt, deed),
         Job::Plan { list, .. } => show_list(alloc, rt, list),
-        Job::Run { .. } | Job::Gen { .. } => {}
+        Job::Run { .. } | Job::Gen { .. } | Job::Ship { .. } => {}
     }
 }

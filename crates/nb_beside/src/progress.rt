@@ -65,7 +65,7 @@ fn asking(
             Counted::WrittenTo(file.copied()),
             Vec::new(alloc),
         ),
-        Ask::Unlock => return merging(alloc, db, manner),
+        Ask::Unlock | Ask::Activate => return merging(alloc, db, manner),
         Ask::Lock | Ask::LockWithSize => return Ok(None),
     };
     Ok(Some(Progress {
@@ -103,6 +103,7 @@ pub fn progress_of(
     let (job, name) = match job {
         Job::Run { script } | Job::Gen { script, .. } => ("running", script),
         Job::Plan { list, .. } => ("planning for", list),
+        Job::Ship { standby, .. } => ("shipping to", standby),
         Job::Attach { db, ask } => return asking(alloc, db, ask, manner),
         Job::Turn { deed } => return doing(alloc, deed, manner),
     };

@@ -11,20 +11,23 @@ const STALLED: u16 = 1;
 
 const MERGING: u16 = 2;
 
-/// The database that a job by words names.
+/// The database that a job by words names, of a ship the primary.
 pub fn database_of(job: &Job) -> Option<&Name> {
     match job {
         Job::Attach { db, .. } => Some(db),
         Job::Turn { deed } => deed.database(),
+        Job::Ship { primary, .. } => Some(primary),
         Job::Run { .. } | Job::Gen { .. } | Job::Plan { .. } => None,
     }
 }
 
-/// The file that a job by words has alone, if it came so far: its database, or the file that a fold makes.
+/// The file that a job by words has alone, if it came so far: its database, of a ship the standby, which is opened after the primary, or the file that a
+/// fold makes.
 pub fn own_file(job: &Job) -> Option<&Name> {
     match job {
         Job::Attach { db, .. } => Some(db),
         Job::Turn { deed } => deed.file(),
+        Job::Ship { standby, .. } => Some(standby),
         Job::Run { .. } | Job::Gen { .. } | Job::Plan { .. } => None,
     }
 }
@@ -37,7 +40,7 @@ fn file_of(job: &Job) -> Option<&Name> {
             None => Some(db),
         },
         Job::Turn { deed } => deed.file(),
-        Job::Run { .. } | Job::Gen { .. } | Job::Plan { .. } => None,
+        Job::Run { .. } | Job::Gen { .. } | Job::Plan { .. } | Job::Ship { .. } => None,
     }
 }
 
@@ -86,6 +89,9 @@ pub fn seen<V: ReadOnly>(files: &V, job: &Job) -> Seen {
     if let Some(file) = file_of(job) {
         see_file(files, file, &mut seen);
     }
+    if let Job::Ship { standby, .. } = job {
+        seen.standby = look_at(files, standby.as_str()).and_then(|found| found.header());
+    }
     seen
 }
 
@@ -112,6 +118,11 @@ pub fn seen_of<V: ReadOnly>(alloc: Global, files: &V, job: &Job, refused: &Refus
     match refused.name {
         "NoHistory" | "NoGuid" => seen.levels = levels_of(alloc, files, database_of(job)),
         "BadLevel" => see_named(files, refused.values[0], &mut seen),
+        "FileExists" if matches!(job, Job::Ship { .. }) => {
+            seen.has_delta = Name::read(refused.values[0]).is_some_and(|ship| has_delta(
+                files, &ship,
+            ))
+        }
         "ChainGuid" => seen.is_merged = is_merged(files, job).unwrap_or(false),
         _ => {}
     }

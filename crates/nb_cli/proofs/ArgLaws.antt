@@ -72,7 +72,7 @@ pub begins_without : {H : Type 0} (tells : Bool) (world : H → World) (alone : 
     → IsStill (world old) (world begun) → IsSilent (world old) (world begun) → Passes (world old) (world begun) → BeginsRun tells world alone words given script old begun
 begins_without tells world alone words job given script old begun read is still silent passes = record {
   read = read_without words job given read is;
-  held = none_given job given is (λ job. IsHeld (changed_by script job) (alone begun));
+  held = none_given job given is (λ job. IsHeld (changed_by script job) (alone old) (alone begun));
   told = λ _. none_given job given is (λ job. IsScriptOf (world old).files job script);
   still = still;
   silent = silent;

@@ -18,6 +18,7 @@ use Rattle.nb_ended.specs.declared.status.Status.{Status}
 use Rattle.nb_ended.specs.declared.status.Status.TheVariants.{Device}
 use Rattle.nb_top.specs.Goes.{IsRun}
 use Rattle.nb_top.specs.Requests.{Asked, Runs, request_asked}
+use Rattle.nb_top.specs.Dangers.{IsDanger}
 use Rattle.nb_top.specs.Shown.{IsShown}
 use Rattle.nb_script.specs.Scripts.{Plan}
 use Rattle.nb_beside.specs.Changed.{IsHeld, IsScriptOf, changed_by}
@@ -50,17 +51,19 @@ abbrev pub IsWithoutMemory : Result Job Fault → Result Job Fault → Type 0
 IsWithoutMemory (Ok job) given = given ≡ Err Memory
 IsWithoutMemory (Err fault) given = given ≡ Err fault
 
--- How the run begins: it is given the job that was read of the words, on a host that holds alone the database which that job may write. The script
+-- How the run begins: it is given the job that was read of the words, on a host that holds alone the databases which that job may write, of a ship
+-- the primary and then the standby. The script
 -- of a job that runs one was read to know it. Where memory was too short for that, the run is given no job.
 pub record BeginsRun {H : Type 0} (tells : Bool) (world : H → World) (alone : H → List (List ℕ)) (words : Words) (job : Result Job Fault) (script : Option Plan) (old begun : H) : Type 0 where
   pub read : IsReadOf words job
-  pub held : IfOk job (λ job. IsHeld (changed_by script job) (alone begun))
+  pub held : IfOk job (λ job. IsHeld (changed_by script job) (alone old) (alone begun))
   pub told : IsTrue tells → IfOk job (λ job. IsScriptOf (world old).files job script)
   pub still : IsStill (world old) (world begun)
   pub silent : IsSilent (world old) (world begun)
   pub passes : Passes (world old) (world begun)
 
--- So the program ends, with the number of such a status, and a reader was told how: of the line that is refused, if one is.
+-- So the program ends, with the number of such a status, and a reader was told how: of the line that is refused, if one is, and of the pages in danger of
+-- a database that was checked.
 pub record ExitsAs {H : Type 0} (tells : Bool) (world : H → World) (alone : H → List (List ℕ)) (told : H → End → Type 0) (words : Words) (code : ℕ) (old new : H) (asked : Asked) : Type 0 where
   pub job : Result Job Fault
   pub script : Option Plan
@@ -73,6 +76,7 @@ pub record ExitsAs {H : Type 0} (tells : Bool) (world : H → World) (alone : H 
   pub tells_end : told new end
   pub tells_status : end.status ≡ status
   pub shows : IsTrue tells → IsShown status end.broken asked
+  pub danger : IsTrue tells → IsDanger status end.danger (world old).files job
 
 -- what they ask for, which isn't known where memory was too short to have them
 abbrev pub IsAskedOf : Words → Files → Asked → Type 0

@@ -14,6 +14,7 @@ ghost use Rattle.nb_host.specs.Causes.{Rose};
 ghost use Rattle.nb_model.specs.Words.{job_of};
 ghost use Rattle.nb_ended.specs.Numbers.{number_of};
 ghost use Rattle.nb_top.specs.Requests.{Asked, IsAskedBy, IsReadJob, NamesNone};
+ghost use Rattle.nb_top.specs.Dangers.{IsDanger};
 ghost use Rattle.nb_top.specs.Shown.{IsShown};
 ghost use Rattle.nb_cli.specs.Ended.{AreWordsOf, BeginsRun, EndsRun, ExitsAs, ExitsOn, IsAskedIn, IsAskedOf, IsReadOf, IsWithoutMemory, listed, texts_of};
 
@@ -21,7 +22,7 @@ use nb_beside::{Before, Beside, End};
 use nb_ended::{Broken, Status};
 use nb_file::FileHost;
 use nb_host::{Fault, Refusal};
-use nb_model::Job;
+use nb_model::{Job, PageList};
 use nb_top::run_read;
 use nb_words::read_job;
 use std::alloc::Global;
@@ -69,12 +70,13 @@ fn without_memory(job: Result<Job, Fault>) -> Result<Job, Fault>
 }
 
 /// Does the job, and then gives the system what still waits to be written. Where that can't be written the answer is Device. A line of a script
-/// that breaks its form is `broken` after it.
+/// that breaks its form is `broken` after it. Of a database that is checked, what is in danger is `danger`.
 fn run_out<H: Beside>(
     alloc: Global,
     job: &Result<Job, Fault>,
     host: &mut H,
     broken: &mut Option<Broken>,
+    danger: &mut Option<PageList>,
 ) -> Status
     requires read { IsReadJob job.now }
     requires none { broken.old ≡ None }
@@ -85,8 +87,9 @@ fn run_out<H: Beside>(
     ensures device { result ≡ Status.Device → Rose (H.faults host.old) (H.faults host.new) }
     ensures no_device { result ≢ Status.Device → H.faults host.new ≡ H.faults host.old }
     ensures shown { (asked : Asked) → IsTrue H.tells → IsAskedBy job.now (H.world host.old).files asked → IsShown result broken.new asked }
+    ensures danger { IsTrue H.tells → IsDanger result danger.new (H.world host.old).files job.now }
 {
-    let status = run_read(alloc, job, host, broken);
+    let status = run_read(alloc, job, host, broken, danger);
     match status {
         Status::Usage | Status::Device => status,
         Status::Done | Status::Refused | Status::Memory => match host.write_rest() {
@@ -142,11 +145,13 @@ fn serve_words<H: Beside>(
 {
     let (job, before) = prepared(alloc, words, host, is_terminal);
     let mut broken = None;
-    let status = run_out(alloc, &job, host, &mut broken);
+    let mut danger = None;
+    let status = run_out(alloc, &job, host, &mut broken, &mut danger);
     let end = End {
         status,
         before,
         broken,
+        danger,
     };
     host.tell(alloc, words, &job, &end);
     exit_code(status)

@@ -1,5 +1,5 @@
 // The host.
-ghost use Rattle.std.specs.Prelude.{◌≡◌, ◌⊎◌, [], ◌∷◌, false, take, None, Ok, IfOk};
+ghost use Rattle.std.specs.Prelude.{◌≡◌, ◌⊎◌, [], ◌∷◌, false, take, None, Ok, IfOk, ◌++◌, IfErr, OnOk};
 ghost use Rattle.nb_host.specs.Causes.{CountsFault, own_count};
 ghost use Rattle.nb_file.specs.Nothing.{silence, silence_timely, untold};
 
@@ -11,7 +11,7 @@ use crate::progress::{Moved, Progress, Shown};
 use crate::said::Said;
 use crate::table::Table;
 use nb_host::{Host, HostFault, Name};
-use std::alloc::Global;
+use std::alloc::{AllocError, Global};
 use std::io::ErrorKind;
 use std::marker::Model;
 use std::os::fd::AsRawFd;
@@ -36,12 +36,11 @@ impl<R: Files + Drop> Model for FileHost<R>
 where
     R::File: Disk,
 {
-    ghost use Rattle.std.specs.Prelude.{option_to_list};
     ghost use Rattle.nb_file.specs.Outside.{Outside};
 
     ghost Value = { Outside };
 
-    ghost view = { λ host. record { faults = host.faults; waiting = host.files.waiting.name; said = host.said; alone = option_to_list host.files.alone } };
+    ghost view = { λ host. record { faults = host.faults; waiting = host.files.waiting.name; said = host.said; alone = host.files.alone } };
 }
 
 impl<R: Files + Print + Eprint + Clock + Drop> FileHost<R>
@@ -118,11 +117,12 @@ where
     }
 
     /// From now on the file of that name, and its difference file, are held alone from their first use of any kind on, as by a run that
-    /// changes them. Where there is no right to write one, it is opened to read and shared.
-    pub fn hold_alone(&mut self, name: Name)
-        ensures { self.new ≡ record self.old { alone = name ∷ [] } }
+    /// changes them. Where there is no right to write one, it is opened to read and shared. Where there is no memory for the name nothing changes.
+    pub fn hold_alone(&mut self, name: Name) -> Result<(), AllocError>
+        ensures held { OnOk result (self.new ≡ record self.old { alone = self.old.alone ++ name ∷ [] }) }
+        ensures same { IfErr result (λ error. self.new ≡ self.old) }
     {
-        self.files.alone = Some(name);
+        self.files.hold_alone(name)
     }
 
     /// Whether the run has the file of that name open to write, so that no other program has it.

@@ -1,11 +1,12 @@
 // The open files.
-ghost use Rattle.std.specs.Prelude.{◌≡◌, ◌≢◌, ◌+◌, ◌++◌, ◌<◌, ◌≤◌, ℕ, List, [], true, false, IsTrue, length, None, IfOk, IfSome, OnOk, MatchOption, vec_len};
+ghost use Rattle.std.specs.Prelude.{◌≡◌, ◌≢◌, ◌+◌, ◌++◌, ◌<◌, ◌≤◌, ℕ, List, [], ◌∷◌, true, false, IsTrue, IfErr, length, None, IfOk, IfSome, OnOk, MatchOption, vec_len};
 ghost use Rattle.nb_host.specs.Names.{is_name, delta_suffix};
 ghost use Rattle.nb_file.specs.Absent.{has_name};
-ghost use Rattle.nb_file.specs.Gathered.{IsFreeFor, is_owner};
+ghost use Rattle.nb_file.specs.Gathered.{IsFreeFor};
 ghost use Rattle.nb_file.specs.Named.{IsNamedAt};
 
 use crate::absent::Absent;
+use crate::alone::Alone;
 use crate::disk::Disk;
 use crate::failure::{Call, Failure, named};
 use crate::folder::{look_up, main_of, sync_folder};
@@ -14,7 +15,7 @@ use crate::lock::open_locked;
 use crate::stamp::Stamp;
 use crate::waiting::Waiting;
 use nb_host::Name;
-use std::alloc::Global;
+use std::alloc::{AllocError, Global};
 use std::fs::{self, OpenOptions};
 use std::io::ErrorKind;
 use std::os::fd::AsRawFd;
@@ -28,8 +29,8 @@ const MOST_OPEN: usize = 64;
 /// stay open.
 ///
 /// A file that is only read or synced is opened to read and locked with other readers. Before it is written, emptied or removed it
-/// is opened to write and locked against everyone, by whatever name they have it. The file that is held alone is so from its first
-/// use on, and its difference file too.
+/// is opened to write and locked against everyone, by whatever name they have it. The files that are held alone are so from their first
+/// use on, and their difference files too.
 ///
 /// What a run has seen under a name is what it changes. Where it saw no file it makes a new one, and where it read one under a lock that readers
 /// share it writes that one as it was read. If another program was there meanwhile that is a failure, and nothing of its file is changed.
@@ -43,8 +44,8 @@ where
     waiting: Waiting,
     /// The names that led to no file.
     absent: Absent,
-    /// The file that is held alone from its first use of any kind on.
-    pub alone: Option<Name>,
+    /// The files that are held alone from their first use of any kind on.
+    pub alone: Alone,
     /// For how many seconds a lock that another program has is tried again.
     pub patience: u64,
     ghost few: { vec_len files ≤ 64 },
@@ -56,14 +57,14 @@ where
 {
     /// None is open, and nothing waits.
     pub fn new(alloc: Global) -> Table<R>
-        ensures { (result.waiting.name ≡ None) × (result.absent ≡ []) × (result.alone ≡ None) }
+        ensures { (result.waiting.name ≡ None) × (result.absent ≡ []) × (result.alone ≡ []) }
     {
         Table {
             alloc,
             files: Vec::new(alloc),
             waiting: Waiting::new(alloc),
             absent: Absent::new(alloc),
-            alone: None,
+            alone: Alone::new(alloc),
             patience: 0,
         }
     }
@@ -117,7 +118,7 @@ where
         self.flush()
     }
 
-    /// The open file of this name. Where it is not open yet, it is opened to read, if there is one, and that which is held alone
+    /// The open file of this name. Where it is not open yet, it is opened to read, if there is one, and one that is held alone
     /// to write.
     fn find(&mut self, rt: &R, name: &Name) -> Result<Option<usize>, Failure>
         ensures place { IfOk result (λ found. IfSome found (λ i. i < vec_len self.new.files)) }
@@ -135,21 +136,27 @@ where
         self.find_to_read(rt, name)
     }
 
-    /// Whether it is the file that is held alone, or its difference file.
-    fn is_alone(&self, name: &Name) -> bool
-        ensures main { ((main : List ℕ) → name.now ≢ main ++ delta_suffix) → result ≡ is_owner self.now.alone name.now }
-        ensures delta { (main : List ℕ) → IsTrue (is_name main) → name.now ≡ main ++ delta_suffix → result ≡ is_owner self.now.alone main }
+    /// Holds the file of that name alone from now on. Where there is no memory for it nothing changes.
+    pub fn hold_alone(&mut self, name: Name) -> Result<(), AllocError>
+        ensures held { OnOk result (self.new.alone ≡ self.old.alone ++ name ∷ []) }
+        ensures same { IfErr result (λ error. self.new.alone ≡ self.old.alone) }
+        ensures waiting { self.new.waiting ≡ self.old.waiting }
     {
-        let Some(alone) = &self.alone else {
-            return false;
-        };
+        self.alone.add(name)
+    }
+
+    /// Whether it is a file that is held alone, or the difference file of one.
+    fn is_alone(&self, name: &Name) -> bool
+        ensures main { ((main : List ℕ) → name.now ≢ main ++ delta_suffix) → result ≡ has_name self.now.alone name.now }
+        ensures delta { (main : List ℕ) → IsTrue (is_name main) → name.now ≡ main ++ delta_suffix → result ≡ has_name self.now.alone main }
+    {
         match main_of(name) {
-            Some(main) => main == *alone,
-            None => name == alone,
+            Some(main) => self.alone.has(&main),
+            None => self.alone.has(name),
         }
     }
 
-    /// The file that is held alone: open to write, unless it can only be read.
+    /// A file that is held alone: open to write, unless it can only be read.
     fn find_alone(&mut self, rt: &R, name: &Name) -> Result<Option<usize>, Failure>
         ensures place { IfOk result (λ found. IfSome found (λ i. i < vec_len self.new.files)) }
         ensures name { IfOk result (λ found. IfSome found (IsNamedAt self.new.files.items (λ held. held.name) name.now)) }

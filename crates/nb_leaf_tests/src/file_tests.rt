@@ -253,7 +253,7 @@ fn files_are_locked(rt: HostRuntime) -> Result<(), Fail> {
     drop(host);
     let mut host = FileHost::new(rt, rt.alloc());
     let mut holder = FileHost::new(rt, rt.alloc());
-    holder.hold_alone(name.copied());
+    holder.hold_alone(name.copied())?;
     host.wait_for_locks(1);
     let alone = holds_alone(&mut holder, &mut host, &name, &delta, &stray);
     let alone_faults = (holder.fault_count(), host.fault_count());

@@ -34,6 +34,7 @@ fn named(answer: &Result<Job, Fault>) -> &'static str {
             },
         ) => "fold",
         Ok(Job::Plan { .. }) => "plan",
+        Ok(Job::Ship { .. }) => "ship",
         Ok(Job::Gen { .. }) => "gen",
         Err(Fault::Refused(Refusal::Usage)) => "usage",
         _ => "another answer",

@@ -4,6 +4,7 @@ use Rattle.nb_cli.proofs.ReadWords.{asked_by, can_be_read}
 use Rattle.std.specs.Process.{exit_status}
 use Rattle.nb_cli.proofs.ArgLaws.{code_neither, code_two, memory_read, no_job_read, no_text_read}
 use Rattle.nb_host.specs.Files.{Files}
+use Rattle.nb_top.specs.Dangers.{IsDanger}
 use Rattle.nb_cli.proofs.serve_words.Goals as goal
 
 pub run_out-status-requires-clause-read : goal.run_out-status-requires-clause-read
@@ -28,6 +29,7 @@ returns-clause-ends g c asked ask =
       tells_end = c.tell.ensures.told;
       tells_status = refl;
       shows = λ tells. c.run_out-status.ensures.shown asked tells by;
+      danger = λ tells. subst (λ (files : Files). IsDanger c.run_out-status.result c.run_out-status.new.danger files job) begins.still.files (c.run_out-status.ensures.danger tells);
     }
 
 pub returns-clause-no_job : goal.returns-clause-no_job
