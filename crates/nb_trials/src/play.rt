@@ -144,7 +144,13 @@ fn tell_broken(alloc: Global, host: &mut MemHost, name: &str, told: &mut Told) -
     let words = words_of(alloc, &format!(in alloc; "run {name}")?)?;
     let before = begin(host, told);
     let mut broken = None;
-    let status = run_read(alloc, &read_job(alloc, &words), host, &mut broken);
+    let status = run_read(
+        alloc,
+        &read_job(alloc, &words),
+        host,
+        &mut broken,
+        &mut None,
+    );
     tell_run(host, before, status, told)?;
     match broken {
         Some(broken) => write!(told.text, "{name}: line {}: {}\n", broken.line, broken.text)?,
