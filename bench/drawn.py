@@ -528,6 +528,7 @@ WORDS = {
     "-L": lambda random, base, aimed: ["-L", NAME],
     "-L -S": lambda random, base, aimed: ["-L", "-S", NAME],
     "-N": lambda random, base, aimed: ["-N", NAME],
+    "activate": lambda random, base, aimed: ["activate", NAME],
     "-B": lambda random, base, aimed: ["-B", str(random.choice((0, 0, 1, 1, 2, 9))), NAME, random.choice(FILES)],
     "-B since": lambda random, base, aimed: ["-B", a_guid(random, base), NAME, random.choice(FILES)],
 }
@@ -537,7 +538,7 @@ OFTEN = ("page new", "create table", "insert", "page new", "create table", "inse
 STATES = {"backup": (NORMAL,), "-B": (NORMAL,), "-B since": (NORMAL,), "begin backup": (NORMAL,), "-L": (NORMAL,), "access": (NORMAL,), "copy to": (STALLED,)}
 CHECKS = ("check", "reclaim", "check DB", "reclaim DB")
 # Those that read or write each page of a database are not drawn of one of a million pages.
-WHOLE = ("end backup", "show pages", "show image", "stat", "-N", *CHECKS)
+WHOLE = ("end backup", "show pages", "show image", "stat", "-N", "activate", *CHECKS)
 
 
 def base_for(random, bases, kind):

@@ -9,7 +9,9 @@ Then what others do with a database: a user who may not write it makes no differ
 other, and one that changes it waits for them as long as NEHUMIRO_WAIT says, and is refused at once where that says nothing.
 
 Then a backup, and a merge into a standby, that is cut off at each of its syncs: behind the line of the failure the standard error says what stands
-exactly where the database is locked or half merged, and what it says to do helps. Two merges into one standby at once don't harm each other. And memory that runs out is said, with what the cache of a script asks for.
+exactly where the database is locked or half merged, and what it says to do helps; so does it of a ship, which says how to go on wherever it is cut off. Two
+merges into one standby at once don't harm each other; of two ships at once one waits or is refused, and while one works nobody has either database. And memory
+that runs out is said, with what the cache of a script asks for.
 
 Then two programs that make the same new file at once (`pairs.py`): what either acknowledges is there afterwards. And that an output which nobody reads any more
 is said by the exit status alone, and that the progress of a restore never runs backwards.
@@ -339,6 +341,101 @@ def two_merges(path):
                 yield f"two merges at once ended with {ended}"
 
 
+def pair_to_ship(folder, path):
+    """A database, x.db, a standby of it, y.db, and a page that was written since; copies of both, x.kept and y.kept."""
+    create(folder, path)
+    run(folder, [path, "-B", "0", "x.db", "x.0"])
+    run(folder, [path, "-R", "y.db", "x.0"])
+    folder.write_script("script", ["1: open 'y.db'", "1: access read_only"])
+    run(folder, [path, "run", "script"])
+    folder.write_script("script", ["1: open 'x.db'", write_line(5, "new")])
+    run(folder, [path, "run", "script"])
+    for name in "xy":
+        shutil.copy(folder.file(f"{name}.db"), folder.file(f"{name}.kept"))
+
+
+def to_ship_again(folder):
+    """Both as they were, with no other file beside them."""
+    for name in "xy":
+        shutil.copy(folder.file(f"{name}.kept"), folder.file(f"{name}.db"))
+    for name in ("x.db.delta", "y.db.ship"):
+        if os.path.exists(folder.file(name)):
+            os.remove(folder.file(name))
+
+
+def state_of(folder, name):
+    with open(folder.file(name), "rb") as file:
+        return file.read(24)[22]
+
+
+def ships(path):
+    """What is said otherwise of a ship at each of its syncs that fails, and after it; and beside others who have its databases."""
+    said_of = {
+        (1, 0): r"x\.db is locked by this ship: end that with: nehumiro -N x\.db, and give the same words again",
+        (2, 0): r"x\.db isn't merged yet: end that with: nehumiro -N x\.db, and give the same words again",
+        (0, 3): r"y\.db is half merged: give the same words again, with y\.db\.ship as it is",
+        (0, 0): r"y\.db is as it was, or merged: give the same words again",
+    }
+    words, states = [path, "ship", "x.db", "y.db"], set()
+    with Folder() as folder:
+        pair_to_ship(folder, path)
+        for name in ("x.db", "y.db"):
+            for kind in (fcntl.LOCK_SH, fcntl.LOCK_EX):
+                with open(folder.file(name), "rb") as file:
+                    fcntl.flock(file, kind)
+                    ran = run(folder, words)
+                if ran != (3, [], f"nehumiro: {in_use(os.getpid(), name=name)}\n") or os.path.exists(folder.file("y.db.ship")):
+                    yield f"{ran} of a ship while another has {name}"
+        for when in range(1, 200):
+            to_ship_again(folder)
+            inject = ["strace", "-f", "-qq", "-o", "/dev/null", "-e", "trace=fdatasync", "-e", f"inject=fdatasync:error=EIO:when={when}"]
+            status, _, said = run(folder, inject + words)
+            if status == 0:
+                break
+            state = state_of(folder, "x.db"), state_of(folder, "y.db")
+            states.add(state)
+            # Before the standby is opened nothing of it is this run's.
+            line = f"nehumiro: {said_of.get(state)}\n" if when > 1 else ""
+            if status != 3 or not re.fullmatch(rf"nehumiro: [a-z.]+: sync: Input/output error \(os error 5\)\n{line}", said):
+                yield f"{said!r} of a ship in the states {state}, after the sync {when}"
+            if state[0] and run(folder, [path, "-N", "x.db"])[0] != 0:
+                yield f"the backup isn't ended after the sync {when}"
+            ran = run(folder, words)
+            if ran[0] != 0 or ran[2] or os.path.exists(folder.file("y.db.ship")):
+                yield f"{ran} of the same ship again, after the sync {when}"
+        if status or states != set(said_of):
+            yield f"a ship ends with {status}, and was cut off in the states {states}"
+    yield from two_ships(path)
+
+
+def two_ships(path):
+    """What is wrong where two programs ship at once: one ends, and the other is refused or waits; and while one copies nobody looks at either database."""
+    words = [path, "ship", "x.db", "y.db"]
+    with Folder() as folder:
+        pair_to_ship(folder, path)
+        for wait, wanted in [("0", ([0, 3], [0, 0])), ("60", ([0, 0],))]:
+            for _ in range(LOOKS // 2):
+                to_ship_again(folder)
+                options = {"cwd": folder.path, "stdout": subprocess.DEVNULL, "stderr": subprocess.PIPE, "env": {**os.environ, "NEHUMIRO_WAIT": wait}}
+                pair = [subprocess.Popen(words, **options) for _ in range(2)]
+                said = "".join(ship.communicate()[1].decode() for ship in pair)
+                ended = sorted(ship.returncode for ship in pair)
+                in_order = re.fullmatch(r"(nehumiro: x\.db is in use by process \d+ \(.*\)\n)?", said)
+                if ended not in wanted or bool(said) != (3 in ended) or not in_order or os.path.exists(folder.file("y.db.ship")):
+                    yield f"two ships at once that wait {wait} s ended with {ended}, and said {said!r}"
+        to_ship_again(folder)
+        slow = ["strace", "-D", "-f", "-qq", "-o", "/dev/null", "-e", "trace=fdatasync", "-e", "inject=fdatasync:delay_enter=300000"]
+        running = subprocess.Popen(slow + words, cwd=folder.path, stdout=subprocess.DEVNULL, stderr=subprocess.DEVNULL)
+        while running.poll() is None and not os.path.exists(folder.file("y.db.ship")):
+            time.sleep(0.001)
+        for name in ("x.db", "y.db"):
+            ran = run(folder, [path, "stat", name])
+            if ran[0] != 3 or not ran[2].startswith(f"nehumiro: {name} is in use by process "):
+                yield f"{ran} of {name} while a ship copies"
+        if running.wait() != 0:
+            yield "a ship that others looked at failed"
+
+
 def of_others(folder, path):
     """What is said otherwise where another program has the database, which it locks and doesn't unlock in the time that is waited."""
     with open(folder.file("x.db"), "r+b") as file:
@@ -417,7 +514,7 @@ def main():
     wrong += broken_scripts(path)
     broken = len(wrong) - failed
     shared = [*without_rights(path), *locks(path), *scripts_beside_readers(path), *looks_beside_backups(path)]
-    stands = [*standing(path), *merges(path), *shortages(path)]
+    stands = [*standing(path), *merges(path), *ships(path), *shortages(path)]
     lost = [*meanwhile(path), *pairs(path)]
     shown = [*unread(path), *backwards(path)]
     report(

@@ -358,6 +358,25 @@ def unsound(place):
     yield from place.wrong()
 
 
+def in_danger(place):
+    """The night of a level 0 of a database one of whose tables has a page that counts as free."""
+    with open(place.file("a.db"), "r+b") as file:
+        file.seek(3 * PAGE_SIZE + 32 + 4)
+        page = int.from_bytes(file.read(4), "little")
+        at = PAGE_SIZE + 32 + page // 8
+        file.seek(at)
+        was = file.read(1)[0]
+        file.seek(at)
+        file.write(bytes([was | 1 << page % 8]))
+    yield from expect(place.night(WHOLE_DAY=place.weekday()), "was made, but", f"doesn't agree with itself: pages in danger, 1 in all: {page}: ")
+    if not os.path.exists(place.backup()[0]):
+        yield "no level 0 was made"
+    with open(place.file("a.db"), "r+b") as file:
+        file.seek(at)
+        file.write(bytes([was]))
+    yield from place.wrong()
+
+
 CASES = [
     ("a folder that isn't there", no_folder),
     ("another user, without rights", no_rights),
@@ -376,6 +395,7 @@ CASES = [
     ("two nights at once", two_at_once),
     ("a byte of a backup is damaged", damaged),
     ("the database doesn't agree with itself", unsound),
+    ("a page of a table counts as free", in_danger),
 ]
 FOR_ROOT = (no_rights, full_disk)
 

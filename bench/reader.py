@@ -536,6 +536,12 @@ class Database:
         self.count = self.counted()
         return f"ok scn {self.scn}"
 
+    def activate(self):
+        """In the normal state nothing is done."""
+        if self.state != NORMAL:
+            self.end()
+        return f"ok pages {self.count} scn {self.scn}"
+
     def frozen(self):
         """The main file without pages of zeros at its end."""
         return bytes(self.main[: without_zeros(self.main, self.size) * self.size])
@@ -804,6 +810,7 @@ DEEDS = {
     "sync": lambda db: "ok",
     "check": Database.check,
     "reclaim": Database.reclaim,
+    "activate": Database.activate,
     "show header": Database.show_header,
     "show pages": Database.show_pages,
     "show image": Database.show_image,
@@ -865,7 +872,7 @@ def lines_of(files, words):
     if words[0] == "run":
         lines = bytes(files[words[1]]).decode("ascii").splitlines()
         return [tuple(line.split(": ", 1)) for line in lines if line and not line.startswith("#")]
-    flags = "".join(word for word in words if word in ("stat", "check", "reclaim", "-L", "-S", "-N", "-B"))
+    flags = "".join(word for word in words if word in ("stat", "check", "reclaim", "activate", "-L", "-S", "-N", "-B"))
     plain = [word for word in words if word not in flags]
     if flags == "-B":
         level, name, file = plain

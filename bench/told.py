@@ -79,7 +79,7 @@ class Memory(trials.Files):
 
     def is_read(self, words):
         """Whether the reader does all that the words ask for, one statement after the other."""
-        if words[:1] not in (["run"], ["stat"], ["check"], ["reclaim"], ["-L"], ["-N"], ["-B"]) or words[0] == "run" and words[1:] != ["s"]:
+        if words[:1] not in (["run"], ["stat"], ["check"], ["reclaim"], ["activate"], ["-L"], ["-N"], ["-B"]) or words[0] == "run" and words[1:] != ["s"]:
             raise Unread(words)
         try:
             lines = lines_of(self.files, words)

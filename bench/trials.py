@@ -135,6 +135,11 @@ class Files:
         is_drawn = GUID.fullmatch(word) and word != NIL and int(word[-12:]) <= len(self.guids)
         return self.guids[int(word[-12:]) - 1] if is_drawn else word
 
+    def drawn(self, data):
+        """The bytes of the GUID that these stand for."""
+        number = int.from_bytes(data, "big")
+        return bytes.fromhex(self.guids[number - 1].replace("-", "")) if len(data) == 16 and 0 < number <= len(self.guids) else data
+
     def start(self, words, wrap=(), **options):
         """Runs the program: what it says, and its status."""
         command = [*wrap, self.program, *map(self.word, words)]
@@ -176,7 +181,7 @@ class Files:
         elif verb == "put":
             self.write(name, bytes_of(rest))
         elif verb == "set":
-            at, data = int(rest.split(" ")[0]), bytes_of(rest.split(" ", 1)[1])
+            at, data = int(rest.split(" ")[0]), self.drawn(bytes_of(rest.split(" ", 1)[1]))
             self.write(name, file[:at] + data + file[at + len(data) :])
         elif verb == "cut":
             self.write(name, file[: int(rest)])
